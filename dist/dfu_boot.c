@@ -163,28 +163,17 @@ static const uint32_t switch_table_dfu_core_home_next[3] = {
     0xfffffff0, 0xfffffffd, 0xfffffff8
 };
 
-static uint8_t dfu_boot_install_area_is_run_area(uint64_t a0, uint32_t a1);
-static uint8_t dfu_boot_install_area_are_blank(unsigned char *a0, uint32_t a2, uint32_t a3);
 static struct i8_i32 dfu_boot_install_compare_first_difference(unsigned char *a0, unsigned char *a2, uint32_t a4, uint32_t a5);
-static uint8_t dfu_home_bytes_are_blank(unsigned char *a0, uint32_t a2, uint32_t a3);
 static uint8_t dfu_home_bytes_are_same(unsigned char *a0, size_t a1, unsigned char *a2);
 static void dfu_boot_install_deciding_next(unsigned char *a0, unsigned char *a1, size_t a2, unsigned char *a3, uint64_t a4, uint32_t a5, uint8_t a6, uint32_t a7);
-static void dfu_boot_install_pieces_piece(unsigned char *a0, size_t a1, uint32_t a2, unsigned char *a3);
-static void core_slice_edits_slice_T_copy_from_slice_i8_core_clone_U8Clone(unsigned char *a0, unsigned char *a2, size_t a3);
 static void dfu_boot_c_home_flash_medium(unsigned char *a0, unsigned char *a1, unsigned char *a2, size_t a3);
 static void dfu_boot_c_trial_flash_medium_of(unsigned char *a0, unsigned char *a1, unsigned char *a2, size_t a3);
 static struct i8_i8 dfu_home_asking_is_home(unsigned char *a0);
 static uint8_t dfu_slots_layout_is_sized(unsigned char *a0);
 static struct i8_i8 dfu_slots_places_count_slots(unsigned char *a0);
 static uint8_t dfu_slots_read_counts(unsigned char *a0, uint32_t a1);
-static uint8_t dfu_slots_read_is_open(unsigned char *a0, uint32_t a1);
-static uint8_t dfu_slots_read_byte_at(unsigned char *a0, uint32_t a1);
-static void dfu_slots_read_header_of(unsigned char *a0, unsigned char *a1, uint32_t a2);
-static uint32_t dfu_slots_layout_capacity_of(unsigned char *a0);
 static void dfu_suffix_crc_Crc_update_small(unsigned char *a0, unsigned char *a1, size_t a2);
 static struct i32_i32 dfu_slots_places_find_places(unsigned char *a0, uint8_t a1, uint8_t a2);
-static uint8_t dfu_slots_places_is_newest(unsigned char *a0, uint32_t a1, uint32_t a2, uint8_t a3, uint8_t a4);
-static uint8_t dfu_slots_read_generation(unsigned char *a0, uint32_t a1);
 static uint8_t dfu_slots_places_has_newest(unsigned char *a0, uint32_t a1, uint32_t a2, uint8_t a3, uint8_t a4);
 static uint8_t dfu_slots_read_header_len(unsigned char *a0, uint32_t a1);
 static void dfu_home_copying_head(unsigned char *a0, unsigned char *a1, unsigned char *a2, unsigned char *a4, size_t a5, uint8_t a6, uint32_t a7, unsigned char *a8);
@@ -193,35 +182,7 @@ static void dfu_boot_c_trial_flash_looked(unsigned char *a0, unsigned char *a1, 
 static void dfu_boot_c_trial_flash_prepared(unsigned char *a0, unsigned char *a1, unsigned char *a2, size_t a3);
 static uint8_t dfu_boot_trial_marks_is_set(unsigned char *a0, uint32_t a1, uint32_t a2);
 static uint32_t dfu_boot_trial_marks_starts(unsigned char *a0, uint32_t a1, uint32_t a2);
-static uint32_t dfu_boot_c_trial_told_tell(unsigned char *a0, uint32_t a1, unsigned char *a2);
-static struct i32_i32 dfu_boot_c_trial_told_image_in(unsigned char *a0, uint32_t a1);
 static uint32_t dfu_boot_c_trial_again_start_from(unsigned char *a0, unsigned char *a1, size_t a2, unsigned char *a3, unsigned char *a4, unsigned char *a5);
-
-/* dfu_boot::install::area::is_run_area: crates/dfu_boot/src/install/area.rt */
-static uint8_t dfu_boot_install_area_is_run_area(uint64_t a0, uint32_t a1) {
-    uint8_t r1_0_in;
-    if ((a0 < 0x100000000ULL) & (((a1 - 1) < 0x20000U) & ((a1 & 255) == 0))) r1_0_in = ((uint32_t)a0 % a1) == 0;
-    else {
-        r1_0_in = 0;
-    }
-    return r1_0_in;
-}
-
-/* dfu_boot::install::area::are_blank: crates/dfu_boot/src/install/area.rt */
-static uint8_t dfu_boot_install_area_are_blank(unsigned char *a0, uint32_t a2, uint32_t a3) {
-    size_t v1, indvars_iv;
-    uint8_t r9_not_not_not_not_not_not_not_not_not_not;
-    v1 = (size_t)a3;
-    indvars_iv = (size_t)a2;
-    for (;;) {
-        r9_not_not_not_not_not_not_not_not_not_not = indvars_iv >= v1;
-        if (r9_not_not_not_not_not_not_not_not_not_not) break;
-        uint8_t r19 = a0[indvars_iv];
-        if (r19 != 255) break;
-        indvars_iv = indvars_iv + 1;
-    }
-    return r9_not_not_not_not_not_not_not_not_not_not;
-}
 
 /* dfu_boot::install::compare::first_difference: crates/dfu_boot/src/install/compare.rt */
 static struct i8_i32 dfu_boot_install_compare_first_difference(unsigned char *a0, unsigned char *a2, uint32_t a4, uint32_t a5) {
@@ -272,22 +233,6 @@ return_20:;
     return r77_2;
 }
 
-/* dfu_home::bytes::are_blank: crates/dfu_home/src/bytes.rt */
-static uint8_t dfu_home_bytes_are_blank(unsigned char *a0, uint32_t a2, uint32_t a3) {
-    size_t v1, indvars_iv;
-    uint8_t r9_not_not_not_not_not_not_not_not_not_not;
-    v1 = (size_t)a3;
-    indvars_iv = (size_t)a2;
-    for (;;) {
-        r9_not_not_not_not_not_not_not_not_not_not = indvars_iv >= v1;
-        if (r9_not_not_not_not_not_not_not_not_not_not) break;
-        uint8_t r19 = a0[indvars_iv];
-        if (r19 != 255) break;
-        indvars_iv = indvars_iv + 1;
-    }
-    return r9_not_not_not_not_not_not_not_not_not_not;
-}
-
 /* dfu_home::bytes::are_same: crates/dfu_home/src/bytes.rt */
 static uint8_t dfu_home_bytes_are_same(unsigned char *a0, size_t a1, unsigned char *a2) {
     size_t r5_0, r5_0_lcssa;
@@ -310,91 +255,67 @@ static uint8_t dfu_home_bytes_are_same(unsigned char *a0, size_t a1, unsigned ch
 
 /* dfu_boot::install::deciding::next: crates/dfu_boot/src/install/deciding.rt */
 static void dfu_boot_install_deciding_next(unsigned char *a0, unsigned char *a1, size_t a2, unsigned char *a3, uint64_t a4, uint32_t a5, uint8_t a6, uint32_t a7) {
-    uint8_t trunc, r24;
+    uint8_t trunc;
     uint32_t r7_0, r9_4_0, r16_2, r19_631_0;
     struct i8_i32 r21_pn;
+    size_t v5, indvars_iv;
     uint8_t r19_0_0;
-    uint8_t r23 = dfu_boot_install_area_is_run_area(a4, a5);
-    if (!r23) {
-        *a0 = 0;
-        a0[1] = 0;
-        store32(a0 + 4, 0);
-        return;
-    }
-    if (a2 == 0) {
-        *a0 = 0;
-        a0[1] = 1;
-        store32(a0 + 4, 0);
-        return;
-    }
-    if (a4 < (uint64_t)a2) {
-        *a0 = 0;
-        a0[1] = 2;
-        store32(a0 + 4, 0);
-        return;
-    }
-    trunc = a6 & 1;
-    uint32_t r16 = (uint32_t)a2;
-    r7_0 = (uint32_t)(trunc ? umin32(r16, a7) : 0);
-    struct i8_i32 r21 = dfu_boot_install_compare_first_difference(a1, a3, r7_0, r16);
-    if (r21.a == 1) r21_pn = r21;
-    else {
-        struct i8_i32 r37 = dfu_boot_install_compare_first_difference(a1, a3, 0, r7_0);
-        if (r37.a != 1) {
-            r19_631_0 = 0;
-            r19_0_0 = 3;
-            goto join_13;
-        }
-        r21_pn = r37;
-    }
-    r9_4_0 = r21_pn.b;
-    r16_2 = r9_4_0 & 0xffffff00U;
-    r24 = a5 == 0;
-    if (!(trunc ? (a7 <= r16_2) : 0)) {
-        if (r24) trap();
-    }
-    else {
-        if (r24) trap();
-        if ((a7 - (a7 % a5)) == (r16_2 - (r16_2 % a5))) {
-            uint8_t r47 = dfu_boot_install_area_are_blank(a3, r16_2, r16_2 + 256);
-            if (r47) {
-                r19_631_0 = r16_2;
-                r19_0_0 = 2;
-                goto join_13;
+    if ((a4 < 0x100000000ULL) & (((a5 - 1) < 0x20000U) & ((a5 & 255) == 0))) {
+        if (((uint32_t)a4 % a5) == 0) {
+            if (a2 == 0) {
+                *a0 = 0;
+                a0[1] = 1;
+                return;
             }
+            if (a4 < (uint64_t)a2) {
+                *a0 = 0;
+                a0[1] = 2;
+                return;
+            }
+            trunc = a6 & 1;
+            uint32_t r16 = (uint32_t)a2;
+            r7_0 = (uint32_t)(trunc ? umin32(r16, a7) : 0);
+            struct i8_i32 r21 = dfu_boot_install_compare_first_difference(a1, a3, r7_0, r16);
+            if (r21.a == 1) r21_pn = r21;
+            else {
+                struct i8_i32 r37 = dfu_boot_install_compare_first_difference(a1, a3, 0, r7_0);
+                if (r37.a != 1) {
+                    r19_631_0 = 0;
+                    r19_0_0 = 3;
+                    goto join_13;
+                }
+                r21_pn = r37;
+            }
+            r9_4_0 = r21_pn.b;
+            r16_2 = r9_4_0 & 0xffffff00U;
+            if (trunc ? (a7 <= r16_2) : 0) {
+                if ((a7 - (a7 % a5)) == (r16_2 - (r16_2 % a5))) {
+                    v5 = (size_t)(r16_2 + 256);
+                    indvars_iv = (size_t)r16_2;
+                    for (;;) {
+                        if (indvars_iv >= v5) {
+                            r19_631_0 = r16_2;
+                            r19_0_0 = 2;
+                            goto join_13;
+                        }
+                        uint8_t r19 = a3[indvars_iv];
+                        if (r19 != 255) break;
+                        indvars_iv = indvars_iv + 1;
+                    }
+                }
+            }
+            r19_631_0 = r9_4_0 - (r9_4_0 % a5);
+            r19_0_0 = 1;
+join_13:
+            *a0 = r19_0_0;
+            a0[1] = 0;
+            store32(a0 + 4, r19_631_0);
+            return;
         }
     }
-    r19_631_0 = r9_4_0 - (r9_4_0 % a5);
-    r19_0_0 = 1;
-join_13:
-    *a0 = r19_0_0;
+    *a0 = 0;
     a0[1] = 0;
-    store32(a0 + 4, r19_631_0);
     return;
-}
-
-/* dfu_boot::install::pieces::piece: crates/dfu_boot/src/install/pieces.rt */
-static void dfu_boot_install_pieces_piece(unsigned char *a0, size_t a1, uint32_t a2, unsigned char *a3) {
-    size_t a1_a0 = umin_size(a1, (size_t)a2);
-    memset(a3, 255, 256);
-    core_slice_edits_slice_T_copy_from_slice_i8_core_clone_U8Clone(a3, a0 + a1_a0, umin_size(a1 - a1_a0, 256));
-    return;
-}
-
-/* core::slice::edits::slice+T::copy_from_slice::<i8,20'core::clone::U8Clone{}> */
-static void core_slice_edits_slice_T_copy_from_slice_i8_core_clone_U8Clone(unsigned char *a0, unsigned char *a2, size_t a3) {
-    size_t r0_0;
-    if (((uint64_t)(size_t)(uintptr_t)a0 - (uint64_t)(size_t)(uintptr_t)a2) >= (uint64_t)a3) {
-        memmove(a0, a2, a3);
-        return;
-    }
-    r0_0 = 0;
-    for (;;) {
-        if (r0_0 == a3) return;
-        uint8_t r26 = a2[r0_0];
-        a0[r0_0] = r26;
-        r0_0 = r0_0 + 1;
-    }
 }
 
 /* dfu_boot_c::home::flash::medium: crates/dfu_boot_c/src/home/flash.rt */
@@ -415,7 +336,6 @@ static void dfu_boot_c_home_flash_medium(unsigned char *a0, unsigned char *a1, u
         *a0 = 1;
         a0[1] = 0;
         a0[2] = 0;
-        memset(a0 + 8, 0, 24);
         return;
     }
     dfu_boot_c_trial_flash_medium_of(r15, r3, a2, a3);
@@ -562,91 +482,50 @@ static struct i8_i8 dfu_slots_places_count_slots(unsigned char *a0) {
 /* dfu_slots::read::counts::<#f31be65e8793cebb>: crates/dfu_slots/src/read.rt */
 static uint8_t dfu_slots_read_counts(unsigned char *a0, uint32_t a1) {
     _Alignas(1) unsigned char r2[64];
-    _Alignas(1) unsigned char r3_2[16];
-    _Alignas(1) unsigned char r3[16];
     _Alignas(4) unsigned char r1[4];
-    uint8_t r1_2_0_copyload, r1_3_0_copyload, r1_4_0_copyload;
-    uint32_t r1_5_0_copyload, r1_6_0_copyload, r1_7_0_copyload, r3_0;
-    unsigned char *r1_2, *r2_2;
-    uint8_t common_ret_op, r1_0_in;
-    uint8_t r8 = dfu_slots_read_is_open(a0, a1);
-    if (!r8) r1_0_in = 0;
+    unsigned char *r23, *r25;
+    uint32_t a0_a1, r3_6_0_copyload, r3_7_0_copyload, r3_8_0_copyload, r10, r7, r3_0;
+    uint8_t r3_4_0_copyload, r3_5_0_copyload;
+    uint8_t r1_0_in;
+    size_t r5_0_0_copyload = load_size(a0);
+    r23 = (unsigned char *)(uintptr_t)r5_0_0_copyload;
+    uint8_t r1_0_0_copyload = r23[(size_t)a1];
+    if (r1_0_0_copyload != 165) r1_0_in = 0;
     else {
-        dfu_slots_read_header_of(r3, a0, a1);
-        uint8_t r4_2_0_copyload = r3[1];
-        if (r4_2_0_copyload != 2) r1_0_in = 1;
+        uint8_t r0_0_0_copyload = a0[16];
+        uint32_t r1_0_0_copyload_2 = load32(a0 + 20);
+        uint32_t switch_load = (uint32_t)switch_table_dfu_boot_c_trial_flash_prepared[(size_t)r0_0_0_copyload];
+        a0_a1 = umax32(r1_0_0_copyload_2, switch_load);
+        r25 = r23 + (size_t)(a0_a1 + a1);
+        uint8_t r3_1_0_copyload = r25[1];
+        if (r3_1_0_copyload != 2) r1_0_in = 1;
         else {
-            dfu_slots_read_header_of(r3_2, a0, a1);
-            r1_2_0_copyload = r3_2[1];
-            r1_3_0_copyload = r3_2[2];
-            r1_4_0_copyload = r3_2[3];
-            r1_5_0_copyload = load32u(r3_2 + 4);
-            r1_6_0_copyload = load32u(r3_2 + 8);
-            r1_7_0_copyload = load32u(r3_2 + 12);
-            uint32_t r10 = dfu_slots_layout_capacity_of(a0);
-            if (r10 < r1_5_0_copyload) common_ret_op = 0;
+            r3_4_0_copyload = r25[2];
+            r3_5_0_copyload = r25[3];
+            r3_6_0_copyload = load32u(r25 + 4);
+            r3_7_0_copyload = load32u(r25 + 8);
+            r3_8_0_copyload = load32u(r25 + 12);
+            size_t r3 = load_size(a0 + 8);
+            r10 = a0_a1 << 1;
+            if ((((uint32_t)r3 >> 1) - r10) < r3_6_0_copyload) r1_0_in = 0;
             else {
                 store32(r1, 0xffffffffU);
                 memset(r2, 0, 64);
-                r1_2 = a0 + 16;
-                r2_2 = a0 + 20;
+                r7 = r10 + a1;
                 r3_0 = 0;
-                while (r3_0 < r1_5_0_copyload) {
-                    uint32_t a1_a0 = umin32(r1_5_0_copyload - r3_0, 64);
+                while (r3_0 < r3_6_0_copyload) {
+                    uint32_t a1_a0 = umin32(r3_6_0_copyload - r3_0, 64);
                     size_t r28 = (size_t)a1_a0;
-                    uint8_t r0_0_0_copyload = *r1_2;
-                    uint32_t r1_0_0_copyload = load32(r2_2);
-                    uint32_t switch_load = (uint32_t)switch_table_dfu_boot_c_trial_flash_prepared[(size_t)r0_0_0_copyload];
-                    size_t r5_0_0_copyload = load_size(a0);
-                    core_slice_edits_slice_T_copy_from_slice_i8_core_clone_U8Clone(r2, (unsigned char *)(uintptr_t)r5_0_0_copyload + (size_t)((r3_0 + a1) + (umax32(r1_0_0_copyload, switch_load) << 1)), r28);
+                    memcpy(r2, r23 + (size_t)(r7 + r3_0), r28);
                     dfu_suffix_crc_Crc_update_small(r1, r2, r28);
                     r3_0 = a1_a0 + r3_0;
                 }
                 uint32_t r0_0_0_copyload_2 = load32(r1);
-                common_ret_op = ((((r1_2_0_copyload == 2) ? (r1_3_0_copyload == 0) : 0) ? (r1_4_0_copyload == 0) : 0) ? (r1_6_0_copyload == r0_0_0_copyload_2) : 0) ? (r1_7_0_copyload == 0) : 0;
+                r1_0_in = (((r3_4_0_copyload == 0) ? (r3_5_0_copyload == 0) : 0) ? (r3_7_0_copyload == r0_0_0_copyload_2) : 0) ? (r3_8_0_copyload == 0) : 0;
             }
-            r1_0_in = common_ret_op;
         }
     }
     return r1_0_in;
-}
-
-/* dfu_slots::read::is_open::<#f31be65e8793cebb>: crates/dfu_slots/src/read.rt */
-static uint8_t dfu_slots_read_is_open(unsigned char *a0, uint32_t a1) {
-    uint8_t r2 = dfu_slots_read_byte_at(a0, a1);
-    return r2 == 165;
-}
-
-/* dfu_slots::read::byte_at::<#f31be65e8793cebb>: crates/dfu_slots/src/read.rt */
-static uint8_t dfu_slots_read_byte_at(unsigned char *a0, uint32_t a1) {
-    _Alignas(4) unsigned char r1[1];
-    *r1 = 0;
-    size_t r5_0_0_copyload = load_size(a0);
-    core_slice_edits_slice_T_copy_from_slice_i8_core_clone_U8Clone(r1, (unsigned char *)(uintptr_t)r5_0_0_copyload + (size_t)a1, 1);
-    uint8_t r15 = *r1;
-    return r15;
-}
-
-/* dfu_slots::read::header_of::<#f31be65e8793cebb>: crates/dfu_slots/src/read.rt */
-static void dfu_slots_read_header_of(unsigned char *a0, unsigned char *a1, uint32_t a2) {
-    _Alignas(1) unsigned char r1[16];
-    memset(r1, 0, 16);
-    uint8_t r0_0_0_copyload = a1[16];
-    uint32_t r1_0_0_copyload = load32(a1 + 20);
-    uint32_t switch_load = (uint32_t)switch_table_dfu_boot_c_trial_flash_prepared[(size_t)r0_0_0_copyload];
-    size_t r5_0_0_copyload = load_size(a1);
-    core_slice_edits_slice_T_copy_from_slice_i8_core_clone_U8Clone(r1, (unsigned char *)(uintptr_t)r5_0_0_copyload + (size_t)(umax32(r1_0_0_copyload, switch_load) + a2), 16);
-    memcpy(a0, r1, 16);
-    return;
-}
-
-/* dfu_slots::layout::capacity_of::<#f31be65e8793cebb>: crates/dfu_slots/src/layout.rt */
-static uint32_t dfu_slots_layout_capacity_of(unsigned char *a0) {
-    size_t r3 = load_size(a0 + 8);
-    uint8_t r0_0_0_copyload = a0[16];
-    uint32_t r1_0_0_copyload = load32(a0 + 20);
-    uint32_t switch_load = (uint32_t)switch_table_dfu_boot_c_trial_flash_prepared[(size_t)r0_0_0_copyload];
-    return ((uint32_t)r3 >> 1) - (umax32(r1_0_0_copyload, switch_load) << 1);
 }
 
 /* dfu_suffix::crc::Crc::update_small: crates/dfu_suffix/src/crc.rt */
@@ -671,69 +550,85 @@ static void dfu_suffix_crc_Crc_update_small(unsigned char *a0, unsigned char *a1
 
 /* dfu_slots::places::find_places::<#f31be65e8793cebb>: crates/dfu_slots/src/places.rt */
 static struct i32_i32 dfu_slots_places_find_places(unsigned char *a0, uint8_t a1, uint8_t a2) {
-    unsigned char *r2 = a0 + 8;
-    size_t r3 = load_size(r2);
-    uint8_t r15 = dfu_slots_places_is_newest(a0, 0, (uint32_t)r3 >> 1, a1 & 1, a2 & 1);
-    size_t r3_2 = load_size(r2);
-    uint32_t r72 = (uint32_t)r3_2 >> 1;
-    struct i32_i32 r15_half = (struct i32_i32){ 0, 0 };
-    r15_half.a = (uint32_t)(r15 ? 0 : r72);
-    struct i32_i32 r15_2 = r15_half;
-    r15_2.b = (uint32_t)(r15 ? r72 : 0);
-    return r15_2;
-}
-
-/* dfu_slots::places::is_newest::<#f31be65e8793cebb>: crates/dfu_slots/src/places.rt */
-static uint8_t dfu_slots_places_is_newest(unsigned char *a0, uint32_t a1, uint32_t a2, uint8_t a3, uint8_t a4) {
+    uint32_t r81;
     uint8_t r1_0_in;
-    if (!(a3 & a4)) r1_0_in = a3;
+    size_t r3 = load_size(a0 + 8);
+    r81 = (uint32_t)r3 >> 1;
+    if ((a2 & a1) == 0) r1_0_in = a1 & 1;
     else {
-        uint8_t r13 = dfu_slots_read_generation(a0, a1);
-        uint8_t r14 = dfu_slots_read_generation(a0, a2);
-        r1_0_in = r13 == (uint8_t)(r14 + 1);
+        uint8_t r0_0_0_copyload = a0[16];
+        uint32_t r1_0_0_copyload = load32(a0 + 20);
+        uint32_t switch_load = (uint32_t)switch_table_dfu_boot_c_trial_flash_prepared[(size_t)r0_0_0_copyload];
+        uint32_t a0_a1 = umax32(r1_0_0_copyload, switch_load);
+        size_t r5_0_0_copyload = load_size(a0);
+        unsigned char *r23 = (unsigned char *)(uintptr_t)r5_0_0_copyload;
+        uint8_t r1_0_0_copyload_2 = r23[(size_t)a0_a1];
+        uint8_t r1_0_0_copyload_3 = r23[(size_t)(a0_a1 + r81)];
+        r1_0_in = r1_0_0_copyload_2 == (uint8_t)(r1_0_0_copyload_3 + 1);
     }
-    return r1_0_in;
-}
-
-/* dfu_slots::read::generation::<#f31be65e8793cebb>: crates/dfu_slots/src/read.rt */
-static uint8_t dfu_slots_read_generation(unsigned char *a0, uint32_t a1) {
-    uint8_t r0_0_0_copyload = a0[16];
-    uint32_t r1_0_0_copyload = load32(a0 + 20);
-    uint32_t switch_load = (uint32_t)switch_table_dfu_boot_c_trial_flash_prepared[(size_t)r0_0_0_copyload];
-    uint8_t r7 = dfu_slots_read_byte_at(a0, umax32(r1_0_0_copyload, switch_load) + a1);
-    return r7;
+    struct i32_i32 r15_half = (struct i32_i32){ 0, 0 };
+    r15_half.a = (uint32_t)(r1_0_in ? 0 : r81);
+    struct i32_i32 r15 = r15_half;
+    r15.b = (uint32_t)(r1_0_in ? r81 : 0);
+    return r15;
 }
 
 /* dfu_slots::places::has_newest::<#f31be65e8793cebb>: crates/dfu_slots/src/places.rt */
 static uint8_t dfu_slots_places_has_newest(unsigned char *a0, uint32_t a1, uint32_t a2, uint8_t a3, uint8_t a4) {
-    uint8_t r8_0_in;
+    uint8_t brmerge_not_not, r8_0_in;
+    brmerge_not_not = (a4 & a3) == 0;
     if (a1 == 0) {
-        uint8_t r24 = dfu_slots_places_is_newest(a0, 0, a2, a3 & 1, a4 & 1);
-        r8_0_in = r24;
+        if (brmerge_not_not) r8_0_in = a3 & 1;
+        else {
+            uint8_t r0_0_0_copyload = a0[16];
+            uint32_t r1_0_0_copyload = load32(a0 + 20);
+            uint32_t switch_load = (uint32_t)switch_table_dfu_boot_c_trial_flash_prepared[(size_t)r0_0_0_copyload];
+            uint32_t a0_a1 = umax32(r1_0_0_copyload, switch_load);
+            size_t r5_0_0_copyload = load_size(a0);
+            unsigned char *r23 = (unsigned char *)(uintptr_t)r5_0_0_copyload;
+            uint8_t r1_0_0_copyload_2 = r23[(size_t)a0_a1];
+            uint8_t r1_0_0_copyload_3 = r23[(size_t)(a0_a1 + a2)];
+            r8_0_in = r1_0_0_copyload_2 == (uint8_t)(r1_0_0_copyload_3 + 1);
+        }
     }
     else {
-        uint8_t r33 = dfu_slots_places_is_newest(a0, a1, a2, a4 & 1, a3 & 1);
-        r8_0_in = r33;
+        if (brmerge_not_not) r8_0_in = a4 & 1;
+        else {
+            uint8_t r0_0_0_copyload_2 = a0[16];
+            uint32_t r1_0_0_copyload_4 = load32(a0 + 20);
+            uint32_t switch_load_2 = (uint32_t)switch_table_dfu_boot_c_trial_flash_prepared[(size_t)r0_0_0_copyload_2];
+            uint32_t a0_a1_2 = umax32(r1_0_0_copyload_4, switch_load_2);
+            size_t r5_0_0_copyload_2 = load_size(a0);
+            unsigned char *r23_2 = (unsigned char *)(uintptr_t)r5_0_0_copyload_2;
+            uint8_t r1_0_0_copyload_5 = r23_2[(size_t)(a0_a1_2 + a1)];
+            uint8_t r1_0_0_copyload_6 = r23_2[(size_t)(a0_a1_2 + a2)];
+            r8_0_in = r1_0_0_copyload_5 == (uint8_t)(r1_0_0_copyload_6 + 1);
+        }
     }
     return r8_0_in;
 }
 
 /* dfu_slots::read::header_len::<#f31be65e8793cebb>: crates/dfu_slots/src/read.rt */
 static uint8_t dfu_slots_read_header_len(unsigned char *a0, uint32_t a1) {
-    _Alignas(1) unsigned char r3[16];
-    uint8_t r1_2_0_copyload, r0_0_0_0;
-    uint32_t r1_9_0_copyload;
-    dfu_slots_read_header_of(r3, a0, a1);
-    r1_2_0_copyload = r3[1];
-    r1_9_0_copyload = load32u(r3 + 12);
-    if (r1_2_0_copyload == 2) r0_0_0_0 = 1;
+    uint32_t a0_a1, r3_6_0_copyload;
+    unsigned char *r25;
+    uint8_t r3_1_0_copyload, r0_0_0_0;
+    uint8_t r0_0_0_copyload = a0[16];
+    uint32_t r1_0_0_copyload = load32(a0 + 20);
+    uint32_t switch_load = (uint32_t)switch_table_dfu_boot_c_trial_flash_prepared[(size_t)r0_0_0_copyload];
+    a0_a1 = umax32(r1_0_0_copyload, switch_load);
+    size_t r5_0_0_copyload = load_size(a0);
+    r25 = (unsigned char *)(uintptr_t)r5_0_0_copyload + (size_t)(a0_a1 + a1);
+    r3_1_0_copyload = r25[1];
+    r3_6_0_copyload = load32u(r25 + 12);
+    if (r3_1_0_copyload == 2) r0_0_0_0 = 1;
     else {
-        uint32_t r1_6_0_copyload = load32u(r3 + 4);
-        uint32_t r1_8_0_copyload = load32u(r3 + 8);
-        uint8_t r1_5_0_copyload = r3[3];
-        uint8_t r1_4_0_copyload = r3[2];
-        uint32_t r26 = dfu_slots_layout_capacity_of(a0);
-        if (((((r1_2_0_copyload == 1) & (r1_6_0_copyload <= r26)) ? (r1_4_0_copyload == 0) : 0) ? (r1_5_0_copyload == 0) : 0) ? (r1_8_0_copyload == 0) : 0) r0_0_0_0 = r1_9_0_copyload == 0;
+        uint32_t r3_5_0_copyload = load32u(r25 + 8);
+        uint32_t r3_4_0_copyload = load32u(r25 + 4);
+        uint8_t r3_3_0_copyload = r25[3];
+        uint8_t r3_2_0_copyload = r25[2];
+        size_t r3 = load_size(a0 + 8);
+        if (((((r3_1_0_copyload == 1) & (r3_4_0_copyload <= (((uint32_t)r3 >> 1) - (a0_a1 << 1)))) ? (r3_2_0_copyload == 0) : 0) ? (r3_3_0_copyload == 0) : 0) ? (r3_5_0_copyload == 0) : 0) r0_0_0_0 = r3_6_0_copyload == 0;
         else {
             r0_0_0_0 = 0;
         }
@@ -743,85 +638,93 @@ static uint8_t dfu_slots_read_header_len(unsigned char *a0, uint32_t a1) {
 
 /* dfu_home::copying::head::<#f31be65e8793cebb>: crates/dfu_home/src/copying.rt */
 static void dfu_home_copying_head(unsigned char *a0, unsigned char *a1, unsigned char *a2, unsigned char *a4, size_t a5, uint8_t a6, uint32_t a7, unsigned char *a8) {
-    _Alignas(1) unsigned char r8[16];
-    _Alignas(4) unsigned char r9[16];
-    _Alignas(4) unsigned char r10[16];
+    _Alignas(4) unsigned char r8[16];
+    _Alignas(4) unsigned char r16[16];
     _Alignas(4) unsigned char r0[12];
     _Alignas(4) unsigned char r3_2[4];
-    uint8_t sink10;
-    uint32_t sink9, sink;
     size_t r3 = load_size(a1 + 8);
-    dfu_slots_read_header_of(r10, a1, (uint32_t)r3 >> 1);
-    uint8_t r13_0_0_copyload = *r10;
-    uint32_t r13_38_0_copyload = load32(r10 + 4);
+    uint8_t r0_0_0_copyload = a1[16];
+    uint32_t r1_0_0_copyload = load32(a1 + 20);
+    uint32_t switch_load = (uint32_t)switch_table_dfu_boot_c_trial_flash_prepared[(size_t)r0_0_0_copyload];
+    uint32_t a0_a1 = umax32(r1_0_0_copyload, switch_load);
+    size_t r5_0_0_copyload = load_size(a1);
+    unsigned char *r23 = (unsigned char *)(uintptr_t)r5_0_0_copyload;
+    unsigned char *r25 = r23 + (size_t)(a0_a1 + ((uint32_t)r3 >> 1));
+    uint8_t r10_0_0_copyload = *r25;
+    uint32_t r10_26_0_copyload = load32u(r25 + 4);
     store32(r3_2, 0xffffffffU);
     dfu_suffix_crc_Crc_update_small(r3_2, a4, a5);
     uint32_t r1 = load32(r3_2);
-    *r9 = (uint8_t)(r13_0_0_copyload + 1);
-    r9[1] = 2;
-    r9[2] = 0;
-    r9[3] = 0;
-    store32(r9 + 4, r13_38_0_copyload);
-    store32(r9 + 8, r1);
-    store32(r9 + 12, 0);
-    memcpy(r8, r9, 16);
-    dfu_slots_read_header_of(r9, a1, 0);
-    uint8_t r46 = dfu_home_bytes_are_same(r9, 16, r8);
-    if (r46) {
-        dfu_home_copying_unit_due(r0, a1, a2, 0, a6, a7, PLACE(static_3), 1, a8);
-        uint8_t v3 = r0[1];
-        uint32_t v4 = load32(r0 + 4);
-        uint32_t v5 = load32(r0 + 8);
-        sink10 = v3;
-        sink9 = v4;
-        sink = v5;
-    }
-    else {
-        uint8_t r0_0_0_copyload = a1[16];
-        uint32_t r1_0_0_copyload = load32(a1 + 20);
-        uint32_t switch_load = (uint32_t)switch_table_dfu_boot_c_trial_flash_prepared[(size_t)r0_0_0_copyload];
-        dfu_home_copying_unit_due(r0, a1, a2, umax32(r1_0_0_copyload, switch_load), a6, a7, r8, 16, a8);
-        uint8_t v7 = r0[1];
-        uint32_t v8 = load32(r0 + 4);
-        uint32_t v9 = load32(r0 + 8);
-        sink10 = v7;
-        sink9 = v8;
-        sink = v9;
-    }
-    uint8_t sink11 = *r0;
-    *a0 = sink11;
-    a0[1] = sink10;
-    store32(a0 + 4, sink9);
-    store32(a0 + 8, sink);
+    *r8 = (uint8_t)(r10_0_0_copyload + 1);
+    r8[1] = 2;
+    r8[2] = 0;
+    r8[3] = 0;
+    store32(r8 + 4, r10_26_0_copyload);
+    store32(r8 + 8, r1);
+    store32(r8 + 12, 0);
+    unsigned char *r25_2 = r23 + (size_t)a0_a1;
+    uint8_t r9_0_0_copyload10 = *r25_2;
+    uint8_t r9_5_0_copyload12 = r25_2[1];
+    uint8_t r9_6_0_copyload14 = r25_2[2];
+    uint8_t r9_7_0_copyload16 = r25_2[3];
+    uint32_t r9_8_0_copyload18 = load32u(r25_2 + 4);
+    uint32_t r9_9_0_copyload20 = load32u(r25_2 + 8);
+    uint32_t r9_10_0_copyload22 = load32u(r25_2 + 12);
+    *r16 = r9_0_0_copyload10;
+    r16[1] = r9_5_0_copyload12;
+    r16[2] = r9_6_0_copyload14;
+    r16[3] = r9_7_0_copyload16;
+    store32(r16 + 4, r9_8_0_copyload18);
+    store32(r16 + 8, r9_9_0_copyload20);
+    store32(r16 + 12, r9_10_0_copyload22);
+    uint8_t r46 = dfu_home_bytes_are_same(r16, 16, r8);
+    dfu_home_copying_unit_due(r0, a1, a2, (uint32_t)(r46 ? 0 : a0_a1), a6, a7, r46 ? PLACE(static_3) : r8, (size_t)(r46 ? 1 : 16), a8);
+    uint8_t v1 = r0[1];
+    uint32_t v2 = load32(r0 + 4);
+    uint32_t v3 = load32(r0 + 8);
+    uint8_t sink31 = *r0;
+    *a0 = sink31;
+    a0[1] = v1;
+    store32(a0 + 4, v2);
+    store32(a0 + 8, v3);
     return;
 }
 
 /* dfu_home::copying::unit_due::<#f31be65e8793cebb>: crates/dfu_home/src/copying.rt */
 static void dfu_home_copying_unit_due(unsigned char *a0, unsigned char *a1, unsigned char *a2, uint32_t a4, uint8_t a5, uint32_t a6, unsigned char *a7, size_t a8, unsigned char *a9) {
-    uint32_t switch_load;
+    uint32_t switch_load, a6_sink, sink;
+    size_t v3, indvars_iv;
     uint8_t r0_0_0_copyload = a1[16];
     switch_load = (uint32_t)switch_table_dfu_boot_c_trial_flash_prepared[(size_t)r0_0_0_copyload];
     if ((a5 == 0) ? 1 : (a6 != a4)) {
         *a0 = 2;
-        a0[1] = 0;
-        store32(a0 + 4, a4);
-        store32(a0 + 8, 0);
-        return;
+        a6_sink = a4;
+        sink = 0;
     }
-    uint8_t r48 = dfu_home_bytes_are_blank(a2, a6, switch_load + a6);
-    if (!r48) {
+    else {
+        v3 = (size_t)(switch_load + a6);
+        indvars_iv = (size_t)a6;
+        for (;;) {
+            if (indvars_iv >= v3) goto join_6;
+            uint8_t r19 = a2[indvars_iv];
+            if (r19 != 255) break;
+            indvars_iv = indvars_iv + 1;
+        }
         *a0 = 2;
-        a0[1] = 0;
-        store32(a0 + 4, a6);
-        store32(a0 + 8, 0);
-        return;
+        a6_sink = a6;
+        sink = 0;
+        goto common_ret;
+join_6:
+        memset(a9, 0, 256);
+        memmove(a9, a7, a8);
+        *a0 = 3;
+        a6_sink = a6;
+        sink = switch_load;
     }
-    memset(a9, 0, 256);
-    core_slice_edits_slice_T_copy_from_slice_i8_core_clone_U8Clone(a9, a7, a8);
-    *a0 = 3;
+common_ret:
     a0[1] = 0;
-    store32(a0 + 4, a6);
-    store32(a0 + 8, switch_load);
+    store32(a0 + 4, a6_sink);
+    store32(a0 + 8, sink);
     return;
 }
 
@@ -829,6 +732,7 @@ static void dfu_home_copying_unit_due(unsigned char *a0, unsigned char *a1, unsi
 static void dfu_boot_c_trial_flash_looked(unsigned char *a0, unsigned char *a1, unsigned char *a2, size_t a3) {
     _Alignas(8) unsigned char r8[32];
     _Alignas(4) unsigned char r13_8[29];
+    _Alignas(8) unsigned char r3[24];
     unsigned char *r7;
     uint32_t r41, r59, r60, r10_84_0_0, r10_15_0, r10_17_0, r13_12_0_0, r13_12_3_0, r13_12_4_0, r13_10_0_0;
     uint8_t r34, r35, r10_0_036, r13_4_0;
@@ -846,6 +750,7 @@ static void dfu_boot_c_trial_flash_looked(unsigned char *a0, unsigned char *a1, 
         return;
     }
     r7 = r8 + 8;
+    memcpy(r3, r7, 24);
     r41 = load32(a1 + 8);
     uint8_t r14 = dfu_slots_layout_is_sized(r7);
     if (!r14) {
@@ -869,10 +774,10 @@ static void dfu_boot_c_trial_flash_looked(unsigned char *a0, unsigned char *a1, 
             r13_10_0_0 = 0;
         }
         else {
-            struct i32_i32 r58 = dfu_slots_places_find_places(r7, r34, r35);
+            struct i32_i32 r58 = dfu_slots_places_find_places(r3, r34, r35);
             r59 = r58.a;
             r60 = r58.b;
-            uint8_t r68 = dfu_slots_places_has_newest(r7, r59, r60, r34, r35);
+            uint8_t r68 = dfu_slots_places_has_newest(r3, r59, r60, r34, r35);
             if (!r68) {
                 r10_0_036 = 1;
                 r13_12_0_0 = 0;
@@ -991,7 +896,6 @@ arm_1:
     *a0 = 1;
     a0[1] = r5_4_012;
     a0[2] = r5_7_013;
-    memset(a0 + 8, 0, 24);
     return;
 }
 
@@ -1005,9 +909,9 @@ static uint8_t dfu_boot_trial_marks_is_set(unsigned char *a0, uint32_t a1, uint3
     uint32_t switch_load = (uint32_t)switch_table_dfu_boot_c_trial_flash_prepared[(size_t)r0_0_0_copyload];
     uint32_t r1_0_0_copyload = load32(a0 + 20);
     size_t r11 = (size_t)switch_load;
-    memset(r1, 0, 256);
     size_t r5_0_0_copyload = load_size(a0);
-    core_slice_edits_slice_T_copy_from_slice_i8_core_clone_U8Clone(r1, (unsigned char *)(uintptr_t)r5_0_0_copyload + (size_t)(((switch_load + a1) + (switch_load * a2)) + umax32(r1_0_0_copyload, switch_load)), r11);
+    memset(r1 + r11, 0, (size_t)((r0_0_0_copyload == 3) ? 0 : ((size_t)256 - r11)));
+    memcpy(r1, (unsigned char *)(uintptr_t)r5_0_0_copyload + (size_t)(((switch_load + a1) + (switch_load * a2)) + umax32(r1_0_0_copyload, switch_load)), r11);
     r4_0_0_in = r1;
     r23 = r11;
     for (;;) {
@@ -1041,73 +945,20 @@ static uint32_t dfu_boot_trial_marks_starts(unsigned char *a0, uint32_t a1, uint
     return r1_0_lcssa;
 }
 
-/* dfu_boot_c::trial::told::tell: crates/dfu_boot_c/src/trial/told.rt */
-static uint32_t dfu_boot_c_trial_told_tell(unsigned char *a0, uint32_t a1, unsigned char *a2) {
-    uint32_t r1_5_8_copyload, r1_8_12_copyload, r15_0;
-    unsigned char *r17_3_0_a2_sroa_idx, *r17_4_0_a2_sroa_idx;
-    uint8_t r2 = *a0;
-    r1_5_8_copyload = load32(a0 + 8);
-    r1_8_12_copyload = load32(a0 + 12);
-    if (r2 == 0) r15_0 = 0;
-    else {
-        uint8_t r6 = a0[4];
-        r17_3_0_a2_sroa_idx = a2 + 4;
-        r17_4_0_a2_sroa_idx = a2 + 8;
-        if (r6 != 0) {
-            store32(a2, 1);
-            store32(r17_3_0_a2_sroa_idx, r1_5_8_copyload);
-            store32(r17_4_0_a2_sroa_idx, a1);
-            r15_0 = 0xfffffff5U;
-        }
-        else {
-            store32(a2, 2);
-            store32(r17_3_0_a2_sroa_idx, r1_5_8_copyload);
-            store32(r17_4_0_a2_sroa_idx, r1_8_12_copyload);
-            memset(a2 + 12, 0, 256);
-            r15_0 = 0xfffffff5U;
-        }
-    }
-    return r15_0;
-}
-
-/* dfu_boot_c::trial::told::image_in::<#f31be65e8793cebb>: crates/dfu_boot_c/src/trial/told.rt */
-static struct i32_i32 dfu_boot_c_trial_told_image_in(unsigned char *a0, uint32_t a1) {
-    _Alignas(1) unsigned char r3[16];
-    uint8_t r0_0_0_copyload = a0[16];
-    uint32_t r1_0_0_copyload = load32(a0 + 20);
-    uint32_t switch_load = (uint32_t)switch_table_dfu_boot_c_trial_flash_prepared[(size_t)r0_0_0_copyload];
-    dfu_slots_read_header_of(r3, a0, a1);
-    uint32_t r4_2_0_copyload = load32u(r3 + 4);
-    struct i32_i32 r12_half = (struct i32_i32){ 0, 0 };
-    r12_half.a = (umax32(r1_0_0_copyload, switch_load) << 1) + a1;
-    struct i32_i32 r12 = r12_half;
-    r12.b = r4_2_0_copyload;
-    return r12;
-}
-
 /* dfu_boot_c::trial::again::start_from: crates/dfu_boot_c/src/trial/again.rt */
 static uint32_t dfu_boot_c_trial_again_start_from(unsigned char *a0, unsigned char *a1, size_t a2, unsigned char *a3, unsigned char *a4, unsigned char *a5) {
     _Alignas(8) unsigned char r15[48];
-    _Alignas(8) unsigned char r3_3[40];
     _Alignas(8) unsigned char r9[32];
     _Alignas(8) unsigned char r3[24];
-    _Alignas(4) unsigned char r6_10_0[24];
-    _Alignas(4) unsigned char r13_2[16];
-    _Alignas(4) unsigned char r6_15[12];
-    unsigned char *r7, *r46;
-    uint8_t r8_not, r12, r27, r112, v5;
-    uint32_t r3_4_0, r47, r48, r914, r4_0_0_extract_trunc, r4_4_0_extract_trunc, r11_15_0, r11_17_0, r8_3_4_copyload, r8_5_4_copyload, r8_6_4_copyload, r19;
-    uint32_t r9_0_0, r9_4_0, r9_6_0, r9_8_0, r9_10_0, r9_12_0, r7_0;
-    uint8_t r11_9_0_0, r84, v3, v4, r6_7_016, r6_4_015;
+    unsigned char *r7, *r46, *r23, *r25, *r17_3_0_a2_sroa_idx, *r17_4_0_a2_sroa_idx;
+    uint8_t r8_not, r12, r27, r112, v3, v5;
+    uint32_t r3_4_0, r47, r48, r914, a0_a1, r4_0_0_extract_trunc, r4_4_0_extract_trunc, r11_15_0, r11_17_0, r6_10_0_5_0_copyload85, r6_15_0_0_copyload81, r6_15_2_0_copyload80;
+    uint32_t r6_15_3_0_copyload79, r19, r9_6_0, r9_8_0, r9_10_0, r9_12_0, r47_2, r7_0;
+    size_t r4_4_0_extract_shift, r6_10_0_0_0_copyload83;
+    uint8_t r11_9_0_0, r6_10_0_3_0_copyload84, r84, r6_7_016, r6_4_015;
     dfu_boot_c_trial_flash_prepared(r9, a0, a1, a2);
     uint8_t r1_0_0_copyload = *r9;
-    if (r1_0_0_copyload != 0) {
-        uint8_t r1_5_2_copyload = r9[2];
-        uint8_t r1_3_1_copyload = r9[1];
-        r6_7_016 = r1_5_2_copyload;
-        r6_4_015 = r1_3_1_copyload;
-    }
-    else {
+    if (r1_0_0_copyload == 0) {
         r7 = r9 + 8;
         memcpy(r3, r7, 24);
         uint32_t r6 = load32(a3 + 16);
@@ -1127,144 +978,169 @@ static uint32_t dfu_boot_c_trial_again_start_from(unsigned char *a0, unsigned ch
             uint8_t r0_0_0_copyload = r3[16];
             uint32_t r1_0_0_copyload_2 = load32(r3 + 20);
             uint32_t switch_load = (uint32_t)switch_table_dfu_boot_c_trial_flash_prepared[(size_t)r0_0_0_copyload];
-            uint32_t r5 = umax32(r1_0_0_copyload_2, switch_load) << 1;
+            a0_a1 = umax32(r1_0_0_copyload_2, switch_load);
+            uint32_t r5 = a0_a1 << 1;
             r12 = r48 != r5;
             r27 = r48 != (r5 + r914);
             if (!(r12 & r27)) {
                 uint64_t r15_5_0 = (uint64_t)(r12 ? (size_t)(uint32_t)(r27 ? 0 : r914) : ((uint64_t)(size_t)r914 << 32));
                 r4_0_0_extract_trunc = (uint32_t)r15_5_0;
-                r4_4_0_extract_trunc = (uint32_t)(size_t)(r15_5_0 >> 32);
-                uint8_t r10 = dfu_slots_read_is_open(r7, r4_0_0_extract_trunc);
-                if (r10) {
-                    uint8_t r23 = dfu_slots_read_is_open(r7, r4_4_0_extract_trunc);
-                    if (r23) {
-                        uint8_t r32 = dfu_slots_read_generation(r7, r4_0_0_extract_trunc);
-                        uint8_t r35 = dfu_slots_read_generation(r7, r4_4_0_extract_trunc);
-                        if (r32 != (uint8_t)(r35 + 1)) goto arm_6;
+                r4_4_0_extract_shift = (size_t)(r15_5_0 >> 32);
+                r4_4_0_extract_trunc = (uint32_t)r4_4_0_extract_shift;
+                size_t r5_0_0_copyload = load_size(r3);
+                r23 = (unsigned char *)(uintptr_t)r5_0_0_copyload;
+                uint8_t r1_0_0_copyload_3 = r23[((size_t)r15_5_0 & 0x7fffffffU)];
+                if (r1_0_0_copyload_3 == 165) {
+                    r25 = r23 + r4_4_0_extract_shift;
+                    uint8_t r1_0_0_copyload_4 = *r25;
+                    if (r1_0_0_copyload_4 == 165) {
+                        uint8_t r1_0_0_copyload_5 = r23[(size_t)(a0_a1 + r4_0_0_extract_trunc)];
+                        uint8_t r1_0_0_copyload_6 = r23[(size_t)(a0_a1 + r4_4_0_extract_trunc)];
+                        if (r1_0_0_copyload_5 != (uint8_t)(r1_0_0_copyload_6 + 1)) goto dfu_boot_c_trial_again_looked_again_exit;
                     }
                     r112 = dfu_boot_trial_marks_is_set(r7, r4_0_0_extract_trunc, 0);
                     if (!r112) {
-                        uint8_t r123 = dfu_slots_read_is_open(r7, r4_4_0_extract_trunc);
-                        if (r123) {
+                        uint8_t r1_0_0_copyload_7 = *r25;
+                        if (r1_0_0_copyload_7 == 165) {
                             uint8_t r138 = dfu_boot_trial_marks_is_set(r7, r4_4_0_extract_trunc, 0);
                             if (r138) {
-                                if (r8_not) goto arm_6;
-                                if (r3_4_0 != ((r48 - r4_0_0_extract_trunc) + r4_4_0_extract_trunc)) goto arm_6;
+                                if (r8_not) goto dfu_boot_c_trial_again_looked_again_exit;
+                                if (r3_4_0 != ((r48 - r4_0_0_extract_trunc) + r4_4_0_extract_trunc)) goto dfu_boot_c_trial_again_looked_again_exit;
                                 uint32_t r227 = dfu_boot_trial_marks_starts(r7, r47, r4_0_0_extract_trunc);
                                 r11_9_0_0 = 1;
                                 r11_15_0 = r4_4_0_extract_trunc;
                                 r11_17_0 = r227;
-                                goto arm_5;
+                                goto dfu_boot_c_trial_again_looked_again_exit_thread68;
                             }
                         }
                     }
                     r11_9_0_0 = 0;
                     r11_15_0 = (uint32_t)r112;
                     r11_17_0 = 0;
-arm_5:
+dfu_boot_c_trial_again_looked_again_exit_thread68:
                     memcpy(r15 + 8, r7, 24);
-                    store32(r15 + 36, r4_0_0_extract_trunc);
-                    store32(r15 + 40, r11_15_0);
-                    store32(r15 + 44, r11_17_0);
+                    size_t r6_10_0_0_0_copyload74 = load_size(r15 + 8);
+                    uint8_t r6_10_0_3_0_copyload76 = r15[24];
+                    uint32_t r6_10_0_5_0_copyload78 = load32(r15 + 28);
+                    r6_10_0_5_0_copyload85 = r6_10_0_5_0_copyload78;
+                    r6_10_0_3_0_copyload84 = r6_10_0_3_0_copyload76;
+                    r6_10_0_0_0_copyload83 = r6_10_0_0_0_copyload74;
                     r84 = r11_9_0_0;
-                    v3 = 0;
-                    v4 = 0;
-                    v5 = 1;
-                    goto dfu_boot_c_trial_again_looked_again_exit;
+                    r6_15_0_0_copyload81 = r4_0_0_extract_trunc;
+                    r6_15_2_0_copyload80 = r11_15_0;
+                    r6_15_3_0_copyload79 = r11_17_0;
+                    goto arm_1;
                 }
             }
         }
-arm_6:
+dfu_boot_c_trial_again_looked_again_exit:
         dfu_boot_c_trial_flash_looked(r15, a0, a1, a2);
         uint8_t pre = *r15;
         uint8_t pre60 = r15[1];
         uint8_t pre61 = r15[2];
         uint8_t r84_pre = r15[32];
+        uint32_t r6_15_0_0_copyload_pre = load32(r15 + 36);
+        uint32_t r6_15_2_0_copyload_pre = load32(r15 + 40);
+        uint32_t r6_15_3_0_copyload_pre = load32(r15 + 44);
+        size_t r6_10_0_0_0_copyload = load_size(r15 + 8);
+        uint8_t r6_10_0_3_0_copyload = r15[24];
+        uint32_t r6_10_0_5_0_copyload = load32(r15 + 28);
+        if (pre != 0) {
+            r6_7_016 = pre61;
+            r6_4_015 = pre60;
+            goto arm_2;
+        }
+        r6_10_0_5_0_copyload85 = r6_10_0_5_0_copyload;
+        r6_10_0_3_0_copyload84 = r6_10_0_3_0_copyload;
+        r6_10_0_0_0_copyload83 = r6_10_0_0_0_copyload;
         r84 = r84_pre;
-        v3 = pre61;
-        v4 = pre60;
-        v5 = pre == 0;
-dfu_boot_c_trial_again_looked_again_exit:
-        memcpy(r6_10_0, r15 + 8, 24);
-        memcpy(r6_15, r15 + 36, 12);
-        if (v5) {
-            memcpy(r3_3, r6_10_0, 24);
-            unsigned char *r24 = r3_3 + 28;
-            memcpy(r24, r6_15, 12);
-            r8_3_4_copyload = load32(r24);
-            r8_5_4_copyload = load32(r3_3 + 32);
-            r8_6_4_copyload = load32(r3_3 + 36);
-            if (r84 == 0) {
-                r9_0_0 = 0;
-                r9_4_0 = 0;
-                r9_6_0 = 0;
+        r6_15_0_0_copyload81 = r6_15_0_0_copyload_pre;
+        r6_15_2_0_copyload80 = r6_15_2_0_copyload_pre;
+        r6_15_3_0_copyload79 = r6_15_3_0_copyload_pre;
+arm_1:
+        v3 = r84 == 0;
+        if (v3) {
+            v5 = 1;
+            r9_6_0 = 0;
+            r9_8_0 = 0;
+            r9_10_0 = r6_15_0_0_copyload81;
+            r9_12_0 = r6_15_0_0_copyload81;
+        }
+        else {
+            uint32_t r32 = load32(r46);
+            if (r6_15_3_0_copyload79 >= r32) {
+                v5 = 0;
+                r9_6_0 = r6_15_0_0_copyload81;
                 r9_8_0 = 0;
-                r9_10_0 = r8_3_4_copyload;
-                r9_12_0 = r8_3_4_copyload;
+                r9_10_0 = r6_15_2_0_copyload80;
+                r9_12_0 = r6_15_2_0_copyload80;
             }
             else {
-                uint32_t r32_2 = load32(r46);
-                if (r8_6_4_copyload >= r32_2) {
-                    r9_0_0 = 1;
-                    r9_4_0 = 1;
-                    r9_6_0 = r8_3_4_copyload;
-                    r9_8_0 = 0;
-                    r9_10_0 = r8_5_4_copyload;
-                    r9_12_0 = r8_5_4_copyload;
-                }
-                else {
-                    uint8_t r0_0_0_copyload_2 = r3_3[16];
-                    uint32_t switch_load_2 = (uint32_t)switch_table_dfu_boot_c_trial_flash_prepared[(size_t)r0_0_0_copyload_2];
-                    uint32_t r1_0_0_copyload_3 = load32(r3_3 + 20);
-                    r19 = ((switch_load_2 + r8_3_4_copyload) + (switch_load_2 * (r8_6_4_copyload + 1))) + umax32(r1_0_0_copyload_3, switch_load_2);
-                    switch (r0_0_0_copyload_2) {
-                    case 0:
-                    case 1:
-                        r9_0_0 = 1;
-                        r9_4_0 = 0;
-                        r9_6_0 = r19;
-                        r9_8_0 = 16;
-                        r9_10_0 = r8_3_4_copyload;
-                        r9_12_0 = r8_5_4_copyload;
-                        break;
-                    case 2:
-                        r9_0_0 = 1;
-                        r9_4_0 = 0;
-                        r9_6_0 = r19;
-                        r9_8_0 = 64;
-                        r9_10_0 = r8_3_4_copyload;
-                        r9_12_0 = r8_5_4_copyload;
-                        break;
-                    case 3:
-                        r9_0_0 = 1;
-                        r9_4_0 = 0;
-                        r9_6_0 = r19;
-                        r9_8_0 = 256;
-                        r9_10_0 = r8_3_4_copyload;
-                        r9_12_0 = r8_5_4_copyload;
-                        break;
-                    default: never();
-                    }
+                uint32_t switch_load_2 = (uint32_t)switch_table_dfu_boot_c_trial_flash_prepared[(size_t)r6_10_0_3_0_copyload84];
+                r19 = ((switch_load_2 + r6_15_0_0_copyload81) + (switch_load_2 * (r6_15_3_0_copyload79 + 1))) + umax32(r6_10_0_5_0_copyload85, switch_load_2);
+                switch (r6_10_0_3_0_copyload84) {
+                case 0:
+                case 1:
+                    v5 = 1;
+                    r9_6_0 = r19;
+                    r9_8_0 = 16;
+                    r9_10_0 = r6_15_0_0_copyload81;
+                    r9_12_0 = r6_15_2_0_copyload80;
+                    break;
+                case 2:
+                    v5 = 1;
+                    r9_6_0 = r19;
+                    r9_8_0 = 64;
+                    r9_10_0 = r6_15_0_0_copyload81;
+                    r9_12_0 = r6_15_2_0_copyload80;
+                    break;
+                case 3:
+                    v5 = 1;
+                    r9_6_0 = r19;
+                    r9_8_0 = 256;
+                    r9_10_0 = r6_15_0_0_copyload81;
+                    r9_12_0 = r6_15_2_0_copyload80;
+                    break;
+                default: never();
                 }
             }
-            struct i32_i32 r6_2 = dfu_boot_c_trial_told_image_in(r3_3, r9_10_0);
-            struct i32_i32 r12_2 = dfu_boot_c_trial_told_image_in(r3_3, r9_12_0);
-            store32(a5, r6_2.a);
-            store32(a5 + 4, r6_2.b);
-            store32(a5 + 8, r12_2.a);
-            store32(a5 + 12, r12_2.b);
-            store32(r13_2, r9_0_0);
-            store32(r13_2 + 4, r9_4_0);
-            store32(r13_2 + 8, r9_6_0);
-            store32(r13_2 + 12, r9_8_0);
-            uint32_t r47_2 = load32(a0 + 4);
-            uint32_t r50 = dfu_boot_c_trial_told_tell(r13_2, r47_2, a4);
-            r7_0 = r50;
+        }
+        uint32_t switch_load_3 = (uint32_t)switch_table_dfu_boot_c_trial_flash_prepared[(size_t)r6_10_0_3_0_copyload84];
+        uint32_t a0_a1_2 = umax32(r6_10_0_5_0_copyload85, switch_load_3);
+        uint32_t r5_2 = a0_a1_2 << 1;
+        unsigned char *r23_2 = (unsigned char *)(uintptr_t)r6_10_0_0_0_copyload83;
+        uint32_t r3_1_0_copyload = load32u((r23_2 + (size_t)(a0_a1_2 + r9_10_0)) + 4);
+        uint32_t r3_1_0_copyload_2 = load32u((r23_2 + (size_t)(a0_a1_2 + r9_12_0)) + 4);
+        store32(a5, r5_2 + r9_10_0);
+        store32(a5 + 4, r3_1_0_copyload);
+        store32(a5 + 8, r5_2 + r9_12_0);
+        store32(a5 + 12, r3_1_0_copyload_2);
+        r47_2 = load32(a0 + 4);
+        if (v3) {
+            r7_0 = 0;
             goto join_4;
         }
-        r6_7_016 = v3;
-        r6_4_015 = v4;
+        r17_3_0_a2_sroa_idx = a4 + 4;
+        r17_4_0_a2_sroa_idx = a4 + 8;
+        if (!v5) {
+            store32(a4, 1);
+            store32(r17_3_0_a2_sroa_idx, r9_6_0);
+            store32(r17_4_0_a2_sroa_idx, r47_2);
+            r7_0 = 0xfffffff5U;
+            goto join_4;
+        }
+        store32(a4, 2);
+        store32(r17_3_0_a2_sroa_idx, r9_6_0);
+        store32(r17_4_0_a2_sroa_idx, r9_8_0);
+        memset(a4 + 12, 0, 256);
+        r7_0 = 0xfffffff5U;
+        goto join_4;
     }
+    uint8_t r1_5_2_copyload = r9[2];
+    uint8_t r1_3_1_copyload = r9[1];
+    r6_7_016 = r1_5_2_copyload;
+    r6_4_015 = r1_3_1_copyload;
+arm_2:
     switch (r6_4_015) {
     case 0:
         r7_0 = 0xfffffffeU;
@@ -1329,8 +1205,9 @@ int32_t dfu_core_install_took(struct dfu_run_area *area, const uint8_t *image, s
     unsigned char *a5 = (unsigned char *)(uintptr_t)ask;
     uint32_t a6 = failed;
     unsigned char *r4, *r13;
-    uint32_t r10, r1_61_0, v1;
+    uint32_t r10, r1_61_0, v3;
     uint8_t r1_0_0;
+    size_t r10_3, v2, indvars_iv;
     uint64_t r18;
     r4 = (unsigned char *)((uintptr_t)a1 + (uintptr_t)(size_t)((a1 == NULL) ? 4096 : 0));
     r13 = (unsigned char *)((uintptr_t)a3 + (uintptr_t)(size_t)((a3 == NULL) ? 4096 : 0));
@@ -1354,47 +1231,54 @@ int32_t dfu_core_install_took(struct dfu_run_area *area, const uint8_t *image, s
         r1_61_0 = 0;
         break;
     }
-    if (a6 != 0) v1 = 0xffffffffU;
+    if (a6 != 0) v3 = 0xffffffffU;
     else {
-        uint8_t r25 = dfu_boot_install_area_is_run_area(a4, r10);
-        if (!r25) v1 = 0xffffffffU;
+        if (!((wide(a4) < 0x100000000ULL) & (((r10 - 1) < 0x20000U) & ((r10 & 255) == 0)))) v3 = 0xffffffffU;
         else {
-            switch (r1_0_0) {
-            case 1: {
-                if (((uint64_t)(size_t)r1_61_0 + (uint64_t)(size_t)r10) > (uint64_t)a4) {
-                    v1 = 0xffffffffU;
-                    goto dfu_boot_c_install_calls_dfu_core_install_took_exit;
+            if (((uint32_t)a4 % r10) != 0) v3 = 0xffffffffU;
+            else {
+                switch (r1_0_0) {
+                case 1:
+                    r10_3 = (size_t)r1_61_0;
+                    if (((uint64_t)r10_3 + (uint64_t)(size_t)r10) > (uint64_t)a4) {
+                        v3 = 0xffffffffU;
+                        goto dfu_boot_c_install_calls_dfu_core_install_took_exit;
+                    }
+                    v2 = (size_t)(r1_61_0 + r10);
+                    indvars_iv = r10_3;
+                    while (indvars_iv < v2) {
+                        uint8_t r19 = r13[indvars_iv];
+                        if (r19 != 255) {
+                            v3 = 0xffffffffU;
+                            goto dfu_boot_c_install_calls_dfu_core_install_took_exit;
+                        }
+                        indvars_iv = indvars_iv + 1;
+                    }
+                    break;
+                case 2: {
+                    r18 = (uint64_t)(size_t)r1_61_0 + 256;
+                    if ((uint64_t)a4 < r18) {
+                        v3 = 0xffffffffU;
+                        goto dfu_boot_c_install_calls_dfu_core_install_took_exit;
+                    }
+                    struct i8_i32 r46 = dfu_boot_install_compare_first_difference(r4, r13, r1_61_0, (uint32_t)(size_t)umin64(a2, r18));
+                    if (r46.a == 1) {
+                        v3 = 0xffffffffU;
+                        goto dfu_boot_c_install_calls_dfu_core_install_took_exit;
+                    }
+                    break;
                 }
-                uint8_t r29 = dfu_boot_install_area_are_blank(r13, r1_61_0, r1_61_0 + r10);
-                if (!r29) {
-                    v1 = 0xffffffffU;
+                case 3:
+                    v3 = 0xffffffffU;
                     goto dfu_boot_c_install_calls_dfu_core_install_took_exit;
+                default: never();
                 }
-                break;
+                v3 = r1_61_0;
             }
-            case 2: {
-                r18 = (uint64_t)(size_t)r1_61_0 + 256;
-                if ((uint64_t)a4 < r18) {
-                    v1 = 0xffffffffU;
-                    goto dfu_boot_c_install_calls_dfu_core_install_took_exit;
-                }
-                struct i8_i32 r46 = dfu_boot_install_compare_first_difference(r4, r13, r1_61_0, (uint32_t)(size_t)umin64(a2, r18));
-                if (r46.a == 1) {
-                    v1 = 0xffffffffU;
-                    goto dfu_boot_c_install_calls_dfu_core_install_took_exit;
-                }
-                break;
-            }
-            case 3:
-                v1 = 0xffffffffU;
-                goto dfu_boot_c_install_calls_dfu_core_install_took_exit;
-            default: never();
-            }
-            v1 = r1_61_0;
         }
     }
 dfu_boot_c_install_calls_dfu_core_install_took_exit:
-    store32(a0 + 4, v1);
+    store32(a0 + 4, v3);
     return signed32(0);
 }
 
@@ -1408,7 +1292,7 @@ int32_t dfu_core_home_took(struct dfu_home_record *record, const uint8_t *flash,
     unsigned char *r4, *r14, *r11_2;
     uint32_t r13, r1_61_0, r1_9_0, r12, a1_2;
     uint8_t r1_0_0;
-    size_t r96, r98;
+    size_t r49, v1, indvars_iv, r96, r98;
     r4 = (unsigned char *)((uintptr_t)a1 + (uintptr_t)(size_t)((a1 == NULL) ? 4096 : 0));
     r13 = load32(a3 + 8);
     uint32_t r5 = load32(a3);
@@ -1439,11 +1323,18 @@ int32_t dfu_core_home_took(struct dfu_home_record *record, const uint8_t *flash,
     if (!((wide(a2) > 0xffffffffU) | (a4 != 0))) {
         switch (r1_0_0) {
         case 2:
-            if ((r13 != 0) ? (((uint64_t)(size_t)r1_61_0 + (uint64_t)(size_t)r13) <= (uint64_t)a2) : 0) {
-                uint8_t r73 = dfu_home_bytes_are_blank(r4, r1_61_0, r1_61_0 + r13);
-                if (r73) {
-                    a1_2 = r1_61_0;
-                    goto dfu_boot_c_home_calls_dfu_core_home_took_exit;
+            r49 = (size_t)r1_61_0;
+            if ((r13 != 0) ? (((uint64_t)r49 + (uint64_t)(size_t)r13) <= (uint64_t)a2) : 0) {
+                v1 = (size_t)(r1_61_0 + r13);
+                indvars_iv = r49;
+                for (;;) {
+                    if (indvars_iv >= v1) {
+                        a1_2 = r1_61_0;
+                        goto dfu_boot_c_home_calls_dfu_core_home_took_exit;
+                    }
+                    uint8_t r19 = r4[indvars_iv];
+                    if (r19 != 255) break;
+                    indvars_iv = indvars_iv + 1;
                 }
             }
             break;
@@ -1506,13 +1397,17 @@ int32_t dfu_core_install_next(const struct dfu_run_area *area, const uint8_t *im
         store32(a5 + 8, r10);
         r11_0 = 0xfffffff5U;
         break;
-    case 2:
+    case 2: {
         store32(a5, 2);
         store32(a5 + 4, r1_52_4_copyload);
         store32(a5 + 8, 256);
-        dfu_boot_install_pieces_piece(r4, a2, r1_52_4_copyload, a5 + 12);
+        unsigned char *r27 = a5 + 12;
+        size_t a1_a0 = umin_size(a2, (size_t)r1_52_4_copyload);
+        memset(r27, 255, 256);
+        memmove(r27, r4 + a1_a0, umin_size(a2 - a1_a0, 256));
         r11_0 = 0xfffffff5U;
         break;
+    }
     default: never();
     }
     return signed32(r11_0);
@@ -1525,7 +1420,6 @@ int32_t dfu_core_home_may_download(const struct dfu_config *config, const uint8_
     size_t a2 = (size_t)size;
     _Alignas(8) unsigned char r5[32];
     uint32_t r6_0;
-    memset(r5, 0, 32);
     dfu_boot_c_home_flash_medium(r5, a0, (unsigned char *)((uintptr_t)a1 + (uintptr_t)(size_t)((a1 == NULL) ? 4096 : 0)), a2);
     uint8_t r14 = *r5;
     if (r14 == 0) {
@@ -1561,23 +1455,20 @@ int32_t dfu_core_home_next(const struct dfu_config *config, const struct dfu_hom
     unsigned char *a4 = (unsigned char *)(uintptr_t)ask;
     _Alignas(8) unsigned char r10[32];
     _Alignas(8) unsigned char r3[24];
-    _Alignas(1) unsigned char r13_2[16];
-    unsigned char *const r5_2 = r13_2;
     _Alignas(4) unsigned char r14[12];
     _Alignas(8) unsigned char r12_3[8];
-    unsigned char *r4, *r22, *r31, *r35;
+    unsigned char *r4, *r22, *r31, *r23, *r35;
     uint8_t r3_2;
-    uint32_t a0_2, r12, r1_0_0_copyload, r5, r116, r10_2, v8, v9, r12_118_025, common_ret_op;
-    uint8_t r14_0_0_0_extract_trunc, v5;
+    uint32_t a0_2, r12, r1_0_0_copyload, r5, r116, r5_4_0_copyload, r10_2, v10, v11, r12_118_025, common_ret_op;
+    uint8_t r14_0_0_0_extract_trunc, v7;
     struct i8_i8 r15;
     size_t r3_4, r47;
     r4 = (unsigned char *)((uintptr_t)a2 + (uintptr_t)(size_t)((a2 == NULL) ? 4096 : 0));
-    memset(r10, 0, 32);
     dfu_boot_c_home_flash_medium(r10, a0, r4, a3);
     uint8_t r21 = *r10;
     if (r21 != 0) {
-        uint8_t r5_0_0_copyload = r10[1];
-        switch (r5_0_0_copyload) {
+        uint8_t r5_0_0_copyload_3 = r10[1];
+        switch (r5_0_0_copyload_3) {
         case 0:
             common_ret_op = 0xfffffffeU;
             break;
@@ -1607,8 +1498,10 @@ int32_t dfu_core_home_next(const struct dfu_config *config, const struct dfu_hom
             uint8_t r30 = dfu_slots_layout_is_sized(r3);
             if (!r30) common_ret_op = 0xfffffffdU;
             else {
-                uint8_t r45 = dfu_slots_read_is_open(r22, 0);
-                if (!r45) {
+                size_t r5_0_0_copyload = load_size(r3);
+                r23 = (unsigned char *)(uintptr_t)r5_0_0_copyload;
+                uint8_t r1_0_0_copyload_2 = *r23;
+                if (r1_0_0_copyload_2 != 165) {
                     if (r12 == 0) {
                         struct i8_i8 r12_2 = dfu_home_asking_is_home(r22);
                         if (r12_2.a != 1) {
@@ -1619,17 +1512,20 @@ int32_t dfu_core_home_next(const struct dfu_config *config, const struct dfu_hom
                     r3_4 = load_size(r3 + 8);
                     r5 = (uint32_t)r3_4;
                     r116 = r5 >> 1;
-                    uint8_t r13 = dfu_slots_read_is_open(r22, r116);
-                    if (!r13) {
+                    uint8_t r1_0_0_copyload_3 = r23[(size_t)r116];
+                    if (r1_0_0_copyload_3 != 165) {
                         common_ret_op = 0xfffffffdU;
                         goto dfu_boot_c_home_calls_dfu_core_home_next_exit;
                     }
-                    dfu_slots_read_header_of(r5_2, r22, r116);
-                    uint32_t r6_2_0_copyload = load32u(r5_2 + 4);
-                    uint8_t r0_0_0_copyload = r3[16];
+                    uint8_t r0_0_0_copyload = r10[24];
+                    uint32_t r1_0_0_copyload_4 = load32(r10 + 28);
                     uint32_t switch_load = (uint32_t)switch_table_dfu_boot_c_trial_flash_prepared[(size_t)r0_0_0_copyload];
-                    r10_2 = umax32(r1_0_0_copyload, switch_load) << 1;
-                    if ((r116 - r10_2) < r6_2_0_copyload) {
+                    size_t r5_0_0_copyload_2 = load_size(r22);
+                    r5_4_0_copyload = load32u(((unsigned char *)(uintptr_t)r5_0_0_copyload_2 + (size_t)(umax32(r1_0_0_copyload_4, switch_load) + r116)) + 4);
+                    uint8_t r0_0_0_copyload_2 = r3[16];
+                    uint32_t switch_load_2 = (uint32_t)switch_table_dfu_boot_c_trial_flash_prepared[(size_t)r0_0_0_copyload_2];
+                    r10_2 = umax32(r1_0_0_copyload, switch_load_2) << 1;
+                    if ((r116 - r10_2) < r5_4_0_copyload) {
                         common_ret_op = 0xfffffffdU;
                         goto dfu_boot_c_home_calls_dfu_core_home_next_exit;
                     }
@@ -1638,12 +1534,9 @@ int32_t dfu_core_home_next(const struct dfu_config *config, const struct dfu_hom
                         goto dfu_boot_c_home_calls_dfu_core_home_next_exit;
                     }
                     store64(r12_3, 0);
-                    memset(r14, 0, 12);
                     size_t r18 = (size_t)r10_2;
                     r35 = r4 + (size_t)(r10_2 + r116);
-                    dfu_slots_read_header_of(r13_2, r22, r116);
-                    uint32_t r14_2_0_copyload = load32u(r13_2 + 4);
-                    r47 = (size_t)r14_2_0_copyload;
+                    r47 = (size_t)r5_4_0_copyload;
                     dfu_boot_install_deciding_next(r12_3, r35, r47, r4 + r18, (uint64_t)((r3_4 >> 1) & 0x7fffffffU) - (uint64_t)r18, r1_0_0_copyload, r3_2 & (a0_2 >= r10_2), (uint32_t)(r3_2 ? usub_sat32(a0_2, r10_2) : 0));
                     uint8_t r57 = *r12_3;
                     switch (r57) {
@@ -1654,48 +1547,48 @@ int32_t dfu_core_home_next(const struct dfu_config *config, const struct dfu_hom
                     }
                     case 2: {
                         uint32_t r66 = load32(r12_3 + 4);
-                        dfu_boot_install_pieces_piece(r35, r47, r66, r31);
-                        v8 = 256;
-                        v9 = r66 + r10_2;
+                        size_t a1_a0 = (size_t)umin32(r5_4_0_copyload, r66);
+                        memset(r31, 255, 256);
+                        memmove(r31, r35 + a1_a0, (size_t)umin64((uint64_t)r47 - (uint64_t)a1_a0, 256));
+                        v10 = 256;
+                        v11 = r66 + r10_2;
                         goto arm_8;
                     }
-                    case 3:
-                        dfu_home_copying_head(r14, r22, r4, r35, r47, r14_0_0_0_extract_trunc, a0_2, r31);
-                        break;
+                    case 3: break;
                     case 0: {
                         uint8_t r89 = r12_3[1];
                         if (r89 != 1) trap();
-                        dfu_home_copying_head(r14, r22, r4, r35, r47, r14_0_0_0_extract_trunc, a0_2, r31);
                         break;
                     }
                     default: never();
                     }
+                    dfu_home_copying_head(r14, r22, r4, r35, r47, r14_0_0_0_extract_trunc, a0_2, r31);
                     uint8_t pr = *r14;
-                    v5 = r14[1];
-                    uint32_t v6 = load32(r14 + 4);
-                    uint32_t v7 = load32(r14 + 8);
+                    v7 = r14[1];
+                    uint32_t v8 = load32(r14 + 4);
+                    uint32_t v9 = load32(r14 + 8);
                     switch (pr) {
                     case 0: {
-                        uint32_t switch_load_2 = (uint32_t)switch_table_dfu_core_home_next[(size_t)v5];
-                        common_ret_op = switch_load_2;
+                        uint32_t switch_load_3 = (uint32_t)switch_table_dfu_core_home_next[(size_t)v7];
+                        common_ret_op = switch_load_3;
                         goto dfu_boot_c_home_calls_dfu_core_home_next_exit;
                     }
                     case 1:
                         common_ret_op = 0;
                         goto dfu_boot_c_home_calls_dfu_core_home_next_exit;
                     case 2:
-                        r12_118_025 = v6;
+                        r12_118_025 = v8;
                         goto arm_7;
                     case 3:
-                        v8 = v7;
-                        v9 = v6;
+                        v10 = v9;
+                        v11 = v8;
                         break;
                     default: never();
                     }
 arm_8:
                     store32(a4, 2);
-                    store32(a4 + 4, v9);
-                    store32(a4 + 8, v8);
+                    store32(a4 + 4, v11);
+                    store32(a4 + 8, v10);
                     common_ret_op = 0xfffffff5U;
                     goto dfu_boot_c_home_calls_dfu_core_home_next_exit;
                 }
@@ -1735,10 +1628,8 @@ int32_t dfu_core_trial_confirm(const struct dfu_tries *tries, const uint8_t *fla
     uint32_t a3 = at;
     unsigned char *a4 = (unsigned char *)(uintptr_t)ask;
     _Alignas(8) unsigned char r6[48];
-    _Alignas(4) unsigned char r13[16];
-    uint32_t r3_1129_28_copyload, r3_13_28_copyload, switch_load, a0_a1, r5, r7_0;
+    uint32_t r3_1133_28_copyload, r3_13_28_copyload, switch_load, a0_a1, r5, r7_0;
     uint8_t r18_not;
-    memset(r6, 0, 48);
     dfu_boot_c_trial_flash_looked(r6, a0, (unsigned char *)((uintptr_t)a1 + (uintptr_t)(size_t)((a1 == NULL) ? 4096 : 0)), a2);
     uint8_t r19 = *r6;
     if (r19 != 0) {
@@ -1760,14 +1651,14 @@ int32_t dfu_core_trial_confirm(const struct dfu_tries *tries, const uint8_t *fla
     }
     else {
         uint8_t r3_3_0_copyload = r6[24];
-        uint32_t r3_725_0_copyload = load32(r6 + 28);
+        uint32_t r3_729_0_copyload = load32(r6 + 28);
         uint8_t r23 = r6[32];
-        r3_1129_28_copyload = load32(r6 + 36);
+        r3_1133_28_copyload = load32(r6 + 36);
         r3_13_28_copyload = load32(r6 + 40);
         switch_load = (uint32_t)switch_table_dfu_boot_c_trial_flash_prepared[(size_t)r3_3_0_copyload];
-        a0_a1 = umax32(r3_725_0_copyload, switch_load);
+        a0_a1 = umax32(r3_729_0_copyload, switch_load);
         r5 = a0_a1 << 1;
-        r18_not = a3 == (r5 + r3_1129_28_copyload);
+        r18_not = a3 == (r5 + r3_1133_28_copyload);
         if (r23 == 0) {
             if (!r18_not) goto arm_7;
             if (r3_13_28_copyload & 1) {
@@ -1782,13 +1673,11 @@ int32_t dfu_core_trial_confirm(const struct dfu_tries *tries, const uint8_t *fla
                 goto dfu_boot_c_trial_calls_dfu_core_trial_confirm_exit;
             }
         }
-        store32(r13, 1);
-        store32(r13 + 4, 0);
-        store32(r13 + 8, (switch_load + r3_1129_28_copyload) + a0_a1);
-        store32(r13 + 12, switch_load);
-        uint32_t r52 = load32(a0 + 4);
-        uint32_t r55 = dfu_boot_c_trial_told_tell(r13, r52, a4);
-        r7_0 = r55;
+        store32(a4, 2);
+        store32(a4 + 4, (switch_load + r3_1133_28_copyload) + a0_a1);
+        store32(a4 + 8, switch_load);
+        memset(a4 + 12, 0, 256);
+        r7_0 = 0xfffffff5U;
         goto dfu_boot_c_trial_calls_dfu_core_trial_confirm_exit;
 arm_7:
         r7_0 = 0xffffffedU;
@@ -1804,22 +1693,20 @@ int32_t dfu_core_trial_end(const struct dfu_tries *tries, const uint8_t *flash, 
     size_t a2 = (size_t)size;
     unsigned char *a3 = (unsigned char *)(uintptr_t)ask;
     _Alignas(8) unsigned char r5[48];
-    _Alignas(4) unsigned char r7[16];
     uint32_t r6_0;
-    memset(r5, 0, 48);
     dfu_boot_c_trial_flash_looked(r5, a0, (unsigned char *)((uintptr_t)a1 + (uintptr_t)(size_t)((a1 == NULL) ? 4096 : 0)), a2);
     uint8_t r16 = *r5;
     if (r16 == 0) {
         uint8_t r20 = r5[32];
-        uint32_t r21 = (uint32_t)r20;
-        uint32_t r3_4_28_copyload = load32(r5 + 36);
-        store32(r7, r21);
-        store32(r7 + 4, r21);
-        store32(r7 + 8, (uint32_t)((r20 == 0) ? 0 : r3_4_28_copyload));
-        store32(r7 + 12, 0);
-        uint32_t r34 = load32(a0 + 4);
-        uint32_t r37 = dfu_boot_c_trial_told_tell(r7, r34, a3);
-        r6_0 = r37;
+        if (r20 == 0) r6_0 = 0;
+        else {
+            uint32_t r34 = load32(a0 + 4);
+            uint32_t r3_4_28_copyload = load32(r5 + 36);
+            store32(a3, 1);
+            store32(a3 + 4, r3_4_28_copyload);
+            store32(a3 + 8, r34);
+            r6_0 = 0xfffffff5U;
+        }
     }
     else {
         uint8_t r4_0_0_copyload = r5[1];
@@ -1848,9 +1735,9 @@ int32_t dfu_core_trial_look(const struct dfu_tries *tries, const uint8_t *flash,
     size_t a2 = (size_t)size;
     unsigned char *a3 = (unsigned char *)(uintptr_t)standing;
     _Alignas(8) unsigned char r5[48];
-    _Alignas(8) unsigned char r3[40];
-    uint32_t r10_3_4_copyload, r10_5_4_copyload, r9_0_0_0, r9_0_4_0, r9_5_0_0, r9_5_4_0, r9_8_0, r9_10_0, r9_12_0, r6_0;
-    memset(r5, 0, 48);
+    size_t r3_0_0_copyload;
+    uint8_t r3_637_0_copyload;
+    uint32_t r3_938_0_copyload, r3_1241_28_copyload, r3_14_28_copyload, r9_0_0_0, r9_0_4_0, r9_5_0_0, r9_5_4_0, r9_8_0, r9_10_0, r9_12_0, r6_0;
     dfu_boot_c_trial_flash_looked(r5, a0, (unsigned char *)((uintptr_t)a1 + (uintptr_t)(size_t)((a1 == NULL) ? 4096 : 0)), a2);
     uint8_t r14 = *r5;
     if (r14 != 0) {
@@ -1871,35 +1758,40 @@ int32_t dfu_core_trial_look(const struct dfu_tries *tries, const uint8_t *flash,
         }
     }
     else {
-        memcpy(r3, r5 + 8, 24);
+        r3_0_0_copyload = load_size(r5 + 8);
+        r3_637_0_copyload = r5[24];
+        r3_938_0_copyload = load32(r5 + 28);
         uint8_t r18 = r5[32];
-        unsigned char *r20 = r3 + 28;
-        memcpy(r20, r5 + 36, 12);
-        r10_3_4_copyload = load32(r20);
-        r10_5_4_copyload = load32(r3 + 32);
+        r3_1241_28_copyload = load32(r5 + 36);
+        r3_14_28_copyload = load32(r5 + 40);
         if (r18 == 0) {
-            struct i32_i32 r31 = dfu_boot_c_trial_told_image_in(r3, r10_3_4_copyload);
-            uint32_t r32 = r31.a;
-            uint32_t r33 = r31.b;
-            r9_0_0_0 = r32;
-            r9_0_4_0 = r33;
-            r9_5_0_0 = r32;
-            r9_5_4_0 = r33;
+            uint32_t switch_load = (uint32_t)switch_table_dfu_boot_c_trial_flash_prepared[(size_t)r3_637_0_copyload];
+            uint32_t a0_a1 = umax32(r3_938_0_copyload, switch_load);
+            uint32_t r7 = (a0_a1 << 1) + r3_1241_28_copyload;
+            uint32_t r3_1_0_copyload = load32u(((unsigned char *)(uintptr_t)r3_0_0_copyload + (size_t)(a0_a1 + r3_1241_28_copyload)) + 4);
+            r9_0_0_0 = r7;
+            r9_0_4_0 = r3_1_0_copyload;
+            r9_5_0_0 = r7;
+            r9_5_4_0 = r3_1_0_copyload;
             r9_8_0 = 0;
             r9_10_0 = 0;
-            r9_12_0 = r10_5_4_copyload & 1;
+            r9_12_0 = r3_14_28_copyload & 1;
         }
         else {
-            uint32_t r10_6_4_copyload = load32(r3 + 36);
+            uint32_t r3_15_28_copyload = load32(r5 + 44);
             uint32_t r23 = load32(a0 + 8);
-            struct i32_i32 r51 = dfu_boot_c_trial_told_image_in(r3, r10_3_4_copyload);
-            struct i32_i32 r59 = dfu_boot_c_trial_told_image_in(r3, r10_5_4_copyload);
-            r9_0_0_0 = r51.a;
-            r9_0_4_0 = r51.b;
-            r9_5_0_0 = r59.a;
-            r9_5_4_0 = r59.b;
+            uint32_t switch_load_2 = (uint32_t)switch_table_dfu_boot_c_trial_flash_prepared[(size_t)r3_637_0_copyload];
+            uint32_t a0_a1_2 = umax32(r3_938_0_copyload, switch_load_2);
+            uint32_t r5_2 = a0_a1_2 << 1;
+            unsigned char *r23_2 = (unsigned char *)(uintptr_t)r3_0_0_copyload;
+            uint32_t r3_1_0_copyload_2 = load32u((r23_2 + (size_t)(a0_a1_2 + r3_1241_28_copyload)) + 4);
+            uint32_t r3_1_0_copyload_3 = load32u((r23_2 + (size_t)(a0_a1_2 + r3_14_28_copyload)) + 4);
+            r9_0_0_0 = r5_2 + r3_1241_28_copyload;
+            r9_0_4_0 = r3_1_0_copyload_2;
+            r9_5_0_0 = r5_2 + r3_14_28_copyload;
+            r9_5_4_0 = r3_1_0_copyload_3;
             r9_8_0 = 1;
-            r9_10_0 = r23 - r10_6_4_copyload;
+            r9_10_0 = r23 - r3_15_28_copyload;
             r9_12_0 = 0;
         }
         store64a4(a3, ((uint64_t)(size_t)r9_0_4_0 << 32) | (uint64_t)(size_t)r9_0_0_0);
@@ -1919,25 +1811,22 @@ int32_t dfu_core_trial_upload(const struct dfu_tries *tries, const uint8_t *flas
     size_t a2 = (size_t)size;
     unsigned char *a3 = (unsigned char *)(uintptr_t)ask;
     _Alignas(8) unsigned char r5[48];
-    _Alignas(4) unsigned char r7[16];
     uint32_t r6_0;
-    memset(r5, 0, 48);
     dfu_boot_c_trial_flash_looked(r5, a0, (unsigned char *)((uintptr_t)a1 + (uintptr_t)(size_t)((a1 == NULL) ? 4096 : 0)), a2);
     uint8_t r16 = *r5;
     if (r16 == 0) {
         uint8_t r20 = r5[32];
-        uint32_t r3_4_28_copyload = load32(r5 + 36);
         uint32_t r3_7_28_copyload = load32(r5 + 44);
         uint32_t r30 = load32(a0 + 8);
-        uint8_t narrow = (r20 != 0) ? (r3_7_28_copyload >= r30) : 0;
-        uint32_t r7_4_0_0 = (uint32_t)narrow;
-        store32(r7, r7_4_0_0);
-        store32(r7 + 4, r7_4_0_0);
-        store32(r7 + 8, (uint32_t)(narrow ? r3_4_28_copyload : 0));
-        store32(r7 + 12, 0);
-        uint32_t r34 = load32(a0 + 4);
-        uint32_t r37 = dfu_boot_c_trial_told_tell(r7, r34, a3);
-        r6_0 = r37;
+        if ((r20 == 0) ? 1 : (r3_7_28_copyload < r30)) r6_0 = 0;
+        else {
+            uint32_t r34 = load32(a0 + 4);
+            uint32_t r3_4_28_copyload = load32(r5 + 36);
+            store32(a3, 1);
+            store32(a3 + 4, r3_4_28_copyload);
+            store32(a3 + 8, r34);
+            r6_0 = 0xfffffff5U;
+        }
     }
     else {
         uint8_t r4_0_0_copyload = r5[1];

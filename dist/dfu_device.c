@@ -87,7 +87,6 @@ _Static_assert(sizeof(struct dfu_place) == 8, "another layout");
 _Static_assert(_Alignof(struct dfu_place) == 4, "another layout");
 
 struct i64_i8 { uint64_t a; uint8_t b; };
-struct i8_i32 { uint8_t a; uint32_t b; };
 struct i8_i64 { uint8_t a; uint64_t b; };
 
 static inline uint16_t load16(const unsigned char *p) { uint16_t x = 0; memcpy(&x, ALIGNED(p, 2), 2); return x; }
@@ -99,6 +98,7 @@ static inline uint64_t load64u(const unsigned char *p) { uint64_t x = 0; memcpy(
 static inline size_t load_size(const unsigned char *p) { size_t x = 0; memcpy(&x, ALIGNED(p, 8), sizeof x); return x; }
 static inline int32_t signed32(uint32_t x) { int32_t y; memcpy(&y, &x, 4); return y; }
 static inline void store16(unsigned char *p, uint16_t x) { memcpy(ALIGNED(p, 2), &x, 2); }
+static inline void store24u(unsigned char *p, uint32_t x) { memcpy(p, &x, 3); }
 static inline void store32(unsigned char *p, uint32_t x) { memcpy(ALIGNED(p, 4), &x, 4); }
 static inline void store48a4(unsigned char *p, uint64_t x) { memcpy(ALIGNED(p, 4), &x, 6); }
 static inline void store64(unsigned char *p, uint64_t x) { memcpy(ALIGNED(p, 8), &x, 8); }
@@ -161,21 +161,11 @@ static const uint32_t switch_table_dfu_core_candidate[4] = {
 static uint8_t dfu_core_mode_has_mode(unsigned char *a0);
 static void dfu_core_mode_mode_of(unsigned char *a0, unsigned char *a1);
 static void dfu_core_config_settings_of(unsigned char *a0, unsigned char *a1);
-static struct i8_i32 dfu_asks_sector_Sector_new(uint32_t a0);
-static void dfu_core_config_functional_of(unsigned char *a0, unsigned char *a1);
 static void dfu_asks_noted_Noted_find(unsigned char *a0, unsigned char *a1, size_t a2, uint8_t a3, uint32_t a4);
 static void dfu_slots_places_check(unsigned char *a0, unsigned char *a1);
 static uint8_t dfu_slots_layout_is_sized(unsigned char *a0);
 static uint8_t dfu_slots_read_counts(unsigned char *a0, uint32_t a1);
-static uint8_t dfu_slots_read_is_open(unsigned char *a0, uint32_t a1);
-static uint8_t dfu_slots_read_byte_at(unsigned char *a0, uint32_t a1);
-static void core_slice_edits_slice_T_copy_from_slice_i8_core_clone_U8Clone(unsigned char *a0, unsigned char *a2, size_t a3);
-static uint32_t dfu_slots_layout_capacity_of(unsigned char *a0);
-static void dfu_slots_read_read_data(unsigned char *a0, uint32_t a1, uint32_t a2, unsigned char *a3, size_t a4);
 static void dfu_suffix_crc_Crc_update_small(unsigned char *a0, unsigned char *a1, uint64_t a2);
-static uint8_t dfu_slots_places_is_newest(unsigned char *a0, uint32_t a1, uint32_t a2, uint8_t a3, uint8_t a4);
-static uint8_t dfu_slots_read_generation(unsigned char *a0, uint32_t a1);
-static void dfu_slots_read_header_of(unsigned char *a0, unsigned char *a1, uint32_t a2);
 static void dfu_core_mode_idle_mode(unsigned char *a0, unsigned char *a1, unsigned char *a2);
 static void dfu_core_mode_mode_in(unsigned char *a0, unsigned char *a1, unsigned char *a2);
 static void dfu_core_mode_set_mode(unsigned char *a0, unsigned char *a1);
@@ -192,7 +182,6 @@ static uint8_t dfu_asks_format_piece_open_piece(size_t a0, uint32_t a1, unsigned
 static uint8_t dfu_asks_cut_stands(unsigned char *a0, size_t a1, unsigned char *a2);
 static void dfu_asks_cut_runs_of(unsigned char *a0, unsigned char *a1);
 static uint8_t dfu_asks_cut_are_same(unsigned char *a0, size_t a1, unsigned char *a2);
-static void dfu_wire_bytes_two_bytes(unsigned char *a0, uint16_t a1);
 static uint8_t dfu_asks_next_and_took_is_sound(uint32_t a0, unsigned char *a1);
 static void dfu_asks_cut_fill(unsigned char *a0, unsigned char *a1);
 static void dfu_core_keeping_found(unsigned char *a0, unsigned char *a1, size_t a2, unsigned char *a3);
@@ -200,7 +189,6 @@ static uint8_t dfu_asks_next_piece_next_piece(unsigned char *a0, unsigned char *
 static struct i64_i8 dfu_asks_asking_Asking_look_at(unsigned char *a0, unsigned char *a1, unsigned char *a2, size_t a3, unsigned char *a4, uint64_t a5, unsigned char *a6, size_t a7);
 static struct i8_i64 dfu_asks_asking_Asking_fail(unsigned char *a0, uint8_t a1, uint8_t a2, uint16_t a3, unsigned char *a4, size_t a5, unsigned char *a6);
 static void dfu_asks_finish_note(unsigned char *a0, unsigned char *a1, unsigned char *a2, size_t a3, uint8_t a4, uint32_t a5);
-static struct i8_i64 dfu_asks_asking_Asking_answer(unsigned char *a0, uint8_t a1, uint16_t a2, unsigned char *a3);
 static struct i8_i64 dfu_asks_asking_Asking_give(unsigned char *a0, uint8_t a1, uint16_t a2, unsigned char *a3);
 static void dfu_asks_asking_Asking_advance(unsigned char *a0, unsigned char *a1, unsigned char *a2, size_t a3, unsigned char *a4, uint64_t a5, unsigned char *a6, size_t a7, unsigned char *a8);
 static void dfu_core_keeping_keep(unsigned char *a0, unsigned char *a1);
@@ -209,12 +197,8 @@ static void dfu_wire_setups_Setup_request(unsigned char *a0, unsigned char *a1);
 static void dfu_asks_noted_look(unsigned char *a0, unsigned char *a1, unsigned char *a2);
 static void dfu_asks_asking_Asking_see(unsigned char *a0, unsigned char *a1, size_t a2, unsigned char *a3, size_t a4);
 static void dfu_asks_asking_Asking_carry_out(unsigned char *a0, unsigned char *a1, unsigned char *a2, uint8_t a3, uint16_t a4, unsigned char *a5, size_t a6, unsigned char *a7, size_t a8, unsigned char *a9, uint64_t a10, unsigned char *a11, unsigned char *a12, unsigned char *a13, size_t a14);
-static void dfu_asks_asking_Asking_block_job(unsigned char *a0, unsigned char *a1, uint32_t a2, unsigned char *a3, unsigned char *a4);
 static void dfu_device_table_decide(unsigned char *a0, unsigned char *a1, unsigned char *a2, unsigned char *a3);
-static void dfu_device_plans_block(unsigned char *a0, unsigned char *a1, uint32_t a2, uint16_t a3, uint16_t a4, uint16_t a5);
-static void dfu_device_plans_upload(unsigned char *a0, unsigned char *a1, uint32_t a2, uint16_t a3, uint16_t a4, uint16_t a5);
 static uint32_t dfu_device_c_power_start(unsigned char *a0, unsigned char *a1, unsigned char *a2, size_t a3, uint32_t a4);
-static uint8_t dfu_asks_blank_is_erased(unsigned char *a0, size_t a2, uint64_t a3);
 
 /* dfu_core::mode::has_mode: crates/dfu_core/src/mode.rt */
 static uint8_t dfu_core_mode_has_mode(unsigned char *a0) {
@@ -232,11 +216,6 @@ static void dfu_core_mode_mode_of(unsigned char *a0, unsigned char *a1) {
     uint32_t r16 = load32(a1);
     if (r16 != 300) {
         store32(a0, 0);
-        a0[4] = 0;
-        a0[5] = 0;
-        store32(a0 + 8, 0);
-        store32(a0 + 12, 0);
-        store32(a0 + 16, 0);
         return;
     }
     r35 = load32(a1 + 8);
@@ -295,11 +274,6 @@ static void dfu_core_mode_mode_of(unsigned char *a0, unsigned char *a1) {
     case 12:
         if (r39 >= 16) {
             store32(a0, 0);
-            a0[4] = 0;
-            a0[5] = 0;
-            store32(a0 + 8, 0);
-            store32(a0 + 12, 0);
-            store32(a0 + 16, 0);
             return;
         }
         r11_15_0 = (uint8_t)r39;
@@ -310,11 +284,6 @@ static void dfu_core_mode_mode_of(unsigned char *a0, unsigned char *a1) {
         break;
     default:
         store32(a0, 0);
-        a0[4] = 0;
-        a0[5] = 0;
-        store32(a0 + 8, 0);
-        store32(a0 + 12, 0);
-        store32(a0 + 16, 0);
         return;
     }
     store32(a0, 1);
@@ -328,12 +297,11 @@ static void dfu_core_mode_mode_of(unsigned char *a0, unsigned char *a1) {
 
 /* dfu_core::config::settings_of: crates/dfu_core/src/config.rt */
 static void dfu_core_config_settings_of(unsigned char *a0, unsigned char *a1) {
-    _Alignas(4) unsigned char r6[10];
     _Alignas(4) unsigned char r22_4_6_5[3];
-    uint32_t r11, r54, r58, r87, r89, r91, r22_4_6_6_0, r22_4_3_0, r22_4_4_0, r22_4_5_0, r22_4_9_0, r22_0_0_0;
-    uint8_t r3_0_0, r2_0_0_copyload, r2_3_0_copyload, r2_4_0_copyload, r2_6_0_copyload, r22_4_0_6_0, r22_4_0_5_0, r22_4_0_4_0, r22_4_0_3_0, r22_4_6_4_0;
+    uint32_t r11, r54, r87, r89, r91, r22_4_6_6_0, r22_4_3_0, r22_4_4_0, r22_4_5_0, r22_0_0_0;
+    uint8_t r3_0_0, r5_2, r5_lobit, r5_3, r5_lobit_2, r5_lobit_3, r22_4_0_6_0, r22_4_0_5_0, r22_4_0_4_0, r22_4_0_3_0, r22_4_6_4_0;
+    uint16_t r7, r9, r22_4_0_7_0, r22_4_0_8_0, r22_4_0_9_0, r22_4_6_0_0, r22_4_6_3_0;
     uint64_t r5_0_0, r22_4_0_0_0;
-    uint16_t r2_7_0_copyload, r2_8_0_copyload, r22_4_0_7_0, r22_4_0_8_0, r22_4_0_9_0, r22_4_6_0_0, r22_4_6_3_0;
     memset(r22_4_6_5, 0, 3);
     r11 = load32(a1 + 28);
     switch (r11) {
@@ -355,26 +323,25 @@ static void dfu_core_config_settings_of(unsigned char *a0, unsigned char *a1) {
         uint32_t switch_load = (uint32_t)switch_table_dfu_slots_layout_fill_size[(size_t)r3_0_0];
         if (switch_load == r11) {
             r54 = load32(a1 + 32);
-            struct i8_i32 r56 = dfu_asks_sector_Sector_new(r54);
-            r58 = r56.b;
-            if (!(r56.a & 1)) {
+            if (!((r54 < 0x20001U) & ((r54 & 255) == 0))) {
                 memset(a0, 0, 52);
                 return;
             }
             uint16_t r76 = load16(a1 + 4);
             uint32_t r78 = load32a2(a1 + 6);
-            dfu_core_config_functional_of(r6, a1);
+            uint8_t r5 = a1[14];
+            r7 = load16(a1 + 10);
+            r9 = load16(a1 + 12);
+            r5_2 = r5 & 1;
+            r5_lobit = (uint8_t)(r5 >> 1) & 1;
+            r5_3 = (uint8_t)(r5 >> 2);
+            r5_lobit_2 = r5_3 & 1;
+            r5_lobit_3 = (uint8_t)(r5 >> 3) & 1;
             r87 = load32(a1 + 24);
             r89 = load32(a1 + 16);
             r91 = load32(a1 + 20);
             r5_0_0 = (((uint64_t)r78 << 16) & 0xffffffffffffULL) | (uint64_t)r76;
-            r2_0_0_copyload = *r6;
-            r2_3_0_copyload = r6[1];
-            r2_4_0_copyload = r6[2];
-            r2_6_0_copyload = r6[3];
-            r2_7_0_copyload = load16(r6 + 4);
-            r2_8_0_copyload = load16(r6 + 6);
-            if ((uint16_t)(r2_8_0_copyload + 0xefffU) < 0xf000U) {
+            if ((uint16_t)(r9 + 0xefffU) < 0xf000U) {
                 r22_4_0_6_0 = 0;
                 r22_4_0_7_0 = 0;
                 r22_4_0_8_0 = 0;
@@ -390,11 +357,10 @@ static void dfu_core_config_settings_of(unsigned char *a0, unsigned char *a1) {
                 r22_4_3_0 = 0;
                 r22_4_4_0 = 0;
                 r22_4_5_0 = 0;
-                r22_4_9_0 = 0;
                 r22_0_0_0 = 0;
             }
             else {
-                if (!((((r89 | (r87 - 1)) | r91) < 0x1000000U) ? ((r91 != 0) | (r2_4_0_copyload & 1)) : 0)) {
+                if (!((((r89 | (r87 - 1)) | r91) < 0x1000000U) & ((r91 != 0) | (r5_3 & 1)))) {
                     r22_4_0_6_0 = 0;
                     r22_4_0_7_0 = 0;
                     r22_4_0_8_0 = 0;
@@ -410,20 +376,18 @@ static void dfu_core_config_settings_of(unsigned char *a0, unsigned char *a1) {
                     r22_4_3_0 = 0;
                     r22_4_4_0 = 0;
                     r22_4_5_0 = 0;
-                    r22_4_9_0 = 0;
                     r22_0_0_0 = 0;
                 }
                 else {
                     uint16_t r98 = load16(a1 + 36);
                     uint16_t r100 = load16(a1 + 38);
-                    memset(r22_4_6_5, 0, 3);
-                    r22_4_0_6_0 = r2_6_0_copyload & 1;
-                    r22_4_0_7_0 = r2_7_0_copyload;
-                    r22_4_0_8_0 = r2_8_0_copyload;
+                    r22_4_0_6_0 = r5_lobit_3;
+                    r22_4_0_7_0 = r7;
+                    r22_4_0_8_0 = r9;
                     r22_4_0_9_0 = 272;
-                    r22_4_0_5_0 = r2_4_0_copyload & 1;
-                    r22_4_0_4_0 = r2_3_0_copyload & 1;
-                    r22_4_0_3_0 = r2_0_0_copyload & 1;
+                    r22_4_0_5_0 = r5_lobit_2;
+                    r22_4_0_4_0 = r5_lobit;
+                    r22_4_0_3_0 = r5_2;
                     r22_4_0_0_0 = r5_0_0;
                     r22_4_6_0_0 = r98;
                     r22_4_6_3_0 = r100;
@@ -432,7 +396,6 @@ static void dfu_core_config_settings_of(unsigned char *a0, unsigned char *a1) {
                     r22_4_3_0 = r87;
                     r22_4_4_0 = r89;
                     r22_4_5_0 = r91;
-                    r22_4_9_0 = r58;
                     r22_0_0_0 = 1;
                 }
             }
@@ -454,36 +417,11 @@ static void dfu_core_config_settings_of(unsigned char *a0, unsigned char *a1) {
             memcpy(a0 + 37, r22_4_6_5, 3);
             store32(a0 + 40, r22_4_6_6_0);
             a0[44] = r22_4_6_4_0;
-            store32(a0 + 48, r22_4_9_0);
+            store32(a0 + 48, r22_4_6_6_0);
             return;
         }
     }
     memset(a0, 0, 52);
-    return;
-}
-
-/* dfu_asks::sector::Sector::new */
-static struct i8_i32 dfu_asks_sector_Sector_new(uint32_t a0) {
-    uint8_t or_cond = (a0 < 0x20001U) & ((a0 & 255) == 0);
-    struct i8_i32 r24_half = (struct i8_i32){ 0, 0 };
-    r24_half.a = or_cond;
-    struct i8_i32 r24 = r24_half;
-    r24.b = (uint32_t)(or_cond ? a0 : 0);
-    return r24;
-}
-
-/* dfu_core::config::functional_of: crates/dfu_core/src/config.rt */
-static void dfu_core_config_functional_of(unsigned char *a0, unsigned char *a1) {
-    uint8_t r5 = a1[14];
-    uint16_t r7 = load16(a1 + 10);
-    uint16_t r9 = load16(a1 + 12);
-    *a0 = r5 & 1;
-    a0[1] = (uint8_t)(r5 >> 1) & 1;
-    a0[2] = (uint8_t)(r5 >> 2) & 1;
-    a0[3] = (uint8_t)(r5 >> 3) & 1;
-    store16(a0 + 4, r7);
-    store16(a0 + 6, r9);
-    store16(a0 + 8, 272);
     return;
 }
 
@@ -510,7 +448,8 @@ static void dfu_asks_noted_Noted_find(unsigned char *a0, unsigned char *a1, size
     }
     else {
         uint32_t r8_0_0_copyload = load32(r12 + 4);
-        dfu_slots_read_header_of(r14_6, r5, r8_0_0_copyload);
+        uint32_t switch_load = (uint32_t)switch_table_dfu_asks_next_piece_numbered_piece[(size_t)a3];
+        memcpy(r14_6, a1 + (size_t)(umax32(a4, switch_load) + r8_0_0_copyload), 16);
         r14_0_0 = 1;
         r14_4_0 = r8_0_0_copyload != 0;
     }
@@ -522,16 +461,13 @@ static void dfu_asks_noted_Noted_find(unsigned char *a0, unsigned char *a1, size
 
 /* dfu_slots::places::check::<#ab3713f43cb9a70d>: crates/dfu_slots/src/places.rt */
 static void dfu_slots_places_check(unsigned char *a0, unsigned char *a1) {
-    _Alignas(1) unsigned char r3_4[16];
     uint8_t r5, r11;
-    unsigned char *r2;
-    uint32_t r72_2, r72_3, r1_9_0_copyload, v3, v4;
-    uint8_t r1_2_0_copyload, v50;
+    unsigned char *r2, *r25;
+    uint32_t r81, r72, r72_2, r72_3, a0_a1_2, v5, v6;
+    uint8_t r1_0_0_copyload_2, r1_0_0_copyload_3, r16, r3_5_0_copyload, v50;
     uint8_t r12 = dfu_slots_layout_is_sized(a1);
     if (!r12) {
         *a0 = 1;
-        store32(a0 + 4, 0);
-        store32(a0 + 8, 0);
         return;
     }
     r5 = dfu_slots_read_counts(a1, 0);
@@ -540,59 +476,81 @@ static void dfu_slots_places_check(unsigned char *a0, unsigned char *a1) {
     r11 = dfu_slots_read_counts(a1, (uint32_t)r3 >> 1);
     if (!(r5 | r11)) {
         *a0 = 1;
-        store32(a0 + 4, 0);
-        store32(a0 + 8, 0);
         return;
     }
     size_t r3_2 = load_size(r2);
-    uint8_t r15 = dfu_slots_places_is_newest(a1, 0, (uint32_t)r3_2 >> 1, r5, r11);
-    size_t r3_3 = load_size(r2);
-    uint32_t r72 = (uint32_t)r3_3 >> 1;
-    r72_2 = (uint32_t)(r15 ? 0 : r72);
-    r72_3 = (uint32_t)(r15 ? r72 : 0);
-    if (r72_2 == 0) {
-        uint8_t r24 = dfu_slots_places_is_newest(a1, 0, r72_3, r5, r11);
-        if (!r24) goto then_7;
-    }
-    else {
-        uint8_t r33 = dfu_slots_places_is_newest(a1, r72_2, r72_3, r11, r5);
-        if (!r33) goto then_7;
-    }
-    dfu_slots_read_header_of(r3_4, a1, r72_2);
-    r1_2_0_copyload = r3_4[1];
-    r1_9_0_copyload = load32u(r3_4 + 12);
-    if (r1_2_0_copyload == 2) {
-        v50 = 0;
-        v3 = r72_3;
-        v4 = r72_2;
-    }
-    else {
-        uint32_t r1_6_0_copyload = load32u(r3_4 + 4);
-        uint32_t r1_8_0_copyload = load32u(r3_4 + 8);
-        uint8_t r1_5_0_copyload = r3_4[3];
-        uint8_t r1_4_0_copyload = r3_4[2];
-        uint32_t r26 = dfu_slots_layout_capacity_of(a1);
-        if (((((r1_2_0_copyload == 1) & (r1_6_0_copyload <= r26)) ? (r1_4_0_copyload == 0) : 0) ? (r1_5_0_copyload == 0) : 0) ? (r1_8_0_copyload == 0) : 0) {
-            if (r1_9_0_copyload == 0) {
-                v50 = 0;
-                v3 = r72_3;
-                v4 = r72_2;
-                goto v2;
-            }
+    r81 = (uint32_t)r3_2 >> 1;
+    if (!(r5 & r11)) {
+        if (r5 | (r81 == 0)) {
+            if (!r5) goto then_7;
+            r72_2 = r81;
+            r72_3 = 0;
         }
-        v50 = 1;
-        v3 = 0;
-        v4 = 0;
+        else {
+            if (!r11) goto then_7;
+            r72_2 = 0;
+            r72_3 = r81;
+        }
     }
-v2:
+    else {
+        uint8_t r0_0_0_copyload = a1[16];
+        uint32_t r1_0_0_copyload = load32(a1 + 20);
+        uint32_t switch_load = (uint32_t)switch_table_dfu_asks_next_piece_numbered_piece[(size_t)r0_0_0_copyload];
+        uint32_t a0_a1 = umax32(r1_0_0_copyload, switch_load);
+        size_t r5_0_0_copyload = load_size(a1);
+        unsigned char *r23 = (unsigned char *)(uintptr_t)r5_0_0_copyload;
+        r1_0_0_copyload_2 = r23[(size_t)a0_a1];
+        r1_0_0_copyload_3 = r23[(size_t)(a0_a1 + r81)];
+        uint8_t r19 = r1_0_0_copyload_2 == (uint8_t)(r1_0_0_copyload_3 + 1);
+        r72 = (uint32_t)(r19 ? r81 : 0);
+        uint8_t r1_0_0_copyload_4 = r23[(size_t)(a0_a1 + r72)];
+        r16 = (uint8_t)(r1_0_0_copyload_4 + 1);
+        if ((r81 == 0) | r19) {
+            if (r1_0_0_copyload_2 != r16) goto then_7;
+            r72_2 = r72;
+            r72_3 = 0;
+        }
+        else {
+            if (r1_0_0_copyload_3 != r16) goto then_7;
+            r72_2 = r72;
+            r72_3 = r81;
+        }
+    }
+    uint8_t r0_0_0_copyload_2 = a1[16];
+    uint32_t r1_0_0_copyload_5 = load32(a1 + 20);
+    uint32_t switch_load_2 = (uint32_t)switch_table_dfu_asks_next_piece_numbered_piece[(size_t)r0_0_0_copyload_2];
+    a0_a1_2 = umax32(r1_0_0_copyload_5, switch_load_2);
+    size_t r5_0_0_copyload_2 = load_size(a1);
+    r25 = (unsigned char *)(uintptr_t)r5_0_0_copyload_2 + (size_t)(a0_a1_2 + r72_3);
+    r3_5_0_copyload = r25[1];
+    if (r3_5_0_copyload == 2) {
+        v50 = 0;
+        v5 = r72_2;
+        v6 = r72_3;
+    }
+    else {
+        uint32_t r3_10_0_copyload = load32u(r25 + 12);
+        uint32_t r3_9_0_copyload = load32u(r25 + 8);
+        uint32_t r3_8_0_copyload = load32u(r25 + 4);
+        uint8_t r3_7_0_copyload = r25[3];
+        uint8_t r3_6_0_copyload = r25[2];
+        if (((((r3_5_0_copyload == 1) & (r3_8_0_copyload <= (r81 - (a0_a1_2 << 1)))) ? (r3_6_0_copyload == 0) : 0) ? (r3_7_0_copyload == 0) : 0) ? ((r3_10_0_copyload | r3_9_0_copyload) == 0) : 0) {
+            v50 = 0;
+            v5 = r72_2;
+            v6 = r72_3;
+        }
+        else {
+            v50 = 1;
+            v5 = 0;
+            v6 = 0;
+        }
+    }
     *a0 = v50;
-    store32(a0 + 4, v4);
-    store32(a0 + 8, v3);
+    store32(a0 + 4, v6);
+    store32(a0 + 8, v5);
     return;
 then_7:
     *a0 = 1;
-    store32(a0 + 4, 0);
-    store32(a0 + 8, 0);
     return;
 }
 
@@ -630,97 +588,50 @@ static uint8_t dfu_slots_layout_is_sized(unsigned char *a0) {
 /* dfu_slots::read::counts::<#ab3713f43cb9a70d>: crates/dfu_slots/src/read.rt */
 static uint8_t dfu_slots_read_counts(unsigned char *a0, uint32_t a1) {
     _Alignas(1) unsigned char r2[64];
-    _Alignas(1) unsigned char r3_2[16];
-    _Alignas(1) unsigned char r3[16];
     _Alignas(4) unsigned char r1[4];
-    uint8_t r1_2_0_copyload, r1_3_0_copyload, r1_4_0_copyload;
-    uint32_t r1_5_0_copyload, r1_6_0_copyload, r1_7_0_copyload, r3_0;
-    uint8_t common_ret_op, r1_0_in;
-    uint8_t r8 = dfu_slots_read_is_open(a0, a1);
-    if (!r8) r1_0_in = 0;
+    unsigned char *r23, *r25;
+    uint32_t a0_a1, r3_6_0_copyload, r3_7_0_copyload, r3_8_0_copyload, r10, r7, r3_0;
+    uint8_t r3_4_0_copyload, r3_5_0_copyload;
+    uint8_t r1_0_in;
+    size_t r5_0_0_copyload = load_size(a0);
+    r23 = (unsigned char *)(uintptr_t)r5_0_0_copyload;
+    uint8_t r1_0_0_copyload = r23[(size_t)a1];
+    if (r1_0_0_copyload != 165) r1_0_in = 0;
     else {
-        dfu_slots_read_header_of(r3, a0, a1);
-        uint8_t r4_2_0_copyload = r3[1];
-        if (r4_2_0_copyload != 2) r1_0_in = 1;
+        uint8_t r0_0_0_copyload = a0[16];
+        uint32_t r1_0_0_copyload_2 = load32(a0 + 20);
+        uint32_t switch_load = (uint32_t)switch_table_dfu_asks_next_piece_numbered_piece[(size_t)r0_0_0_copyload];
+        a0_a1 = umax32(r1_0_0_copyload_2, switch_load);
+        r25 = r23 + (size_t)(a0_a1 + a1);
+        uint8_t r3_1_0_copyload = r25[1];
+        if (r3_1_0_copyload != 2) r1_0_in = 1;
         else {
-            dfu_slots_read_header_of(r3_2, a0, a1);
-            r1_2_0_copyload = r3_2[1];
-            r1_3_0_copyload = r3_2[2];
-            r1_4_0_copyload = r3_2[3];
-            r1_5_0_copyload = load32u(r3_2 + 4);
-            r1_6_0_copyload = load32u(r3_2 + 8);
-            r1_7_0_copyload = load32u(r3_2 + 12);
-            uint32_t r10 = dfu_slots_layout_capacity_of(a0);
-            if (r10 < r1_5_0_copyload) common_ret_op = 0;
+            r3_4_0_copyload = r25[2];
+            r3_5_0_copyload = r25[3];
+            r3_6_0_copyload = load32u(r25 + 4);
+            r3_7_0_copyload = load32u(r25 + 8);
+            r3_8_0_copyload = load32u(r25 + 12);
+            size_t r3 = load_size(a0 + 8);
+            r10 = a0_a1 << 1;
+            if ((((uint32_t)r3 >> 1) - r10) < r3_6_0_copyload) r1_0_in = 0;
             else {
                 store32(r1, 0xffffffffU);
                 memset(r2, 0, 64);
+                r7 = r10 + a1;
                 r3_0 = 0;
-                while (r3_0 < r1_5_0_copyload) {
-                    uint32_t a1_a0 = umin32(r1_5_0_copyload - r3_0, 64);
+                while (r3_0 < r3_6_0_copyload) {
+                    uint32_t a1_a0 = umin32(r3_6_0_copyload - r3_0, 64);
                     size_t r28 = (size_t)a1_a0;
-                    dfu_slots_read_read_data(a0, a1, r3_0, r2, r28);
+                    memcpy(r2, r23 + (size_t)(r7 + r3_0), r28);
                     dfu_suffix_crc_Crc_update_small(r1, r2, r28);
                     r3_0 = a1_a0 + r3_0;
                 }
-                uint32_t r0_0_0_copyload = load32(r1);
-                common_ret_op = ((((r1_2_0_copyload == 2) ? (r1_3_0_copyload == 0) : 0) ? (r1_4_0_copyload == 0) : 0) ? (r1_6_0_copyload == r0_0_0_copyload) : 0) ? (r1_7_0_copyload == 0) : 0;
+                uint32_t r0_0_0_copyload_2 = load32(r1);
+                r1_0_in = (((r3_4_0_copyload == 0) ? (r3_5_0_copyload == 0) : 0) ? (r3_7_0_copyload == r0_0_0_copyload_2) : 0) ? (r3_8_0_copyload == 0) : 0;
             }
-            r1_0_in = common_ret_op;
         }
     }
     return r1_0_in;
-}
-
-/* dfu_slots::read::is_open::<#ab3713f43cb9a70d>: crates/dfu_slots/src/read.rt */
-static uint8_t dfu_slots_read_is_open(unsigned char *a0, uint32_t a1) {
-    uint8_t r2 = dfu_slots_read_byte_at(a0, a1);
-    return r2 == 165;
-}
-
-/* dfu_slots::read::byte_at::<#ab3713f43cb9a70d>: crates/dfu_slots/src/read.rt */
-static uint8_t dfu_slots_read_byte_at(unsigned char *a0, uint32_t a1) {
-    _Alignas(4) unsigned char r1[1];
-    *r1 = 0;
-    size_t r5_0_0_copyload = load_size(a0);
-    core_slice_edits_slice_T_copy_from_slice_i8_core_clone_U8Clone(r1, (unsigned char *)(uintptr_t)r5_0_0_copyload + (size_t)a1, 1);
-    uint8_t r15 = *r1;
-    return r15;
-}
-
-/* core::slice::edits::slice+T::copy_from_slice::<i8,20'core::clone::U8Clone{}> */
-static void core_slice_edits_slice_T_copy_from_slice_i8_core_clone_U8Clone(unsigned char *a0, unsigned char *a2, size_t a3) {
-    size_t r0_0;
-    if (((uint64_t)(size_t)(uintptr_t)a0 - (uint64_t)(size_t)(uintptr_t)a2) >= (uint64_t)a3) {
-        memmove(a0, a2, a3);
-        return;
-    }
-    r0_0 = 0;
-    for (;;) {
-        if (r0_0 == a3) return;
-        uint8_t r26 = a2[r0_0];
-        a0[r0_0] = r26;
-        r0_0 = r0_0 + 1;
-    }
-}
-
-/* dfu_slots::layout::capacity_of::<#ab3713f43cb9a70d>: crates/dfu_slots/src/layout.rt */
-static uint32_t dfu_slots_layout_capacity_of(unsigned char *a0) {
-    size_t r3 = load_size(a0 + 8);
-    uint8_t r0_0_0_copyload = a0[16];
-    uint32_t r1_0_0_copyload = load32(a0 + 20);
-    uint32_t switch_load = (uint32_t)switch_table_dfu_asks_next_piece_numbered_piece[(size_t)r0_0_0_copyload];
-    return ((uint32_t)r3 >> 1) - (umax32(r1_0_0_copyload, switch_load) << 1);
-}
-
-/* dfu_slots::read::read_data::<#ab3713f43cb9a70d>: crates/dfu_slots/src/read.rt */
-static void dfu_slots_read_read_data(unsigned char *a0, uint32_t a1, uint32_t a2, unsigned char *a3, size_t a4) {
-    uint8_t r0_0_0_copyload = a0[16];
-    uint32_t r1_0_0_copyload = load32(a0 + 20);
-    uint32_t switch_load = (uint32_t)switch_table_dfu_asks_next_piece_numbered_piece[(size_t)r0_0_0_copyload];
-    size_t r5_0_0_copyload = load_size(a0);
-    core_slice_edits_slice_T_copy_from_slice_i8_core_clone_U8Clone(a3, (unsigned char *)(uintptr_t)r5_0_0_copyload + (size_t)((a2 + a1) + (umax32(r1_0_0_copyload, switch_load) << 1)), a4);
-    return;
 }
 
 /* dfu_suffix::crc::Crc::update_small: crates/dfu_suffix/src/crc.rt */
@@ -743,44 +654,10 @@ static void dfu_suffix_crc_Crc_update_small(unsigned char *a0, unsigned char *a1
     return;
 }
 
-/* dfu_slots::places::is_newest::<#ab3713f43cb9a70d>: crates/dfu_slots/src/places.rt */
-static uint8_t dfu_slots_places_is_newest(unsigned char *a0, uint32_t a1, uint32_t a2, uint8_t a3, uint8_t a4) {
-    uint8_t r1_0_in;
-    if (!(a3 & a4)) r1_0_in = a3;
-    else {
-        uint8_t r13 = dfu_slots_read_generation(a0, a1);
-        uint8_t r14 = dfu_slots_read_generation(a0, a2);
-        r1_0_in = r13 == (uint8_t)(r14 + 1);
-    }
-    return r1_0_in;
-}
-
-/* dfu_slots::read::generation::<#ab3713f43cb9a70d>: crates/dfu_slots/src/read.rt */
-static uint8_t dfu_slots_read_generation(unsigned char *a0, uint32_t a1) {
-    uint8_t r0_0_0_copyload = a0[16];
-    uint32_t r1_0_0_copyload = load32(a0 + 20);
-    uint32_t switch_load = (uint32_t)switch_table_dfu_asks_next_piece_numbered_piece[(size_t)r0_0_0_copyload];
-    uint8_t r7 = dfu_slots_read_byte_at(a0, umax32(r1_0_0_copyload, switch_load) + a1);
-    return r7;
-}
-
-/* dfu_slots::read::header_of::<#ab3713f43cb9a70d>: crates/dfu_slots/src/read.rt */
-static void dfu_slots_read_header_of(unsigned char *a0, unsigned char *a1, uint32_t a2) {
-    _Alignas(1) unsigned char r1[16];
-    memset(r1, 0, 16);
-    uint8_t r0_0_0_copyload = a1[16];
-    uint32_t r1_0_0_copyload = load32(a1 + 20);
-    uint32_t switch_load = (uint32_t)switch_table_dfu_asks_next_piece_numbered_piece[(size_t)r0_0_0_copyload];
-    size_t r5_0_0_copyload = load_size(a1);
-    core_slice_edits_slice_T_copy_from_slice_i8_core_clone_U8Clone(r1, (unsigned char *)(uintptr_t)r5_0_0_copyload + (size_t)(umax32(r1_0_0_copyload, switch_load) + a2), 16);
-    memcpy(a0, r1, 16);
-    return;
-}
-
 /* dfu_core::mode::idle_mode: crates/dfu_core/src/mode.rt */
 static void dfu_core_mode_idle_mode(unsigned char *a0, unsigned char *a1, unsigned char *a2) {
     _Alignas(4) unsigned char r7[68];
-    unsigned char *r52, *r54;
+    unsigned char *r52;
     dfu_core_mode_mode_in(r7, a1, a2);
     uint8_t r1_0_0_copyload = *r7;
     r52 = a0 + 1;
@@ -788,15 +665,12 @@ static void dfu_core_mode_idle_mode(unsigned char *a0, unsigned char *a1, unsign
         uint8_t r1_3_1_copyload = r7[1];
         *a0 = 1;
         *r52 = r1_3_1_copyload;
-        memset(a0 + 4, 0, 64);
         return;
     }
     uint32_t r31 = load32(a2 + 44);
-    r54 = a0 + 4;
     if (r31 != 0) {
         *a0 = 1;
         *r52 = 2;
-        memset(r54, 0, 64);
         return;
     }
     uint32_t r8_6_10_2_copyload = load32(r7 + 64);
@@ -805,8 +679,7 @@ static void dfu_core_mode_idle_mode(unsigned char *a0, unsigned char *a1, unsign
     uint8_t r8_6_6_2_copyload = r7[53];
     uint8_t r8_6_5_2_copyload = r7[52];
     *a0 = 0;
-    *r52 = 0;
-    memcpy(r54, r7 + 4, 48);
+    memcpy(a0 + 4, r7 + 4, 48);
     a0[52] = r8_6_5_2_copyload;
     a0[53] = r8_6_6_2_copyload;
     store32(a0 + 56, r8_6_8_2_copyload);
@@ -828,7 +701,6 @@ static void dfu_core_mode_mode_in(unsigned char *a0, unsigned char *a1, unsigned
     if (r9 != 1) {
         *a0 = 1;
         a0[1] = 0;
-        memset(a0 + 4, 0, 64);
         return;
     }
     dfu_core_mode_mode_of(r5, a2);
@@ -1149,8 +1021,8 @@ static uint8_t dfu_asks_next_piece_numbered_piece(unsigned char *a0, size_t a1, 
     uint32_t v0, v1, r20_0_0_copyload, r31, spec_select, r25_2737_0, r25_35_0;
     uint16_t v2;
     uint8_t r18_0_0_copyload, r25_21_0, r25_21_0_ph48, r25_21_0_ph47;
-    size_t r1, r17_3, r19, r1_4, r1_5, r54, r56, r18_4, r1_7, r5_0, r18_2, r5652;
-    size_t r5450, r5651, r5449, r6_4_0, r6_4_0_ph20;
+    size_t r1, r17_3, r19, r1_4, r54, r56, r18_4, r1_6, r5_0, r18_2, r5652, r5450;
+    size_t r5651, r5449, r6_4_0, r6_4_0_ph20;
     unsigned char *r18_3, *r17_4, *r17_2, *r17_5;
     uint64_t r26, r25_15_0, r18_5, r4_0, r25_15_0_ph46, r25_15_0_ph45;
     uint8_t r21_0_shrunk;
@@ -1235,49 +1107,32 @@ static uint8_t dfu_asks_next_piece_numbered_piece(unsigned char *a0, size_t a1, 
             r25_35_0 = ((switch_load_4 - (v6 & r1_3)) & v6) + r1_3;
             break;
         }
-        case 1:
+        case 1: {
+            uint32_t switch_load35 = (uint32_t)switch_table_dfu_asks_next_piece_numbered_piece[(size_t)r18_0_0_copyload];
+            r25_15_0 = (uint64_t)(size_t)umax32(r20_0_0_copyload, switch_load35) + (uint64_t)(size_t)v0;
+            r25_21_0 = 2;
+            r25_2737_0 = 0;
+            r25_35_0 = switch_load35;
+            break;
+        }
+        case 2:
             r1_4 = (size_t)v0;
             switch (r18_0_0_copyload) {
             case 0:
             case 1:
-                r25_15_0 = (uint64_t)(size_t)umax32(r20_0_0_copyload, 16) + (uint64_t)r1_4;
-                r25_21_0 = 2;
-                r25_2737_0 = 0;
-                r25_35_0 = 16;
-                break;
-            case 2:
-                r25_15_0 = (uint64_t)(size_t)umax32(r20_0_0_copyload, 64) + (uint64_t)r1_4;
-                r25_21_0 = 2;
-                r25_2737_0 = 0;
-                r25_35_0 = 64;
-                break;
-            case 3:
-                r25_15_0 = (uint64_t)(size_t)umax32(r20_0_0_copyload, 256) + (uint64_t)r1_4;
-                r25_21_0 = 2;
-                r25_2737_0 = 0;
-                r25_35_0 = 256;
-                break;
-            default: never();
-            }
-            break;
-        case 2:
-            r1_5 = (size_t)v0;
-            switch (r18_0_0_copyload) {
-            case 0:
-            case 1:
-                r25_15_0 = r1_5;
+                r25_15_0 = r1_4;
                 r25_21_0 = 3;
                 r25_2737_0 = 0;
                 r25_35_0 = 16;
                 break;
             case 2:
-                r25_15_0 = r1_5;
+                r25_15_0 = r1_4;
                 r25_21_0 = 3;
                 r25_2737_0 = 0;
                 r25_35_0 = 64;
                 break;
             case 3:
-                r25_15_0 = r1_5;
+                r25_15_0 = r1_4;
                 r25_21_0 = 3;
                 r25_2737_0 = 0;
                 r25_35_0 = 256;
@@ -1293,14 +1148,14 @@ static uint8_t dfu_asks_next_piece_numbered_piece(unsigned char *a0, size_t a1, 
             r21_0_shrunk = 0;
             goto join_4;
         }
-        size_t v7 = (size_t)r18_0_0_copyload;
-        uint32_t switch_load_5 = (uint32_t)switch_table_dfu_slots_layout_fill_size[v7];
-        uint32_t v8 = switch_load_5 - 1;
-        uint64_t r42 = (uint64_t)(size_t)((switch_load_5 - (v8 & v1)) & v8) + (uint64_t)(size_t)v1;
-        size_t r1_6 = (size_t)v0;
-        size_t a1_a0 = (size_t)umin64(r42, r1_6);
-        uint32_t switch_load69 = (uint32_t)switch_table_dfu_asks_next_piece_numbered_piece[v7];
-        r25_15_0 = ((uint64_t)(size_t)umax32(r20_0_0_copyload, switch_load69) << 1) + (uint64_t)r1_6;
+        size_t v8 = (size_t)r18_0_0_copyload;
+        uint32_t switch_load_5 = (uint32_t)switch_table_dfu_slots_layout_fill_size[v8];
+        uint32_t v9 = switch_load_5 - 1;
+        uint64_t r42 = (uint64_t)(size_t)((switch_load_5 - (v9 & v1)) & v9) + (uint64_t)(size_t)v1;
+        size_t r1_5 = (size_t)v0;
+        size_t a1_a0 = (size_t)umin64(r42, r1_5);
+        uint32_t switch_load69 = (uint32_t)switch_table_dfu_asks_next_piece_numbered_piece[v8];
+        r25_15_0 = ((uint64_t)(size_t)umax32(r20_0_0_copyload, switch_load69) << 1) + (uint64_t)r1_5;
         r25_21_0 = 0;
         r25_2737_0 = (uint32_t)a1_a0;
         r25_35_0 = (uint32_t)(size_t)umin64(r42 - (uint64_t)a1_a0, 4096);
@@ -1313,21 +1168,21 @@ static uint8_t dfu_asks_next_piece_numbered_piece(unsigned char *a0, size_t a1, 
     r17_4 = a2 + 48;
     r18_4 = load_size(r17_4);
     if (r20_0_0_copyload != 0) {
-        r1_7 = (size_t)r20_0_0_copyload;
+        r1_6 = (size_t)r20_0_0_copyload;
         r18_5 = r25_15_0 + (uint64_t)r56;
         uint32_t r22 = ((((uint32_t)(size_t)(r25_15_0 >> 15) % r20_0_0_copyload) << 15) | ((uint32_t)r25_15_0 & 32767)) % r20_0_0_copyload;
         r5_0 = r18_4;
-        r4_0 = (uint64_t)((r22 == 0) ? 0 : ((uint64_t)r1_7 - (uint64_t)(size_t)r22)) + r25_15_0;
+        r4_0 = (uint64_t)((r22 == 0) ? 0 : ((uint64_t)r1_6 - (uint64_t)(size_t)r22)) + r25_15_0;
         for (;;) {
             if (r4_0 >= r18_5) goto arm_4;
-            if (r5_0 < r1_7) break;
-            r5_0 = r5_0 - r1_7;
-            r4_0 = r4_0 + (uint64_t)r1_7;
+            if (r5_0 < r1_6) break;
+            r5_0 = r5_0 - r1_6;
+            r4_0 = r4_0 + (uint64_t)r1_6;
         }
         a2[72] = 1;
         memset(a2 + 73, 0, 7);
         store64(a2 + 80, r4_0 + (uint64_t)r5_0);
-        store64(a2 + 88, r1_7 - r5_0);
+        store64(a2 + 88, r1_6 - r5_0);
         r21_0_shrunk = 1;
         goto join_4;
 arm_4:;
@@ -1448,7 +1303,7 @@ static uint8_t dfu_asks_cut_stands(unsigned char *a0, size_t a1, unsigned char *
 
 /* dfu_asks::cut::runs_of: crates/dfu_asks/src/cut.rt */
 static void dfu_asks_cut_runs_of(unsigned char *a0, unsigned char *a1) {
-    size_t r15, r1_15_0, r1_7_0, r1_0_0;
+    size_t r15, r1_15_0, r1_7_0, r1_0_0, sink;
     unsigned char *r1_10_0;
     r15 = load_size(a1 + 88);
     uint8_t r17 = a1[72];
@@ -1458,63 +1313,65 @@ static void dfu_asks_cut_runs_of(unsigned char *a0, unsigned char *a1) {
         store_size(a0 + 16, (size_t)(uintptr_t)static_2);
         store_size(a0 + 24, 0);
         store_size(a0 + 32, r15);
-        store_size(a0 + 40, 255);
-        return;
+        sink = 255;
     }
-    uint8_t r25 = a1[96];
-    switch (r25) {
-    case 0: {
-        size_t r2_0_0_copyload = load_size(a1 + 16);
-        size_t r2_3_0_copyload = load_size(a1 + 24);
-        size_t r3_0_0_copyload = load_size(a1 + 32);
-        size_t r3_3_0_copyload = load_size(a1 + 40);
-        r1_10_0 = (unsigned char *)(uintptr_t)r3_0_0_copyload;
-        r1_15_0 = r3_3_0_copyload;
-        r1_7_0 = r2_3_0_copyload;
-        r1_0_0 = r2_0_0_copyload;
-        break;
+    else {
+        uint8_t r25 = a1[96];
+        switch (r25) {
+        case 0: {
+            size_t r2_0_0_copyload = load_size(a1 + 16);
+            size_t r2_3_0_copyload = load_size(a1 + 24);
+            size_t r3_0_0_copyload = load_size(a1 + 32);
+            size_t r3_3_0_copyload = load_size(a1 + 40);
+            r1_10_0 = (unsigned char *)(uintptr_t)r3_0_0_copyload;
+            r1_15_0 = r3_3_0_copyload;
+            r1_7_0 = r2_3_0_copyload;
+            r1_0_0 = r2_0_0_copyload;
+            break;
+        }
+        case 1: {
+            size_t r4_0_0_copyload = load_size(a1 + 16);
+            size_t r4_3_0_copyload = load_size(a1 + 24);
+            r1_10_0 = PLACE(static_2);
+            r1_15_0 = 0;
+            r1_7_0 = r4_3_0_copyload;
+            r1_0_0 = r4_0_0_copyload;
+            break;
+        }
+        case 2:
+            r1_10_0 = PLACE(static_2);
+            r1_15_0 = 0;
+            r1_7_0 = 16;
+            r1_0_0 = (size_t)(uintptr_t)(a1 + 56);
+            break;
+        case 3:
+            r1_10_0 = PLACE(static_2);
+            r1_15_0 = 0;
+            r1_7_0 = 1;
+            r1_0_0 = (size_t)(uintptr_t)static_3;
+            break;
+        case 4:
+            r1_10_0 = PLACE(static_2);
+            r1_15_0 = 0;
+            r1_7_0 = 0;
+            r1_0_0 = (size_t)(uintptr_t)static_2;
+            break;
+        default: never();
+        }
+        uint64_t r34 = load64(a1 + 104);
+        size_t a1_a0 = (size_t)umin64(r1_7_0, r34);
+        size_t a1_a0_2 = umin_size(r1_7_0 - a1_a0, r15);
+        size_t r20 = r15 - a1_a0_2;
+        size_t a1_a0_3 = (size_t)umin64(r1_15_0, usub_sat64(r34, r1_7_0));
+        size_t a1_a0_4 = umin_size(r1_15_0 - a1_a0_3, r20);
+        store_size(a0, a1_a0 + r1_0_0);
+        store_size(a0 + 8, a1_a0_2);
+        store_size(a0 + 16, (size_t)(uintptr_t)(r1_10_0 + a1_a0_3));
+        store_size(a0 + 24, a1_a0_4);
+        store_size(a0 + 32, r20 - a1_a0_4);
+        sink = 0;
     }
-    case 1: {
-        size_t r4_0_0_copyload = load_size(a1 + 16);
-        size_t r4_3_0_copyload = load_size(a1 + 24);
-        r1_10_0 = PLACE(static_2);
-        r1_15_0 = 0;
-        r1_7_0 = r4_3_0_copyload;
-        r1_0_0 = r4_0_0_copyload;
-        break;
-    }
-    case 2:
-        r1_10_0 = PLACE(static_2);
-        r1_15_0 = 0;
-        r1_7_0 = 16;
-        r1_0_0 = (size_t)(uintptr_t)(a1 + 56);
-        break;
-    case 3:
-        r1_10_0 = PLACE(static_2);
-        r1_15_0 = 0;
-        r1_7_0 = 1;
-        r1_0_0 = (size_t)(uintptr_t)static_3;
-        break;
-    case 4:
-        r1_10_0 = PLACE(static_2);
-        r1_15_0 = 0;
-        r1_7_0 = 0;
-        r1_0_0 = (size_t)(uintptr_t)static_2;
-        break;
-    default: never();
-    }
-    uint64_t r34 = load64(a1 + 104);
-    size_t a1_a0 = (size_t)umin64(r1_7_0, r34);
-    size_t a1_a0_2 = umin_size(r1_7_0 - a1_a0, r15);
-    size_t r20 = r15 - a1_a0_2;
-    size_t a1_a0_3 = (size_t)umin64(r1_15_0, usub_sat64(r34, r1_7_0));
-    size_t a1_a0_4 = umin_size(r1_15_0 - a1_a0_3, r20);
-    store_size(a0, a1_a0 + r1_0_0);
-    store_size(a0 + 8, a1_a0_2);
-    store_size(a0 + 16, (size_t)(uintptr_t)(r1_10_0 + a1_a0_3));
-    store_size(a0 + 24, a1_a0_4);
-    store_size(a0 + 32, r20 - a1_a0_4);
-    store_size(a0 + 40, 0);
+    store_size(a0 + 40, sink);
     return;
 }
 
@@ -1536,18 +1393,6 @@ static uint8_t dfu_asks_cut_are_same(unsigned char *a0, size_t a1, unsigned char
         r5_0 = r5_0 + 1;
     }
     return r5_0_lcssa >= a1;
-}
-
-/* dfu_wire::bytes::two_bytes: crates/dfu_wire/src/bytes.rt */
-static void dfu_wire_bytes_two_bytes(unsigned char *a0, uint16_t a1) {
-    _Alignas(4) unsigned char r5[2];
-    _Alignas(4) unsigned char r1[2];
-    store16(r1, 0);
-    store16(r5, a1);
-    core_slice_edits_slice_T_copy_from_slice_i8_core_clone_U8Clone(r1, r5, 2);
-    uint16_t v0 = load16(r1);
-    store16(a0, v0);
-    return;
 }
 
 /* dfu_asks::next_and_took::is_sound: crates/dfu_asks/src/next_and_took.rt */
@@ -1581,9 +1426,9 @@ static void dfu_asks_cut_fill(unsigned char *a0, unsigned char *a1) {
     size_t r30 = load_size(a0 + 88);
     a1_a0 = umin_size(r30, 256);
     size_t r8_0_0_copyload = load_size(r0);
-    core_slice_edits_slice_T_copy_from_slice_i8_core_clone_U8Clone(a1, (unsigned char *)(uintptr_t)r8_0_0_copyload, r21);
+    memmove(a1, (unsigned char *)(uintptr_t)r8_0_0_copyload, r21);
     size_t r13_0_0_copyload = load_size(r0 + 16);
-    core_slice_edits_slice_T_copy_from_slice_i8_core_clone_U8Clone(a1 + r21, (unsigned char *)(uintptr_t)r13_0_0_copyload, r24);
+    memmove(a1 + r21, (unsigned char *)(uintptr_t)r13_0_0_copyload, r24);
     r61 = a1 + (size_t)r27;
     r70 = r0[40];
     if ((uint64_t)a1_a0 == r27) return;
@@ -1602,7 +1447,6 @@ static void dfu_core_keeping_found(unsigned char *a0, unsigned char *a1, size_t 
     _Alignas(4) unsigned char r6[52];
     _Alignas(4) unsigned char r15[20];
     _Alignas(4) unsigned char r22_4_16[16];
-    _Alignas(4) unsigned char r21_13[3];
     uint32_t r24, r0_5104_0_copyload, v3, r1_9_12_copyload, r1_11_16_copyload, r6_2, r15_2, r8_5_0_0, r8_142_0, r74, r21_6_0_0, r21_9_0;
     uint32_t r21_11_0, r21_14_0, r21_17_0;
     unsigned char *r36, *r19;
@@ -1612,7 +1456,6 @@ static void dfu_core_keeping_found(unsigned char *a0, unsigned char *a1, size_t 
     if (r24 == 3) {
         *a3 = 1;
         a3[1] = 2;
-        memset(a3 + 8, 0, 136);
         return;
     }
     dfu_core_config_settings_of(r6, a0);
@@ -1620,7 +1463,6 @@ static void dfu_core_keeping_found(unsigned char *a0, unsigned char *a1, size_t 
     if (r35 != 1) {
         *a3 = 1;
         a3[1] = 0;
-        memset(a3 + 8, 0, 136);
         return;
     }
     r36 = r6 + 4;
@@ -1631,14 +1473,12 @@ static void dfu_core_keeping_found(unsigned char *a0, unsigned char *a1, size_t 
     if (a2 < (switch_load + (size_t)r43)) {
         *a3 = 1;
         a3[1] = 1;
-        memset(a3 + 8, 0, 136);
         return;
     }
     r65 = load16(a1 + 26);
     if (r43 < r65) {
         *a3 = 1;
         a3[1] = 4;
-        memset(a3 + 8, 0, 136);
         return;
     }
     r31 = load16(a1 + 66);
@@ -1656,7 +1496,6 @@ static void dfu_core_keeping_found(unsigned char *a0, unsigned char *a1, size_t 
                 r18 = r6_2 == 1;
                 r19 = a1 + 28;
                 if (r24 == 0) {
-                    memset(r21_13, 0, 3);
                     r21_6_0_0 = 0;
                     r21_9_0 = 0;
                     r21_11_0 = 0;
@@ -1698,7 +1537,6 @@ static void dfu_core_keeping_found(unsigned char *a0, unsigned char *a1, size_t 
                         r1_8_0 = (uint16_t)((uint16_t)r74 + 0xffffU);
                     }
                     uint32_t r100 = load32(a1 + 56);
-                    memset(r21_13, 0, 3);
                     r21_6_0_0 = 1;
                     r21_9_0 = r8_5_0_0;
                     r21_11_0 = r15_2;
@@ -1711,7 +1549,6 @@ static void dfu_core_keeping_found(unsigned char *a0, unsigned char *a1, size_t 
                 uint32_t r111 = load32(a1 + 16);
                 memcpy(r22_4_16, r19, 16);
                 *a3 = 0;
-                a3[1] = 0;
                 memcpy(a3 + 8, r36, 40);
                 a3[48] = r0_3_0_copyload;
                 memset(a3 + 49, 0, 3);
@@ -1732,7 +1569,7 @@ static void dfu_core_keeping_found(unsigned char *a0, unsigned char *a1, size_t 
                 store32(a3 + 116, r21_9_0);
                 store32(a3 + 120, r21_11_0);
                 a3[124] = r21_12_0;
-                memcpy(a3 + 125, r21_13, 3);
+                memset(a3 + 125, 0, 3);
                 store32(a3 + 128, r21_14_0);
                 store16(a3 + 132, r21_15_0);
                 store16(a3 + 134, r21_16_0);
@@ -1745,7 +1582,6 @@ static void dfu_core_keeping_found(unsigned char *a0, unsigned char *a1, size_t 
 arm_15:
     *a3 = 1;
     a3[1] = 4;
-    memset(a3 + 8, 0, 136);
     return;
 }
 
@@ -1863,6 +1699,7 @@ static struct i64_i8 dfu_asks_asking_Asking_look_at(unsigned char *a0, unsigned 
 /* dfu_asks::asking::Asking::fail: crates/dfu_asks/src/finish.rt */
 static struct i8_i64 dfu_asks_asking_Asking_fail(unsigned char *a0, uint8_t a1, uint8_t a2, uint16_t a3, unsigned char *a4, size_t a5, unsigned char *a6) {
     _Alignas(4) unsigned char r4[16];
+    struct i8_i64 r24_pn;
     store32(r4, 0);
     unsigned char *r10 = a0 + 48;
     uint8_t v0 = *r10;
@@ -1880,8 +1717,12 @@ static struct i8_i64 dfu_asks_asking_Asking_fail(unsigned char *a0, uint8_t a1, 
     store32(a0 + 56, 0);
     store32(a0 + 60, 0);
     memset(a0 + 104, 0, 28);
-    struct i8_i64 r30 = dfu_asks_asking_Asking_answer(a0, a2, a3, a6);
-    return r30;
+    if (a2 == 0) r24_pn = (struct i8_i64){ 0, 0 };
+    else {
+        struct i8_i64 r40 = dfu_asks_asking_Asking_give(a0, 1, a3, a6);
+        r24_pn = r40;
+    }
+    return r24_pn;
 }
 
 /* dfu_asks::finish::note: crates/dfu_asks/src/finish.rt */
@@ -1912,24 +1753,11 @@ static void dfu_asks_finish_note(unsigned char *a0, unsigned char *a1, unsigned 
     }
 }
 
-/* dfu_asks::asking::Asking::answer: crates/dfu_asks/src/finish.rt */
-static struct i8_i64 dfu_asks_asking_Asking_answer(unsigned char *a0, uint8_t a1, uint16_t a2, unsigned char *a3) {
-    struct i8_i64 r24_pn;
-    if (a1 == 0) r24_pn = (struct i8_i64){ 0, 0 };
-    else {
-        struct i8_i64 r40 = dfu_asks_asking_Asking_give(a0, 1, a2, a3);
-        r24_pn = r40;
-    }
-    return r24_pn;
-}
-
 /* dfu_asks::asking::Asking::give: crates/dfu_asks/src/carry.rt */
 static struct i8_i64 dfu_asks_asking_Asking_give(unsigned char *a0, uint8_t a1, uint16_t a2, unsigned char *a3) {
     _Alignas(4) unsigned char r1[16];
-    _Alignas(8) unsigned char r5[8];
-    _Alignas(4) unsigned char r1_2[6];
-    _Alignas(1) unsigned char r4[6];
-    _Alignas(4) unsigned char r5_2[1];
+    _Alignas(4) unsigned char r4[6];
+    _Alignas(4) unsigned char r5_0[1];
     size_t r6_62_0;
     uint8_t r6_0_0;
     switch (a1) {
@@ -1951,25 +1779,22 @@ static struct i8_i64 dfu_asks_asking_Asking_give(unsigned char *a0, uint8_t a1, 
         store32(r1 + 4, v2);
         uint32_t r17 = dfu_device_time_table_poll_ms(a0, r1, r40);
         uint8_t switch_load = *(PLACE(switch_table_dfu_device_device_state_DeviceState_state) + (size_t)v0);
-        unsigned char *v5 = r1_2 + 1;
-        memset(v5, 0, 5);
-        *r1_2 = (uint8_t)((v0 == 12) ? v1 : 0);
-        store64(r5, (size_t)r17);
-        core_slice_edits_slice_T_copy_from_slice_i8_core_clone_U8Clone(v5, r5, 3);
-        r1_2[4] = switch_load;
-        memcpy(r4, r1_2, 6);
+        *r4 = (uint8_t)((v0 == 12) ? v1 : 0);
+        store24u(r4 + 1, (uint32_t)(r17 & 0xffffffU));
+        r4[4] = switch_load;
+        r4[5] = 0;
         size_t a1_a0 = (size_t)umin16(a2, 6);
-        core_slice_edits_slice_T_copy_from_slice_i8_core_clone_U8Clone(a3, r4, a1_a0);
+        memcpy(a3, r4, a1_a0);
         r6_62_0 = a1_a0;
         r6_0_0 = 1;
         break;
     }
     case 2: {
-        uint8_t v7 = a0[48];
-        uint8_t switch_load_2 = *(PLACE(switch_table_dfu_device_device_state_DeviceState_state) + (size_t)v7);
-        *r5_2 = switch_load_2;
+        uint8_t v6 = a0[48];
+        uint8_t switch_load_2 = *(PLACE(switch_table_dfu_device_device_state_DeviceState_state) + (size_t)v6);
+        *r5_0 = switch_load_2;
         size_t a1_a0_2 = (size_t)(a2 != 0);
-        core_slice_edits_slice_T_copy_from_slice_i8_core_clone_U8Clone(a3, r5_2, a1_a0_2);
+        memcpy(a3, r5_0, a1_a0_2);
         r6_62_0 = a1_a0_2;
         r6_0_0 = 1;
         break;
@@ -1988,155 +1813,164 @@ static void dfu_asks_asking_Asking_advance(unsigned char *a0, unsigned char *a1,
     _Alignas(4) unsigned char r9[24];
     _Alignas(4) unsigned char r10[16];
     unsigned char *r32, *r24, *r26, *r28, *r30, *r32_2, *r33_2;
-    size_t a1_a0, a1_a0_2, r52, r57, r10_0, r0_0_0;
-    uint8_t v4, r17_0_0, r17_7_0;
+    size_t a1_a0, a1_a0_2, r52, r57, r10_0, r0_0_0, sink;
+    uint8_t v4, r17_0_0, r17_7_0, sink1;
     uint32_t r0_4_0, v5, v6, r81, r17_103_0, r17_15_0_0, r17_15_6_0_0, r17_20_0;
+    struct i8_i64 r24_pn;
     r32 = a1 + 104;
     uint8_t r33 = *r32;
     if (r33 != 1) {
         *a0 = 1;
-        a0[1] = 0;
-        store_size(a0 + 8, 0);
-        return;
+        sink1 = 0;
+        sink = 0;
     }
-    memcpy(r9, a1 + 108, 24);
-    struct i64_i8 r61 = dfu_asks_asking_Asking_look_at(a1, r9, a2, a3, a4, a5, PLACE(static_2), 0);
-    if ((size_t)r61.a != 0) {
-        *a0 = 0;
-        a0[1] = 0;
-        store_size(a0 + 8, 0);
-        return;
-    }
-    store32(r10, 0);
-    r24 = a1 + 48;
-    uint8_t v1 = *r24;
-    *r10 = v1;
-    r26 = a1 + 49;
-    r28 = a1 + 52;
-    r30 = a1 + 56;
-    r32_2 = a1 + 60;
-    r33_2 = a1 + 40;
-    uint8_t r11_0_0_copyload = *r33_2;
-    uint32_t r12_0_0_copyload = load32(a1 + 44);
-    dfu_asks_finish_note(a1 + 84, r10, a6, a7, r11_0_0_copyload, r12_0_0_copyload);
-    uint8_t v2 = *r24;
-    switch (v2) {
-    case 3:
-    case 5: {
-        size_t r40 = load_size(a1 + 64);
-        a1_a0 = umin_size(a3, r40);
-        size_t r47 = load_size(a1 + 72);
-        a1_a0_2 = (size_t)umin64(a5, r47);
-        uint8_t r13_0_0_copyload = *r33_2;
-        size_t switch_load = (size_t)switch_table_dfu_asks_asking_Asking_advance[(size_t)r13_0_0_copyload];
-        size_t r46 = a1_a0_2 + a1_a0;
-        r52 = switch_load & r46;
-        r57 = r46 - r52;
-        r10_0 = 0;
-        while (r10_0 != r52) {
-            size_t r68 = r10_0 + r57;
-            uint8_t r27_0 = *((r68 < a1_a0_2) ? (a4 + r68) : (a2 + (r68 - a1_a0_2)));
-            a4[r10_0] = r27_0;
-            r10_0 = r10_0 + 1;
+    else {
+        memcpy(r9, a1 + 108, 24);
+        struct i64_i8 r61 = dfu_asks_asking_Asking_look_at(a1, r9, a2, a3, a4, a5, PLACE(static_2), 0);
+        if ((size_t)r61.a != 0) {
+            *a0 = 0;
+            sink1 = 0;
+            sink = 0;
         }
-        uint32_t r73 = load32(a1 + 80);
-        uint8_t pre = *r24;
-        v4 = pre;
-        r0_4_0 = uadd_sat32((uint32_t)a1_a0, r73);
-        r0_0_0 = r52;
-        break;
+        else {
+            store32(r10, 0);
+            r24 = a1 + 48;
+            uint8_t v1 = *r24;
+            *r10 = v1;
+            r26 = a1 + 49;
+            r28 = a1 + 52;
+            r30 = a1 + 56;
+            r32_2 = a1 + 60;
+            r33_2 = a1 + 40;
+            uint8_t r11_0_0_copyload = *r33_2;
+            uint32_t r12_0_0_copyload = load32(a1 + 44);
+            dfu_asks_finish_note(a1 + 84, r10, a6, a7, r11_0_0_copyload, r12_0_0_copyload);
+            uint8_t v2 = *r24;
+            switch (v2) {
+            case 3:
+            case 5: {
+                size_t r40 = load_size(a1 + 64);
+                a1_a0 = umin_size(a3, r40);
+                size_t r47 = load_size(a1 + 72);
+                a1_a0_2 = (size_t)umin64(a5, r47);
+                uint8_t r13_0_0_copyload = *r33_2;
+                size_t switch_load = (size_t)switch_table_dfu_asks_asking_Asking_advance[(size_t)r13_0_0_copyload];
+                size_t r46 = a1_a0_2 + a1_a0;
+                r52 = switch_load & r46;
+                r57 = r46 - r52;
+                r10_0 = 0;
+                while (r10_0 != r52) {
+                    size_t r68 = r10_0 + r57;
+                    uint8_t r27_0 = *((r68 < a1_a0_2) ? (a4 + r68) : (a2 + (r68 - a1_a0_2)));
+                    a4[r10_0] = r27_0;
+                    r10_0 = r10_0 + 1;
+                }
+                uint32_t r73 = load32(a1 + 80);
+                uint8_t pre = *r24;
+                v4 = pre;
+                r0_4_0 = uadd_sat32((uint32_t)a1_a0, r73);
+                r0_0_0 = r52;
+                break;
+            }
+            case 0:
+            case 1:
+            case 2:
+            case 4:
+            case 6:
+            case 7:
+            case 8:
+            case 9:
+            case 10:
+            case 11:
+            case 12:
+                v4 = v2;
+                r0_4_0 = 0;
+                r0_0_0 = 0;
+                break;
+            default: never();
+            }
+            store64(a1 + 72, r0_0_0);
+            store32(a1 + 80, r0_4_0);
+            size_t r65 = load_size(a1 + 64);
+            v5 = load32(r28);
+            v6 = load32(r30);
+            r81 = (uint32_t)umin_size(a3, r65);
+            switch (v4) {
+            case 3:
+                r17_0_0 = 6;
+                r17_7_0 = 0;
+                r17_103_0 = uadd_sat32(r81, v5);
+                r17_15_0_0 = v6;
+                r17_15_6_0_0 = 0;
+                r17_20_0 = 0;
+                break;
+            case 5:
+                r17_0_0 = 4;
+                r17_7_0 = 0;
+                r17_103_0 = uadd_sat32(r81, v5);
+                r17_15_0_0 = v6;
+                r17_15_6_0_0 = 0;
+                r17_20_0 = 0;
+                break;
+            case 7:
+                r17_0_0 = 2;
+                r17_7_0 = 0;
+                r17_103_0 = 0;
+                r17_15_0_0 = 0;
+                r17_15_6_0_0 = 0;
+                r17_20_0 = 0;
+                break;
+            case 9: {
+                uint8_t r19_2_0_copyload = a1[8];
+                r17_0_0 = (uint8_t)((r19_2_0_copyload & 1) ? 8 : 10);
+                r17_7_0 = 0;
+                r17_103_0 = 0;
+                r17_15_0_0 = 0;
+                r17_15_6_0_0 = 0;
+                r17_20_0 = 0;
+                break;
+            }
+            case 0:
+            case 1:
+            case 2:
+            case 4:
+            case 6:
+            case 8:
+            case 10:
+            case 11:
+            case 12: {
+                uint32_t v7 = load32(r32_2);
+                uint8_t v8 = *r26;
+                r17_0_0 = v4;
+                r17_7_0 = v8;
+                r17_103_0 = v5;
+                r17_15_0_0 = v6;
+                r17_15_6_0_0 = v6 & 0xffff0000U;
+                r17_20_0 = v7;
+                break;
+            }
+            default: never();
+            }
+            *r24 = r17_0_0;
+            *r26 = r17_7_0;
+            store32(r28, r17_103_0);
+            store32(r30, r17_15_6_0_0 | (r17_15_0_0 & 0xffffU));
+            store32(r32_2, r17_20_0);
+            memset(r32, 0, 28);
+            uint8_t r91 = r9[16];
+            if (r91 == 0) r24_pn = (struct i8_i64){ 0, 0 };
+            else {
+                uint16_t r29_3_2_copyload = load16(r9 + 18);
+                struct i8_i64 r40_2 = dfu_asks_asking_Asking_give(a1, 1, r29_3_2_copyload, a8);
+                r24_pn = r40_2;
+            }
+            *a0 = 1;
+            sink1 = r24_pn.a;
+            sink = (size_t)r24_pn.b;
+        }
     }
-    case 0:
-    case 1:
-    case 2:
-    case 4:
-    case 6:
-    case 7:
-    case 8:
-    case 9:
-    case 10:
-    case 11:
-    case 12:
-        v4 = v2;
-        r0_4_0 = 0;
-        r0_0_0 = 0;
-        break;
-    default: never();
-    }
-    store64(a1 + 72, r0_0_0);
-    store32(a1 + 80, r0_4_0);
-    size_t r65 = load_size(a1 + 64);
-    v5 = load32(r28);
-    v6 = load32(r30);
-    r81 = (uint32_t)umin_size(a3, r65);
-    switch (v4) {
-    case 3:
-        r17_0_0 = 6;
-        r17_7_0 = 0;
-        r17_103_0 = uadd_sat32(r81, v5);
-        r17_15_0_0 = v6;
-        r17_15_6_0_0 = 0;
-        r17_20_0 = 0;
-        break;
-    case 5:
-        r17_0_0 = 4;
-        r17_7_0 = 0;
-        r17_103_0 = uadd_sat32(r81, v5);
-        r17_15_0_0 = v6;
-        r17_15_6_0_0 = 0;
-        r17_20_0 = 0;
-        break;
-    case 7:
-        r17_0_0 = 2;
-        r17_7_0 = 0;
-        r17_103_0 = 0;
-        r17_15_0_0 = 0;
-        r17_15_6_0_0 = 0;
-        r17_20_0 = 0;
-        break;
-    case 9: {
-        uint8_t r19_2_0_copyload = a1[8];
-        r17_0_0 = (uint8_t)((r19_2_0_copyload & 1) ? 8 : 10);
-        r17_7_0 = 0;
-        r17_103_0 = 0;
-        r17_15_0_0 = 0;
-        r17_15_6_0_0 = 0;
-        r17_20_0 = 0;
-        break;
-    }
-    case 0:
-    case 1:
-    case 2:
-    case 4:
-    case 6:
-    case 8:
-    case 10:
-    case 11:
-    case 12: {
-        uint32_t v7 = load32(r32_2);
-        uint8_t v8 = *r26;
-        r17_0_0 = v4;
-        r17_7_0 = v8;
-        r17_103_0 = v5;
-        r17_15_0_0 = v6;
-        r17_15_6_0_0 = v6 & 0xffff0000U;
-        r17_20_0 = v7;
-        break;
-    }
-    default: never();
-    }
-    *r24 = r17_0_0;
-    *r26 = r17_7_0;
-    store32(r28, r17_103_0);
-    store32(r30, r17_15_6_0_0 | (r17_15_0_0 & 0xffffU));
-    store32(r32_2, r17_20_0);
-    memset(r32, 0, 28);
-    uint8_t r91 = r9[16];
-    uint16_t r29_3_2_copyload = load16(r9 + 18);
-    struct i8_i64 r107 = dfu_asks_asking_Asking_answer(a1, r91, r29_3_2_copyload, a8);
-    *a0 = 1;
-    a0[1] = r107.a;
-    store_size(a0 + 8, (size_t)r107.b);
+    a0[1] = sink1;
+    store_size(a0 + 8, sink);
     return;
 }
 
@@ -2233,7 +2067,7 @@ static uint8_t dfu_asks_closes_mode_closes(unsigned char *a0, unsigned char *a1,
 /* dfu_wire::setups::Setup::request: crates/dfu_wire/src/setups.rt */
 static void dfu_wire_setups_Setup_request(unsigned char *a0, unsigned char *a1) {
     uint8_t r15, r52, r11_0_0_0;
-    uint16_t r47, r49, r11_10_0, r11_16_0;
+    uint16_t r47, r49, r11_10_0, r11_16_0, sink;
     r15 = *a1;
     if ((r15 & 127) == 33) {
         uint16_t r31 = load16(a1 + 4);
@@ -2300,63 +2134,61 @@ static void dfu_wire_setups_Setup_request(unsigned char *a0, unsigned char *a1) 
 after_14:
             store16(a0, r11_0_0_0);
             store16(a0 + 2, r11_10_0);
-            store16(a0 + 4, r11_16_0);
-            return;
+            sink = r11_16_0;
+            goto common_ret;
         }
     }
     store16(a0, 8);
     store16(a0 + 2, 0);
-    store16(a0 + 4, 0);
+    sink = 0;
+common_ret:
+    store16(a0 + 4, sink);
     return;
 }
 
 /* dfu_asks::noted::look: crates/dfu_asks/src/noted.rt */
 static void dfu_asks_noted_look(unsigned char *a0, unsigned char *a1, unsigned char *a2) {
-    uint32_t r3847_2, r3847_3, r99, r17;
-    unsigned char *r74, *r82;
+    uint32_t r3847, r3847_2, r3847_3, a0_a1, r13, r17;
+    unsigned char *r23, *r74, *r82;
     size_t r3_0;
     uint8_t r24 = dfu_slots_layout_is_sized(a1);
-    if (!r24) {
-        memset(a0, 0, 20);
-        return;
+    if (r24) {
+        size_t r3 = load_size(a1 + 8);
+        r3847 = (uint32_t)r3 >> 1;
+        uint8_t r39 = *a2;
+        uint8_t r40 = r39 & 1;
+        r3847_2 = (uint32_t)(r40 ? r3847 : 0);
+        r3847_3 = (uint32_t)(r40 ? 0 : r3847);
+        size_t r5_0_0_copyload = load_size(a1);
+        r23 = (unsigned char *)(uintptr_t)r5_0_0_copyload;
+        uint8_t r1_0_0_copyload = r23[(size_t)r3847_2];
+        if (r1_0_0_copyload == 165) {
+            uint8_t r0_0_0_copyload = a1[16];
+            uint32_t r1_0_0_copyload_2 = load32(a1 + 20);
+            uint32_t switch_load = (uint32_t)switch_table_dfu_asks_next_piece_numbered_piece[(size_t)r0_0_0_copyload];
+            a0_a1 = umax32(r1_0_0_copyload_2, switch_load);
+            r74 = r23 + (size_t)(a0_a1 + r3847_2);
+            r82 = a2 + 1;
+            r3_0 = 0;
+            while (r3_0 != 16) {
+                uint8_t r19 = r74[r3_0];
+                uint8_t r24_2 = r82[r3_0];
+                if (r19 != r24_2) goto common_ret_gvnsink_split;
+                r3_0 = r3_0 + 1;
+            }
+            r13 = r3847 - (a0_a1 << 1);
+            r17 = load32u(a2 + 5);
+            if (r13 >= r17) {
+                store32(a0, 1);
+                store32(a0 + 4, r3847_2);
+                store32(a0 + 8, r3847_3);
+                store32(a0 + 12, r13);
+                store32(a0 + 16, r17);
+                return;
+            }
+        }
     }
-    size_t r3 = load_size(a1 + 8);
-    uint32_t r3847 = (uint32_t)r3 >> 1;
-    uint8_t r39 = *a2;
-    uint8_t r40 = r39 & 1;
-    r3847_2 = (uint32_t)(r40 ? r3847 : 0);
-    r3847_3 = (uint32_t)(r40 ? 0 : r3847);
-    uint8_t r52 = dfu_slots_read_is_open(a1, r3847_2);
-    if (!r52) {
-        memset(a0, 0, 20);
-        return;
-    }
-    uint8_t r0_0_0_copyload = a1[16];
-    uint32_t r1_0_0_copyload = load32(a1 + 20);
-    uint32_t switch_load = (uint32_t)switch_table_dfu_asks_next_piece_numbered_piece[(size_t)r0_0_0_copyload];
-    size_t r13_0_0_copyload = load_size(a1);
-    r74 = (unsigned char *)(uintptr_t)r13_0_0_copyload + (size_t)(umax32(r1_0_0_copyload, switch_load) + r3847_2);
-    r82 = a2 + 1;
-    r3_0 = 0;
-    while (r3_0 != 16) {
-        uint8_t r19 = r74[r3_0];
-        uint8_t r24_2 = r82[r3_0];
-        if (r19 != r24_2) goto then_10;
-        r3_0 = r3_0 + 1;
-    }
-    r99 = dfu_slots_layout_capacity_of(a1);
-    r17 = load32u(a2 + 5);
-    if (r99 < r17) {
-        memset(a0, 0, 20);
-        return;
-    }
-    store32(a0, 1);
-    store32(a0 + 4, r3847_2);
-    store32(a0 + 8, r3847_3);
-    store32(a0 + 12, r99);
-    store32(a0 + 16, r17);
-    return;
-then_10:
+common_ret_gvnsink_split:
     memset(a0, 0, 20);
     return;
 }
@@ -2365,18 +2197,17 @@ then_10:
 static void dfu_asks_asking_Asking_see(unsigned char *a0, unsigned char *a1, size_t a2, unsigned char *a3, size_t a4) {
     _Alignas(8) unsigned char r3[24];
     _Alignas(4) unsigned char r9[20];
-    unsigned char *r21, *r16, *r43;
-    uint32_t r4_0_0_copyload, r4_3_0_copyload, r4_4_0_copyload, r4_5_0_copyload, r44, r74, v3;
-    uint8_t r71;
-    r21 = a1 + 40;
+    uint8_t r6_0_0_copyload;
+    uint32_t r4_0_0_copyload, r4_3_0_copyload, r4_4_0_copyload, r4_5_0_copyload, r44, v3;
+    size_t r17;
+    uint8_t r4;
+    r6_0_0_copyload = a1[40];
     if (wide(a4) > 0xffffffffU) {
         *a0 = 1;
         a0[1] = 1;
-        memset(a0 + 8, 0, 40);
         return;
     }
     uint32_t r7_0_0_copyload = load32(a1 + 44);
-    uint8_t r6_0_0_copyload = *r21;
     store_size(r3, (size_t)(uintptr_t)a3);
     store_size(r3 + 8, a4);
     r3[16] = r6_0_0_copyload;
@@ -2386,43 +2217,36 @@ static void dfu_asks_asking_Asking_see(unsigned char *a0, unsigned char *a1, siz
     if (r38 != 1) {
         *a0 = 1;
         a0[1] = 1;
-        memset(a0 + 8, 0, 40);
         return;
     }
     r4_0_0_copyload = load32(r9 + 4);
     r4_3_0_copyload = load32(r9 + 8);
     r4_4_0_copyload = load32(r9 + 12);
     r4_5_0_copyload = load32(r9 + 16);
-    r16 = a1 + 64;
-    size_t r17 = load_size(r16);
+    r17 = load_size(a1 + 64);
     if (a2 >= r17) {
         uint16_t r5_2_0_copyload = load16(a1 + 12);
         if (umin_size(a2, 4096) >= (size_t)r5_2_0_copyload) {
-            r43 = a1 + 80;
-            r44 = load32(r43);
+            r44 = load32(a1 + 80);
             if (r44 <= r4_4_0_copyload) {
                 size_t r42 = load_size(a1 + 72);
-                uint8_t r10_0_0_copyload = *r21;
-                uint32_t switch_load = (uint32_t)switch_table_dfu_asks_asking_Asking_advance[(size_t)r10_0_0_copyload];
+                uint32_t switch_load = (uint32_t)switch_table_dfu_asks_asking_Asking_advance[(size_t)r6_0_0_copyload];
                 if (r42 == (size_t)(switch_load & r44)) {
-                    uint8_t r67 = dfu_slots_read_is_open(r3, r4_3_0_copyload);
-                    r71 = !r67;
-                    r74 = load32(r43);
+                    uint8_t r1_0_0_copyload = a3[(size_t)r4_3_0_copyload];
+                    r4 = r1_0_0_copyload != 165;
                     uint8_t v2 = a1[48];
                     v3 = load32(a1 + 52);
                     switch (v2) {
                     case 3:
-                    case 5: {
-                        size_t r92 = load_size(r16);
-                        if (!((r92 != 0) ? (((uint64_t)r92 + (uint64_t)(size_t)v3) <= (uint64_t)(size_t)r4_4_0_copyload) : 0)) goto then_8;
-                        if (!((v3 == 0) | (r71 ? (r74 == v3) : 0))) goto then_8;
+                    case 5:
+                        if (!((r17 != 0) ? (((uint64_t)r17 + (uint64_t)(size_t)v3) <= (uint64_t)(size_t)r4_4_0_copyload) : 0)) goto then_8;
+                        if (!((v3 == 0) ? 1 : (r4 ? (r44 == v3) : 0))) goto then_8;
                         break;
-                    }
                     case 4:
                     case 6:
                     case 7:
                     case 9:
-                        if (!((((v3 - 1) < r4_4_0_copyload) & r71) ? (r74 == v3) : 0)) goto then_8;
+                        if (!((((v3 - 1) < r4_4_0_copyload) ? r4 : 0) ? (r44 == v3) : 0)) goto then_8;
                         break;
                     case 0:
                     case 1:
@@ -2434,7 +2258,6 @@ static void dfu_asks_asking_Asking_see(unsigned char *a0, unsigned char *a1, siz
                     default: never();
                     }
                     *a0 = 0;
-                    a0[1] = 0;
                     memcpy(a0 + 8, r3, 24);
                     store32(a0 + 32, r4_0_0_copyload);
                     store32(a0 + 36, r4_3_0_copyload);
@@ -2448,19 +2271,18 @@ static void dfu_asks_asking_Asking_see(unsigned char *a0, unsigned char *a1, siz
 then_8:
     *a0 = 1;
     a0[1] = 2;
-    memset(a0 + 8, 0, 40);
     return;
 }
 
 /* dfu_asks::asking::Asking::carry_out: crates/dfu_asks/src/carry.rt */
 static void dfu_asks_asking_Asking_carry_out(unsigned char *a0, unsigned char *a1, unsigned char *a2, uint8_t a3, uint16_t a4, unsigned char *a5, size_t a6, unsigned char *a7, size_t a8, unsigned char *a9, uint64_t a10, unsigned char *a11, unsigned char *a12, unsigned char *a13, size_t a14) {
-    _Alignas(8) unsigned char r5[32];
     _Alignas(8) unsigned char r0[16];
-    _Alignas(4) unsigned char r5_2[4];
-    uint32_t r1_517_4_copyload, r1_16_12_copyload, r1_19_16_copyload, r16_312_0_copyload, r16_513_0_copyload, r16_7_0_copyload, r12_0_0_copyload;
+    _Alignas(4) unsigned char r5[4];
+    uint32_t r1_517_4_copyload, r1_16_12_copyload, r1_19_16_copyload, r14, r14_2, r5_5_0, r23, r5_15_0, r27, r12_0_0_copyload, r5_21_0, r5_15_0_2;
+    uint32_t r5_5_0_2;
     uint16_t r1_11_8_copyload, r1_15_8_copyload;
-    size_t r1, a1_a0_3, r16_6_0_copyload, r11_3_0_copyload, a1_a0_4, r3_0, r35_1343_1, r35_1343_0;
-    uint8_t r16_0_0_copyload, r16_4_0_copyload, r35_0_1, r35_7_1, r35_0_0, r35_7_0;
+    size_t r1, a1_a0_3, r29, r11_3_0_copyload, a1_a0_4, r3_0, r5_18_0, r35_1344_1, r35_1344_0;
+    uint8_t r5_0_0, r5_8_0, r16_0_0_0_extract_trunc25, r5_8_0_2, r35_0_1, r35_7_1, r35_0_0, r35_7_0;
     unsigned char *r49;
     uint8_t r1_0_0_copyload = *a2;
     r1_517_4_copyload = load32(a2 + 4);
@@ -2480,12 +2302,12 @@ static void dfu_asks_asking_Asking_carry_out(unsigned char *a0, unsigned char *a
         struct i8_i64 r99 = dfu_asks_asking_Asking_give(a1, r1_3_1_copyload, (uint16_t)((a3 & 1) ? a4 : 0), a13);
         r35_0_0 = 1;
         r35_7_0 = r99.a;
-        r35_1343_0 = (size_t)r99.b;
+        r35_1344_0 = (size_t)r99.b;
         break;
     }
     case 1: {
         size_t a1_a0 = umin_size(umin_size(a8, a6), 4096);
-        core_slice_edits_slice_T_copy_from_slice_i8_core_clone_U8Clone(a7, a5, a1_a0);
+        memmove(a7, a5, a1_a0);
         store64(a1 + 64, a1_a0);
         a1[48] = (uint8_t)r1_517_4_copyload;
         a1[49] = (uint8_t)(r1_517_4_copyload >> 8);
@@ -2495,7 +2317,7 @@ static void dfu_asks_asking_Asking_carry_out(unsigned char *a0, unsigned char *a
         store32(a1 + 60, r1_19_16_copyload);
         r35_0_0 = 1;
         r35_7_0 = 0;
-        r35_1343_0 = 0;
+        r35_1344_0 = 0;
         break;
     }
     case 2: {
@@ -2505,7 +2327,11 @@ static void dfu_asks_asking_Asking_carry_out(unsigned char *a0, unsigned char *a
         a1_a0_3 = umin_size(a14, a1_a0_2);
         if (a1_a0_2 != 0) {
             uint32_t r34 = load32(a12);
-            dfu_slots_read_read_data(a11, r34, r1_517_4_copyload, a13, a1_a0_3);
+            uint8_t r0_0_0_copyload = a11[16];
+            uint32_t r1_0_0_copyload_2 = load32(a11 + 20);
+            uint32_t switch_load = (uint32_t)switch_table_dfu_asks_next_piece_numbered_piece[(size_t)r0_0_0_copyload];
+            size_t r5_0_0_copyload = load_size(a11);
+            memmove(a13, (unsigned char *)(uintptr_t)r5_0_0_copyload + (size_t)((r34 + r1_517_4_copyload) + (umax32(r1_0_0_copyload_2, switch_load) << 1)), a1_a0_3);
         }
         uint8_t r174 = a1_a0_3 < r1;
         a1[48] = (uint8_t)(r174 ? 2 : 11);
@@ -2516,7 +2342,7 @@ static void dfu_asks_asking_Asking_carry_out(unsigned char *a0, unsigned char *a
         store32(a1 + 60, 0);
         r35_0_0 = 1;
         r35_7_0 = 1;
-        r35_1343_0 = a1_a0_3;
+        r35_1344_0 = a1_a0_3;
         break;
     }
     case 3:
@@ -2525,12 +2351,36 @@ static void dfu_asks_asking_Asking_carry_out(unsigned char *a0, unsigned char *a
         switch (r10) {
         case 3: {
             uint32_t r13 = load32(a1 + 52);
-            dfu_asks_asking_Asking_block_job(r5, a1, r13, a11, a12);
+            r14 = load32(a12 + 4);
+            if (r13 != 0) {
+                size_t r43 = load_size(a1 + 72);
+                uint32_t r45 = load32(a1 + 80);
+                r5_0_0 = 0;
+                r23 = r14;
+                r5_8_0 = 0;
+                r5_15_0 = 0;
+                r29 = r43;
+                r27 = r45;
+                goto dfu_asks_asking_Asking_begin_job_exit;
+            }
+            r5_5_0 = r14;
             break;
         }
         case 5: {
             uint32_t r17 = load32(a1 + 52);
-            dfu_asks_asking_Asking_block_job(r5, a1, r17, a11, a12);
+            r14_2 = load32(a12 + 4);
+            if (r17 != 0) {
+                size_t r43_2 = load_size(a1 + 72);
+                uint32_t r45_2 = load32(a1 + 80);
+                r5_0_0 = 0;
+                r23 = r14_2;
+                r5_8_0 = 0;
+                r5_15_0 = 0;
+                r29 = r43_2;
+                r27 = r45_2;
+                goto dfu_asks_asking_Asking_begin_job_exit;
+            }
+            r5_5_0 = r14_2;
             break;
         }
         case 0:
@@ -2545,53 +2395,70 @@ static void dfu_asks_asking_Asking_carry_out(unsigned char *a0, unsigned char *a
         case 11:
         case 12: {
             uint32_t r16 = load32(a12 + 4);
-            uint8_t r0_0_0_copyload = a11[16];
-            uint32_t r1_0_0_copyload_2 = load32(a11 + 20);
-            uint32_t switch_load = (uint32_t)switch_table_dfu_asks_next_piece_numbered_piece[(size_t)r0_0_0_copyload];
+            uint8_t r0_0_0_copyload_2 = a11[16];
+            uint32_t r1_0_0_copyload_3 = load32(a11 + 20);
+            uint32_t switch_load_2 = (uint32_t)switch_table_dfu_asks_next_piece_numbered_piece[(size_t)r0_0_0_copyload_2];
             uint32_t r22 = load32(a1 + 80);
             size_t r26 = load_size(a1 + 72);
             uint8_t r37 = a1[85];
             size_t r13_0_0_copyload = load_size(a11);
-            store32(r5_2, 0xffffffffU);
-            dfu_suffix_crc_Crc_update_small(r5_2, (unsigned char *)(uintptr_t)r13_0_0_copyload + (size_t)((umax32(r1_0_0_copyload_2, switch_load) << 1) + r16), (uint64_t)(size_t)r22 - (uint64_t)r26);
-            dfu_suffix_crc_Crc_update_small(r5_2, a9, (size_t)umin64(a10, r26));
-            uint32_t r1_2 = load32(r5_2);
-            store32(r5, 1);
-            store32(r5 + 4, r16);
-            r5[8] = (uint8_t)(r37 + 1);
-            store32(r5 + 12, r1_2);
-            store_size(r5 + 16, r26);
-            store32(r5 + 24, r22);
-            break;
+            store32(r5, 0xffffffffU);
+            dfu_suffix_crc_Crc_update_small(r5, (unsigned char *)(uintptr_t)r13_0_0_copyload + (size_t)((umax32(r1_0_0_copyload_3, switch_load_2) << 1) + r16), (uint64_t)(size_t)r22 - (uint64_t)r26);
+            dfu_suffix_crc_Crc_update_small(r5, a9, (size_t)umin64(a10, r26));
+            uint32_t r1_2 = load32(r5);
+            r5_0_0 = 1;
+            r23 = r16;
+            r5_8_0 = (uint8_t)(r37 + 1);
+            r5_15_0 = r1_2;
+            r29 = r26;
+            r27 = r22;
+            goto dfu_asks_asking_Asking_begin_job_exit;
         }
         default: never();
         }
-        r16_0_0_copyload = *r5;
-        r16_312_0_copyload = load32(r5 + 4);
-        r16_4_0_copyload = r5[8];
-        r16_513_0_copyload = load32(r5 + 12);
-        r16_6_0_copyload = load_size(r5 + 16);
-        r16_7_0_copyload = load32(r5 + 24);
-        if (r16_7_0_copyload != 0) {
+        size_t r5_0_0_copyload_2 = load_size(a11);
+        uint8_t r5_8_0_in_in = *((unsigned char *)(uintptr_t)r5_0_0_copyload_2 + (size_t)r5_5_0);
+        r16_0_0_0_extract_trunc25 = 0;
+        r5_21_0 = 0;
+        r5_18_0 = 0;
+        r5_15_0_2 = 0;
+        r5_8_0_2 = r5_8_0_in_in == 165;
+        r5_5_0_2 = r5_5_0;
+        goto join_3;
+dfu_asks_asking_Asking_begin_job_exit:
+        if (r27 == 0) {
+            r16_0_0_0_extract_trunc25 = r5_0_0;
+            r5_21_0 = 0;
+            r5_18_0 = r29;
+            r5_15_0_2 = r5_15_0;
+            r5_8_0_2 = r5_8_0;
+            r5_5_0_2 = r23;
+        }
+        else {
             size_t r11_0_0_copyload = load_size(a11);
             r12_0_0_copyload = load32(a1 + 44);
             r49 = (unsigned char *)(uintptr_t)r11_0_0_copyload;
             if (r12_0_0_copyload != 0) {
-                uint32_t r23 = load32(a12 + 4);
-                uint8_t r0_0_0_copyload_2 = a11[16];
-                uint32_t r1_0_0_copyload_3 = load32(a11 + 20);
-                uint32_t switch_load_2 = (uint32_t)switch_table_dfu_asks_next_piece_numbered_piece[(size_t)r0_0_0_copyload_2];
-                uint32_t r27 = load32(a1 + 80);
-                size_t r29 = load_size(a1 + 72);
-                uint32_t r37_2 = ((r27 + r23) + (umax32(r1_0_0_copyload_3, switch_load_2) << 1)) - (uint32_t)r29;
+                uint8_t r0_0_0_copyload_3 = a11[16];
+                uint32_t r1_0_0_copyload_4 = load32(a11 + 20);
+                uint32_t switch_load_3 = (uint32_t)switch_table_dfu_asks_next_piece_numbered_piece[(size_t)r0_0_0_copyload_3];
+                uint32_t r37_2 = ((r27 - (uint32_t)r29) + r23) + (umax32(r1_0_0_copyload_4, switch_load_3) << 1);
                 size_t r1_3 = (size_t)r37_2;
                 r11_3_0_copyload = load_size(a11 + 8);
                 size_t r41 = load_size(a1 + 64);
-                uint32_t r22_2 = ((((r37_2 >> 15) % r12_0_0_copyload) << 15) | (r37_2 & 32767)) % r12_0_0_copyload;
+                uint32_t r22_2 = ((r37_2 & 32767) | (((r37_2 >> 15) % r12_0_0_copyload) << 15)) % r12_0_0_copyload;
                 a1_a0_4 = (size_t)umin64(r11_3_0_copyload, (uint64_t)(size_t)((r22_2 == 0) ? 0 : umin_size((size_t)(r12_0_0_copyload - r22_2), r41 + r29)) + (uint64_t)r1_3);
                 r3_0 = r1_3;
                 for (;;) {
-                    if (r3_0 >= a1_a0_4) goto join_3;
+                    if (r3_0 >= a1_a0_4) {
+                        r16_0_0_0_extract_trunc25 = r5_0_0;
+                        r5_21_0 = r27;
+                        r5_18_0 = r29;
+                        r5_15_0_2 = r5_15_0;
+                        r5_8_0_2 = r5_8_0;
+                        r5_5_0_2 = r23;
+                        goto join_3;
+                    }
                     uint8_t r16_2 = r49[r3_0];
                     if (r16_2 != 255) break;
                     r3_0 = r3_0 + 1;
@@ -2599,85 +2466,56 @@ static void dfu_asks_asking_Asking_carry_out(unsigned char *a0, unsigned char *a
                 struct i8_i64 r83 = dfu_asks_asking_Asking_fail(a1, 1, a3, a4, r49, r11_3_0_copyload, a13);
                 r35_0_1 = 1;
                 r35_7_1 = r83.a;
-                r35_1343_1 = (size_t)r83.b;
+                r35_1344_1 = (size_t)r83.b;
                 goto dfu_asks_asking_Asking_start_exit;
             }
+            r16_0_0_0_extract_trunc25 = r5_0_0;
+            r5_21_0 = r27;
+            r5_18_0 = r29;
+            r5_15_0_2 = r5_15_0;
+            r5_8_0_2 = r5_8_0;
+            r5_5_0_2 = r23;
         }
 join_3:
-        store64(a1 + 72, r16_6_0_copyload);
-        store32(a1 + 80, r16_7_0_copyload);
+        store64(a1 + 72, r5_18_0);
+        store32(a1 + 80, r5_21_0);
         store32(a1 + 104, 1);
-        store32(a1 + 108, (uint32_t)r16_0_0_copyload);
-        store32(a1 + 112, r16_312_0_copyload);
-        a1[116] = r16_4_0_copyload;
+        store32(a1 + 108, (uint32_t)r16_0_0_0_extract_trunc25);
+        store32(a1 + 112, r5_5_0_2);
+        a1[116] = r5_8_0_2;
         memset(a1 + 117, 0, 3);
-        store32(a1 + 120, r16_513_0_copyload);
+        store32(a1 + 120, r5_15_0_2);
         store16(a1 + 124, a3);
         store16(a1 + 126, a4);
         store32(a1 + 128, 0);
         size_t r33_0_0_copyload = load_size(a11);
         size_t r33_3_0_copyload = load_size(a11 + 8);
         dfu_asks_asking_Asking_advance(r0, a1, a7, a8, a9, a10, (unsigned char *)(uintptr_t)r33_0_0_copyload, r33_3_0_copyload, a13);
-        uint8_t v2 = *r0;
-        uint8_t v3 = r0[1];
-        size_t v4 = load_size(r0 + 8);
-        r35_0_1 = v2;
-        r35_7_1 = v3;
-        r35_1343_1 = v4;
+        uint8_t v3 = *r0;
+        uint8_t v4 = r0[1];
+        size_t v5 = load_size(r0 + 8);
+        r35_0_1 = v3;
+        r35_7_1 = v4;
+        r35_1344_1 = v5;
 dfu_asks_asking_Asking_start_exit:
         r35_0_0 = r35_0_1;
         r35_7_0 = r35_7_1;
-        r35_1343_0 = r35_1343_1;
+        r35_1344_0 = r35_1344_1;
         break;
     }
     default: never();
     }
     *a0 = r35_0_0;
     a0[1] = r35_7_0;
-    store_size(a0 + 8, r35_1343_0);
-    return;
-}
-
-/* dfu_asks::asking::Asking::block_job: crates/dfu_asks/src/start.rt */
-static void dfu_asks_asking_Asking_block_job(unsigned char *a0, unsigned char *a1, uint32_t a2, unsigned char *a3, unsigned char *a4) {
-    uint32_t r14, r45_sink;
-    uint8_t sink;
-    size_t r43_sink;
-    r14 = load32(a4 + 4);
-    if (a2 == 0) {
-        uint8_t r18 = dfu_slots_read_is_open(a3, r14);
-        sink = r18;
-        r43_sink = 0;
-        r45_sink = 0;
-    }
-    else {
-        size_t r43 = load_size(a1 + 72);
-        uint32_t r45 = load32(a1 + 80);
-        sink = 0;
-        r43_sink = r43;
-        r45_sink = r45;
-    }
-    store32(a0, 0);
-    store32(a0 + 4, r14);
-    a0[8] = sink;
-    store32(a0 + 12, 0);
-    store_size(a0 + 16, r43_sink);
-    store32(a0 + 24, r45_sink);
+    store_size(a0 + 8, r35_1344_0);
     return;
 }
 
 /* dfu_device::table::decide: crates/dfu_device/src/table.rt */
 static void dfu_device_table_decide(unsigned char *a0, unsigned char *a1, unsigned char *a2, unsigned char *a3) {
-    _Alignas(4) unsigned char r10[24];
-    unsigned char *const r0_2 = r10;
-    unsigned char *const r0 = r10;
-    _Alignas(4) unsigned char r12[24];
-    uint8_t r1_3_1_copyload, r11, sink7, sink6, v14, v15, r8_0_0, r8_6_0, r8_5_0, r10_8_1, r10_0_1, r8_0_0_2;
-    uint8_t r8_6_0_2, v28, v29, r29_0_0, r29_15_0;
-    uint32_t r1_51_4_copyload, r1_12_8_copyload, sink5, sink4, sink3, sink2, sink, v9, v10, v11, v12, v13;
-    uint32_t r8_1120_0, r8_16_0_0, r8_16_6_0, r8_16_7_0_0, r8_22_0_shrunk, r8_920_0, r8_13_0, r8_17_0_shrunk, r10_24_1, r10_32_1, r10_38_1, r10_44_1;
-    uint32_t r10_1642_1, r8_1120_0_2, r8_16_0_0_2, r8_16_6_0_2, r8_16_7_0_0_2, v23, v24, v25, v26, v27, r29_29117_0, r29_43_0;
-    uint32_t r29_57_0, r29_67_0, r29_77_0;
+    uint8_t r1_3_1_copyload, r11, r8_0_0, r8_6_0, r8_5_0, r8_0_0_2, r8_6_0_2, r29_0_0, r29_15_0;
+    uint32_t r1_51_4_copyload, r1_12_8_copyload, r8_1120_0, r8_16_0_0, r8_16_6_0, r8_16_7_0_0, r8_22_0_shrunk, r8_920_0, r8_13_0, r8_17_0_shrunk, r8_1120_0_2, r8_16_0_0_2;
+    uint32_t r8_16_6_0_2, r8_16_7_0_0_2, r29_29117_0, r29_43_0, r29_57_0;
     uint16_t r1_12_0_0_extract_trunc, v0, v1;
     uint8_t r1_0_0_copyload = *a2;
     r1_3_1_copyload = a2[1];
@@ -2697,8 +2535,6 @@ static void dfu_device_table_decide(unsigned char *a0, unsigned char *a1, unsign
             r29_29117_0 = 1;
             r29_43_0 = (uint32_t)umin16(v0, r21);
             r29_57_0 = 0;
-            r29_67_0 = 0;
-            r29_77_0 = 0;
             break;
         }
         case 3:
@@ -2707,8 +2543,6 @@ static void dfu_device_table_decide(unsigned char *a0, unsigned char *a1, unsign
             r29_29117_0 = 0;
             r29_43_0 = 0;
             r29_57_0 = 0;
-            r29_67_0 = 0;
-            r29_77_0 = 0;
             break;
         case 5:
             r29_0_0 = 0;
@@ -2716,8 +2550,6 @@ static void dfu_device_table_decide(unsigned char *a0, unsigned char *a1, unsign
             r29_29117_0 = 0;
             r29_43_0 = 0;
             r29_57_0 = 0;
-            r29_67_0 = 0;
-            r29_77_0 = 0;
             break;
         case 1:
         case 2:
@@ -2730,8 +2562,6 @@ static void dfu_device_table_decide(unsigned char *a0, unsigned char *a1, unsign
             r29_29117_0 = 0;
             r29_43_0 = 0;
             r29_57_0 = 0;
-            r29_67_0 = 0;
-            r29_77_0 = 0;
             break;
         default: never();
         }
@@ -2744,8 +2574,6 @@ static void dfu_device_table_decide(unsigned char *a0, unsigned char *a1, unsign
             r29_29117_0 = 1;
             r29_43_0 = r1_51_4_copyload;
             r29_57_0 = r1_12_8_copyload;
-            r29_67_0 = 0;
-            r29_77_0 = 0;
             break;
         case 5:
             r29_0_0 = 0;
@@ -2753,8 +2581,6 @@ static void dfu_device_table_decide(unsigned char *a0, unsigned char *a1, unsign
             r29_29117_0 = 1;
             r29_43_0 = r1_51_4_copyload;
             r29_57_0 = r1_12_8_copyload;
-            r29_67_0 = 0;
-            r29_77_0 = 0;
             break;
         case 0:
         case 1:
@@ -2768,8 +2594,6 @@ static void dfu_device_table_decide(unsigned char *a0, unsigned char *a1, unsign
             r29_29117_0 = 0;
             r29_43_0 = 0;
             r29_57_0 = 0;
-            r29_67_0 = 0;
-            r29_77_0 = 0;
             break;
         default: never();
         }
@@ -2779,118 +2603,120 @@ static void dfu_device_table_decide(unsigned char *a0, unsigned char *a1, unsign
         case 1: {
             uint8_t r5 = *a1;
             if (!((v1 != 0) & (r5 & 1))) {
-                sink7 = 0;
-                sink6 = 3;
-                sink5 = 3852;
-                sink4 = 0;
-                sink3 = 0;
-                sink2 = 0;
-                sink = 0;
+                r29_0_0 = 0;
+                r29_15_0 = 3;
+                r29_29117_0 = 3852;
+                r29_43_0 = 0;
+                r29_57_0 = 0;
             }
             else {
-                dfu_device_plans_block(r0, a1, 0, 0, v0, v1);
-                uint8_t v2 = *r0;
-                uint8_t v3 = r0[1];
-                uint32_t v4 = load32(r0 + 4);
-                uint32_t v5 = load32(r0 + 8);
-                uint32_t v6 = load32(r0 + 12);
-                uint32_t v7 = load32(r0 + 16);
-                uint32_t v8 = load32(r0 + 20);
-                sink7 = v2;
-                sink6 = v3;
-                sink5 = v4;
-                sink4 = v5;
-                sink3 = v6;
-                sink2 = v7;
-                sink = v8;
+                uint16_t r12 = load16(a1 + 6);
+                if (r12 < v1) {
+                    r29_0_0 = 0;
+                    r29_15_0 = 3;
+                    r29_29117_0 = 3852;
+                    r29_43_0 = 0;
+                    r29_57_0 = 0;
+                }
+                else {
+                    if (v0 != 0) {
+                        r29_0_0 = 0;
+                        r29_15_0 = 3;
+                        r29_29117_0 = 2060;
+                        r29_43_0 = 0;
+                        r29_57_0 = 0;
+                    }
+                    else {
+                        size_t r54 = load_size(a1 + 40);
+                        if (r54 < (size_t)v1) {
+                            r29_0_0 = 0;
+                            r29_15_0 = 3;
+                            r29_29117_0 = 2060;
+                            r29_43_0 = 0;
+                            r29_57_0 = 0;
+                        }
+                        else {
+                            r29_0_0 = 1;
+                            r29_15_0 = 0;
+                            r29_29117_0 = 3;
+                            r29_43_0 = 0;
+                            r29_57_0 = 1;
+                        }
+                    }
+                }
             }
-            v9 = sink;
-            v10 = sink2;
-            v11 = sink3;
-            v12 = sink4;
-            v13 = sink5;
-            v14 = sink6;
-            v15 = sink7;
             break;
         }
         case 2: {
             uint8_t r30 = a1[1];
-            if (!(r30 & 1)) {
-                v9 = 0;
-                v10 = 0;
-                v11 = 0;
-                v12 = 0;
-                v13 = 3852;
-                v14 = 3;
-                v15 = 0;
+            if (!((r30 & 1) ? (v1 != 0) : 0)) {
+                r29_0_0 = 0;
+                r29_15_0 = 3;
+                r29_29117_0 = 3852;
+                r29_43_0 = 0;
+                r29_57_0 = 0;
             }
             else {
-                dfu_device_plans_upload(r12, a1, 0, 0, v0, v1);
-                uint8_t pre = *r12;
-                uint8_t pre43 = r12[1];
-                uint32_t pre44 = load32(r12 + 4);
-                uint32_t pre45 = load32(r12 + 8);
-                uint32_t pre46 = load32(r12 + 12);
-                uint32_t pre47 = load32(r12 + 16);
-                uint32_t pre48 = load32(r12 + 20);
-                v9 = pre48;
-                v10 = pre47;
-                v11 = pre46;
-                v12 = pre45;
-                v13 = pre44;
-                v14 = pre43;
-                v15 = pre;
+                uint16_t r13 = load16(a1 + 6);
+                if (r13 < v1) {
+                    r29_0_0 = 0;
+                    r29_15_0 = 3;
+                    r29_29117_0 = 3852;
+                    r29_43_0 = 0;
+                    r29_57_0 = 0;
+                }
+                else {
+                    if (v0 == 0) {
+                        r29_0_0 = 2;
+                        r29_15_0 = 0;
+                        r29_29117_0 = 0;
+                        r29_43_0 = (uint32_t)v1 | 0x10000U;
+                        r29_57_0 = 0;
+                    }
+                    else {
+                        r29_0_0 = 0;
+                        r29_15_0 = 3;
+                        r29_29117_0 = 2060;
+                        r29_43_0 = 0;
+                        r29_57_0 = 0;
+                    }
+                }
             }
             break;
         }
         case 6:
-            v9 = 0;
-            v10 = 0;
-            v11 = 0;
-            v12 = 0;
-            v13 = 2;
-            v14 = 0;
-            v15 = 0;
+            r29_0_0 = 0;
+            r29_15_0 = 0;
+            r29_29117_0 = 2;
+            r29_43_0 = 0;
+            r29_57_0 = 0;
             break;
         case 3:
-            v9 = 0;
-            v10 = 0;
-            v11 = 0;
-            v12 = 0;
-            v13 = 2;
-            v14 = 1;
-            v15 = 0;
+            r29_0_0 = 0;
+            r29_15_0 = 1;
+            r29_29117_0 = 2;
+            r29_43_0 = 0;
+            r29_57_0 = 0;
             break;
         case 5:
-            v9 = 0;
-            v10 = 0;
-            v11 = 0;
-            v12 = 0;
-            v13 = 2;
-            v14 = 2;
-            v15 = 0;
+            r29_0_0 = 0;
+            r29_15_0 = 2;
+            r29_29117_0 = 2;
+            r29_43_0 = 0;
+            r29_57_0 = 0;
             break;
         case 0:
         case 4:
         case 7:
         case 8:
-            v9 = 0;
-            v10 = 0;
-            v11 = 0;
-            v12 = 0;
-            v13 = 3852;
-            v14 = 3;
-            v15 = 0;
+            r29_0_0 = 0;
+            r29_15_0 = 3;
+            r29_29117_0 = 3852;
+            r29_43_0 = 0;
+            r29_57_0 = 0;
             break;
         default: never();
         }
-        r29_0_0 = v15;
-        r29_15_0 = v14;
-        r29_29117_0 = v13;
-        r29_43_0 = v12;
-        r29_57_0 = v11;
-        r29_67_0 = v10;
-        r29_77_0 = v9;
         break;
     case 3:
         switch (r11) {
@@ -2947,8 +2773,6 @@ static void dfu_device_table_decide(unsigned char *a0, unsigned char *a1, unsign
         r29_29117_0 = r8_1120_0;
         r29_43_0 = ((r8_16_6_0 & 0xff0000U) | (r8_16_0_0 & 0xffffU)) | r8_16_7_0_0;
         r29_57_0 = r8_22_0_shrunk & 0xffffU;
-        r29_67_0 = 0;
-        r29_77_0 = 0;
         break;
     case 4:
         switch (r11) {
@@ -2983,8 +2807,6 @@ static void dfu_device_table_decide(unsigned char *a0, unsigned char *a1, unsign
         r29_29117_0 = r8_920_0;
         r29_43_0 = r8_13_0;
         r29_57_0 = r8_17_0_shrunk & 0xffffU;
-        r29_67_0 = 0;
-        r29_77_0 = 0;
         break;
     case 5:
     case 9:
@@ -2993,57 +2815,63 @@ static void dfu_device_table_decide(unsigned char *a0, unsigned char *a1, unsign
         r29_29117_0 = 3852;
         r29_43_0 = 0;
         r29_57_0 = 0;
-        r29_67_0 = 0;
-        r29_77_0 = 0;
         break;
     case 6:
         switch (r11) {
         case 1:
-            if (v1 != 0) {
-                dfu_device_plans_block(r0_2, a1, r1_51_4_copyload, r1_12_0_0_extract_trunc, v0, v1);
-                uint8_t v16 = *r0_2;
-                uint8_t v17 = r0_2[1];
-                uint32_t v18 = load32(r0_2 + 4);
-                uint32_t v19 = load32(r0_2 + 8);
-                uint32_t v20 = load32(r0_2 + 12);
-                uint32_t v21 = load32(r0_2 + 16);
-                uint32_t v22 = load32(r0_2 + 20);
-                r10_24_1 = v19;
-                r10_32_1 = v20;
-                r10_38_1 = v21;
-                r10_44_1 = v22;
-                r10_1642_1 = v18;
-                r10_8_1 = v17;
-                r10_0_1 = v16;
-            }
-            else {
+            if (v1 == 0) {
                 uint32_t r22 = load32(a1 + 12);
                 if (r1_51_4_copyload < r22) {
-                    r10_24_1 = 0;
-                    r10_32_1 = 0;
-                    r10_38_1 = 0;
-                    r10_44_1 = 0;
-                    r10_1642_1 = 2316;
-                    r10_8_1 = 3;
-                    r10_0_1 = 0;
+                    r29_0_0 = 0;
+                    r29_15_0 = 3;
+                    r29_29117_0 = 2316;
+                    r29_43_0 = 0;
+                    r29_57_0 = 0;
                 }
                 else {
-                    r10_24_1 = r1_51_4_copyload;
-                    r10_32_1 = 0;
-                    r10_38_1 = 0;
-                    r10_44_1 = 0;
-                    r10_1642_1 = 7;
-                    r10_8_1 = 0;
-                    r10_0_1 = 0;
+                    r29_0_0 = 0;
+                    r29_15_0 = 0;
+                    r29_29117_0 = 7;
+                    r29_43_0 = r1_51_4_copyload;
+                    r29_57_0 = 0;
                 }
             }
-            r29_0_0 = r10_0_1;
-            r29_15_0 = r10_8_1;
-            r29_29117_0 = r10_1642_1;
-            r29_43_0 = r10_24_1;
-            r29_57_0 = r10_32_1;
-            r29_67_0 = r10_38_1;
-            r29_77_0 = r10_44_1;
+            else {
+                uint16_t r12_2 = load16(a1 + 6);
+                if (r12_2 < v1) {
+                    r29_0_0 = 0;
+                    r29_15_0 = 3;
+                    r29_29117_0 = 3852;
+                    r29_43_0 = 0;
+                    r29_57_0 = 0;
+                }
+                else {
+                    if (v0 != r1_12_0_0_extract_trunc) {
+                        r29_0_0 = 0;
+                        r29_15_0 = 3;
+                        r29_29117_0 = 2060;
+                        r29_43_0 = 0;
+                        r29_57_0 = 0;
+                    }
+                    else {
+                        size_t r54_2 = load_size(a1 + 40);
+                        if ((uint64_t)r54_2 < ((uint64_t)(size_t)v1 + (uint64_t)(size_t)r1_51_4_copyload)) {
+                            r29_0_0 = 0;
+                            r29_15_0 = 3;
+                            r29_29117_0 = 2060;
+                            r29_43_0 = 0;
+                            r29_57_0 = 0;
+                        }
+                        else {
+                            r29_0_0 = 1;
+                            r29_15_0 = 0;
+                            r29_29117_0 = 3;
+                            r29_43_0 = r1_51_4_copyload;
+                            r29_57_0 = (r1_12_8_copyload + 1) & 0xffffU;
+                        }
+                    }
+                }
+            }
             break;
         case 6:
             r29_0_0 = 0;
@@ -3051,8 +2879,6 @@ static void dfu_device_table_decide(unsigned char *a0, unsigned char *a1, unsign
             r29_29117_0 = 2;
             r29_43_0 = 0;
             r29_57_0 = 0;
-            r29_67_0 = 0;
-            r29_77_0 = 0;
             break;
         case 3:
             r29_0_0 = 0;
@@ -3060,8 +2886,6 @@ static void dfu_device_table_decide(unsigned char *a0, unsigned char *a1, unsign
             r29_29117_0 = 6;
             r29_43_0 = r1_51_4_copyload;
             r29_57_0 = r1_12_8_copyload & 0xffffU;
-            r29_67_0 = 0;
-            r29_77_0 = 0;
             break;
         case 5:
             r29_0_0 = 0;
@@ -3069,8 +2893,6 @@ static void dfu_device_table_decide(unsigned char *a0, unsigned char *a1, unsign
             r29_29117_0 = 6;
             r29_43_0 = r1_51_4_copyload;
             r29_57_0 = r1_12_8_copyload & 0xffffU;
-            r29_67_0 = 0;
-            r29_77_0 = 0;
             break;
         case 0:
         case 2:
@@ -3082,8 +2904,6 @@ static void dfu_device_table_decide(unsigned char *a0, unsigned char *a1, unsign
             r29_29117_0 = 3852;
             r29_43_0 = 0;
             r29_57_0 = 0;
-            r29_67_0 = 0;
-            r29_77_0 = 0;
             break;
         default: never();
         }
@@ -3139,20 +2959,16 @@ static void dfu_device_table_decide(unsigned char *a0, unsigned char *a1, unsign
         r29_29117_0 = r8_1120_0_2;
         r29_43_0 = ((r8_16_6_0_2 & 0xff00U) | (r8_16_0_0_2 & 255)) | r8_16_7_0_0_2;
         r29_57_0 = 0;
-        r29_67_0 = 0;
-        r29_77_0 = 0;
         break;
     case 8: {
-        size_t v30 = (size_t)r11;
-        uint8_t switch_load = *(PLACE(switch_table_dfu_device_table_decide) + v30);
-        uint32_t switch_load149 = (uint32_t)switch_table_dfu_device_table_decide_3[v30];
+        size_t v2 = (size_t)r11;
+        uint8_t switch_load = *(PLACE(switch_table_dfu_device_table_decide) + v2);
+        uint32_t switch_load149 = (uint32_t)switch_table_dfu_device_table_decide_3[v2];
         r29_0_0 = 0;
         r29_15_0 = switch_load;
         r29_29117_0 = switch_load149;
         r29_43_0 = 0;
         r29_57_0 = 0;
-        r29_67_0 = 0;
-        r29_77_0 = 0;
         break;
     }
     case 10:
@@ -3161,78 +2977,78 @@ static void dfu_device_table_decide(unsigned char *a0, unsigned char *a1, unsign
         r29_29117_0 = 10;
         r29_43_0 = 0;
         r29_57_0 = 0;
-        r29_67_0 = 0;
-        r29_77_0 = 0;
         break;
     case 11:
         switch (r11) {
-        case 2: {
-            dfu_device_plans_upload(r10, a1, r1_51_4_copyload, r1_12_0_0_extract_trunc, v0, v1);
-            uint8_t pre_2 = *r10;
-            uint8_t pre39 = r10[1];
-            uint32_t pre40 = load32(r10 + 4);
-            uint32_t pre41 = load32(r10 + 8);
-            uint32_t pre42 = load32(r10 + 12);
-            uint32_t pre43_2 = load32(r10 + 16);
-            uint32_t pre44_2 = load32(r10 + 20);
-            v23 = pre44_2;
-            v24 = pre43_2;
-            v25 = pre42;
-            v26 = pre41;
-            v27 = pre40;
-            v28 = pre39;
-            v29 = pre_2;
+        case 2:
+            if (v1 == 0) {
+                r29_0_0 = 0;
+                r29_15_0 = 3;
+                r29_29117_0 = 3852;
+                r29_43_0 = 0;
+                r29_57_0 = 0;
+            }
+            else {
+                uint16_t r13_2 = load16(a1 + 6);
+                if (r13_2 < v1) {
+                    r29_0_0 = 0;
+                    r29_15_0 = 3;
+                    r29_29117_0 = 3852;
+                    r29_43_0 = 0;
+                    r29_57_0 = 0;
+                }
+                else {
+                    if (v0 == r1_12_0_0_extract_trunc) {
+                        r29_0_0 = 2;
+                        r29_15_0 = 0;
+                        r29_29117_0 = r1_51_4_copyload;
+                        r29_43_0 = ((r1_12_8_copyload << 16) + 0x10000U) | (uint32_t)v1;
+                        r29_57_0 = 0;
+                    }
+                    else {
+                        r29_0_0 = 0;
+                        r29_15_0 = 3;
+                        r29_29117_0 = 2060;
+                        r29_43_0 = 0;
+                        r29_57_0 = 0;
+                    }
+                }
+            }
             break;
-        }
         case 6:
-            v23 = 0;
-            v24 = 0;
-            v25 = 0;
-            v26 = 0;
-            v27 = 2;
-            v28 = 0;
-            v29 = 0;
+            r29_0_0 = 0;
+            r29_15_0 = 0;
+            r29_29117_0 = 2;
+            r29_43_0 = 0;
+            r29_57_0 = 0;
             break;
         case 3:
-            v23 = 0;
-            v24 = 0;
-            v25 = r1_12_8_copyload & 0xffffU;
-            v26 = r1_51_4_copyload;
-            v27 = 11;
-            v28 = 1;
-            v29 = 0;
+            r29_0_0 = 0;
+            r29_15_0 = 1;
+            r29_29117_0 = 11;
+            r29_43_0 = r1_51_4_copyload;
+            r29_57_0 = r1_12_8_copyload & 0xffffU;
             break;
         case 5:
-            v23 = 0;
-            v24 = 0;
-            v25 = r1_12_8_copyload & 0xffffU;
-            v26 = r1_51_4_copyload;
-            v27 = 11;
-            v28 = 2;
-            v29 = 0;
+            r29_0_0 = 0;
+            r29_15_0 = 2;
+            r29_29117_0 = 11;
+            r29_43_0 = r1_51_4_copyload;
+            r29_57_0 = r1_12_8_copyload & 0xffffU;
             break;
         case 0:
         case 1:
         case 4:
         case 7:
         case 8:
-            v23 = 0;
-            v24 = 0;
-            v25 = 0;
-            v26 = 0;
-            v27 = 3852;
-            v28 = 3;
-            v29 = 0;
+            r29_0_0 = 0;
+            r29_15_0 = 3;
+            r29_29117_0 = 3852;
+            r29_43_0 = 0;
+            r29_57_0 = 0;
             break;
         default: never();
         }
-        r29_0_0 = v29;
-        r29_15_0 = v28;
-        r29_29117_0 = v27;
-        r29_43_0 = v26;
-        r29_57_0 = v25;
-        r29_67_0 = v24;
-        r29_77_0 = v23;
         break;
     case 12:
         switch (r11) {
@@ -3242,8 +3058,6 @@ static void dfu_device_table_decide(unsigned char *a0, unsigned char *a1, unsign
             r29_29117_0 = 2;
             r29_43_0 = 0;
             r29_57_0 = 0;
-            r29_67_0 = 0;
-            r29_77_0 = 0;
             break;
         case 3:
             r29_0_0 = 0;
@@ -3251,8 +3065,6 @@ static void dfu_device_table_decide(unsigned char *a0, unsigned char *a1, unsign
             r29_29117_0 = ((uint32_t)r1_3_1_copyload << 8) | 12;
             r29_43_0 = 0;
             r29_57_0 = 0;
-            r29_67_0 = 0;
-            r29_77_0 = 0;
             break;
         case 5:
             r29_0_0 = 0;
@@ -3260,8 +3072,6 @@ static void dfu_device_table_decide(unsigned char *a0, unsigned char *a1, unsign
             r29_29117_0 = ((uint32_t)r1_3_1_copyload << 8) | 12;
             r29_43_0 = 0;
             r29_57_0 = 0;
-            r29_67_0 = 0;
-            r29_77_0 = 0;
             break;
         case 0:
         case 1:
@@ -3274,8 +3084,6 @@ static void dfu_device_table_decide(unsigned char *a0, unsigned char *a1, unsign
             r29_29117_0 = ((uint32_t)r1_3_1_copyload << 8) | 12;
             r29_43_0 = 0;
             r29_57_0 = 0;
-            r29_67_0 = 0;
-            r29_77_0 = 0;
             break;
         default: never();
         }
@@ -3287,72 +3095,8 @@ static void dfu_device_table_decide(unsigned char *a0, unsigned char *a1, unsign
     store32(a0 + 4, r29_29117_0);
     store32(a0 + 8, r29_43_0);
     store32(a0 + 12, r29_57_0);
-    store32(a0 + 16, r29_67_0);
-    store32(a0 + 20, r29_77_0);
-    return;
-}
-
-/* dfu_device::plans::block: crates/dfu_device/src/plans.rt */
-static void dfu_device_plans_block(unsigned char *a0, unsigned char *a1, uint32_t a2, uint16_t a3, uint16_t a4, uint16_t a5) {
-    uint16_t r12 = load16(a1 + 6);
-    if (r12 < a5) {
-        *a0 = 0;
-        a0[1] = 3;
-        store32(a0 + 4, 3852);
-        memset(a0 + 8, 0, 16);
-        return;
-    }
-    if (a4 != a3) {
-        *a0 = 0;
-        a0[1] = 3;
-        store32(a0 + 4, 2060);
-        memset(a0 + 8, 0, 16);
-        return;
-    }
-    size_t r54 = load_size(a1 + 40);
-    if ((uint64_t)r54 < ((uint64_t)(size_t)a5 + (uint64_t)(size_t)a2)) {
-        *a0 = 0;
-        a0[1] = 3;
-        store32(a0 + 4, 2060);
-        memset(a0 + 8, 0, 16);
-        return;
-    }
-    *a0 = 1;
-    a0[1] = 0;
-    store32(a0 + 4, 3);
-    store32(a0 + 8, a2);
-    store32(a0 + 12, (uint32_t)(uint16_t)(a4 + 1));
     store32(a0 + 16, 0);
     store32(a0 + 20, 0);
-    return;
-}
-
-/* dfu_device::plans::upload: crates/dfu_device/src/plans.rt */
-static void dfu_device_plans_upload(unsigned char *a0, unsigned char *a1, uint32_t a2, uint16_t a3, uint16_t a4, uint16_t a5) {
-    if (a5 != 0) {
-        uint16_t r13 = load16(a1 + 6);
-        if (r13 >= a5) {
-            if (a4 != a3) {
-                *a0 = 0;
-                a0[1] = 3;
-                store32(a0 + 4, 2060);
-                memset(a0 + 8, 0, 16);
-                return;
-            }
-            *a0 = 2;
-            a0[1] = 0;
-            store32(a0 + 4, a2);
-            store32(a0 + 8, ((uint32_t)(uint16_t)(a4 + 1) << 16) | (uint32_t)a5);
-            store32(a0 + 12, 0);
-            store32(a0 + 16, 0);
-            store32(a0 + 20, 0);
-            return;
-        }
-    }
-    *a0 = 0;
-    a0[1] = 3;
-    store32(a0 + 4, 3852);
-    memset(a0 + 8, 0, 16);
     return;
 }
 
@@ -3383,24 +3127,6 @@ static uint32_t dfu_device_c_power_start(unsigned char *a0, unsigned char *a1, u
     return common_ret_op;
 }
 
-/* dfu_asks::blank::is_erased: crates/dfu_asks/src/blank.rt */
-static uint8_t dfu_asks_blank_is_erased(unsigned char *a0, size_t a2, uint64_t a3) {
-    unsigned char *r9_0_0_in;
-    uint64_t r23;
-    uint8_t r7;
-    r9_0_0_in = a0 + a2;
-    r23 = a3;
-    for (;;) {
-        r7 = r23 == 0;
-        if (r7) break;
-        uint8_t r2 = *r9_0_0_in;
-        if (r2 != 255) break;
-        r9_0_0_in = r9_0_0_in + 1;
-        r23 = r23 - 1;
-    }
-    return r7;
-}
-
 /* dfu_core_code: crates/dfu_device_c/src/tells.rt */
 int32_t dfu_core_code(const struct dfu_record *record) {
     unsigned char *a0 = (unsigned char *)(uintptr_t)record;
@@ -3428,7 +3154,6 @@ int32_t dfu_core_image(const struct dfu_config *config, const uint8_t *flash, si
     _Alignas(4) unsigned char r10[18];
     uint8_t r3_2_0_copyload;
     uint32_t r3_31_0_copyload, common_ret_op;
-    store64a4(r5 + 44, 0);
     dfu_core_config_settings_of(r5, a0);
     uint8_t r12 = *r5;
     if (r12 != 1) common_ret_op = 0xfffffffeU;
@@ -3478,7 +3203,6 @@ int32_t dfu_core_too_long(const struct dfu_config *config, struct dfu_record *re
     uint64_t r2_0_0_copyload;
     uint32_t r13_107_0, r13_13_0, r13_16_0, common_ret_op;
     store32(r6, 0);
-    memset(r8, 0, 68);
     dfu_core_mode_idle_mode(r8, a0, a1);
     uint8_t r18 = *r8;
     if (r18 != 0) {
@@ -3573,7 +3297,6 @@ int32_t dfu_core_due(const struct dfu_config *config, const struct dfu_record *r
     uint32_t r3_6_0_copyload, r3_7_0_copyload, r3_8_0_copyload, r0_4_0, common_ret_op;
     uint8_t r1_3_0_copyload;
     size_t r1;
-    memset(r7, 0, 68);
     dfu_core_mode_mode_in(r7, a0, a1);
     uint8_t r12 = *r7;
     if (r12 != 0) {
@@ -3645,7 +3368,6 @@ int32_t dfu_core_format_start(const struct dfu_config *config, struct dfu_record
     uint32_t r5_31_0_copyload, common_ret_op;
     uint8_t r5_2_0_copyload;
     r13 = a4;
-    store64a4(r8 + 44, 0);
     dfu_core_config_settings_of(r8, a0);
     uint8_t r18 = *r8;
     if (r18 != 1) common_ret_op = 0xfffffffeU;
@@ -3697,7 +3419,6 @@ int32_t dfu_core_format_took(const struct dfu_config *config, struct dfu_record 
     uint32_t r4_0_0_copyload, r31, r100, r7_8_0, r26, r3_3_4_copyload, common_ret_op;
     r4 = a2;
     r13 = a4;
-    store64a4(r7 + 44, 0);
     dfu_core_config_settings_of(r7, a0);
     uint8_t r18 = *r7;
     if (r18 != 1) common_ret_op = 0xfffffffeU;
@@ -3761,8 +3482,8 @@ int32_t dfu_core_format_took(const struct dfu_config *config, struct dfu_record 
                                 uint32_t r4_3_4_copyload = load32(r6 + 16);
                                 uint64_t r32 = (uint64_t)(size_t)r4_3_4_copyload + 4096;
                                 size_t switch_load = (size_t)switch_table_dfu_slots_layout_fill_size[(size_t)r3_0_0_copyload];
-                                uint64_t v4 = (uint64_t)switch_load - 1;
-                                uint8_t r38_fr = r32 < ((((uint64_t)switch_load - (uint64_t)((size_t)v4 & a5)) & v4) + (uint64_t)a5);
+                                uint64_t v3 = (uint64_t)switch_load - 1;
+                                uint8_t r38_fr = r32 < ((((uint64_t)switch_load - (uint64_t)((size_t)v3 & a5)) & v3) + (uint64_t)a5);
                                 r7_0_0_0 = (uint8_t)(r38_fr ? 2 : 3);
                                 r7_8_0 = (uint32_t)(r38_fr ? (uint32_t)r32 : 0);
                                 break;
@@ -3806,38 +3527,23 @@ int32_t dfu_core_functional(const struct dfu_config *config, uint8_t out[9]) {
     unsigned char *a0 = (unsigned char *)(uintptr_t)config;
     unsigned char *a1 = (unsigned char *)(uintptr_t)out;
     _Alignas(4) unsigned char r1[52];
-    unsigned char *const r15 = r1;
-    _Alignas(4) unsigned char r4[10];
-    _Alignas(4) unsigned char r21[2];
-    _Alignas(4) unsigned char r27[2];
     uint32_t common_ret_op;
     dfu_core_config_settings_of(r1, a0);
     uint8_t r3 = *r1;
     if (r3 != 1) common_ret_op = 0xfffffffeU;
     else {
-        dfu_core_config_functional_of(r4, a0);
-        uint8_t r5_0_0_copyload = *r4;
-        uint8_t r5_3_0_copyload = r4[1];
-        uint8_t r5_4_0_copyload = r4[2];
-        uint8_t r5_5_0_copyload = r4[3];
-        uint16_t r5_6_0_copyload = load16(r4 + 4);
-        uint16_t r5_7_0_copyload = load16(r4 + 6);
-        uint16_t r5_8_0_copyload = load16(r4 + 8);
-        dfu_wire_bytes_two_bytes(r15, r5_6_0_copyload);
-        uint16_t v1 = load16(r15);
-        dfu_wire_bytes_two_bytes(r21, r5_7_0_copyload);
-        uint16_t v2 = load16(r21);
-        dfu_wire_bytes_two_bytes(r27, r5_8_0_copyload);
-        uint16_t v3 = load16(r27);
+        uint8_t r5 = a0[14];
+        uint16_t r7 = load16(a0 + 10);
+        uint16_t r9 = load16(a0 + 12);
         *a1 = 9;
         a1[1] = 33;
-        a1[2] = (((uint8_t)((uint32_t)r5_3_0_copyload << 1) | r5_0_0_copyload) | (uint8_t)((uint32_t)r5_4_0_copyload << 2)) | (uint8_t)((uint32_t)r5_5_0_copyload << 3);
-        a1[3] = (uint8_t)v1;
-        a1[4] = (uint8_t)(uint16_t)(v1 >> 8);
-        a1[5] = (uint8_t)v2;
-        a1[6] = (uint8_t)(uint16_t)(v2 >> 8);
-        a1[7] = (uint8_t)v3;
-        a1[8] = (uint8_t)(uint16_t)(v3 >> 8);
+        a1[2] = r5 & 15;
+        a1[3] = (uint8_t)r7;
+        a1[4] = (uint8_t)(uint16_t)(r7 >> 8);
+        a1[5] = (uint8_t)r9;
+        a1[6] = (uint8_t)(uint16_t)(r9 >> 8);
+        a1[7] = 16;
+        a1[8] = 1;
         common_ret_op = 9;
     }
     return signed32(common_ret_op);
@@ -3860,7 +3566,6 @@ int32_t dfu_core_format_next(const struct dfu_config *config, const struct dfu_r
     uint64_t r6_6_0_copyload;
     size_t r6_8_0_copyload;
     r13 = a4;
-    store64a4(r8 + 44, 0);
     dfu_core_config_settings_of(r8, a0);
     uint8_t r15 = *r8;
     if (r15 != 1) common_ret_op = 0xfffffffeU;
@@ -3924,7 +3629,7 @@ int32_t dfu_core_next(const struct dfu_config *config, const struct dfu_record *
     _Alignas(8) unsigned char r7[24];
     _Alignas(4) unsigned char r18[16];
     _Alignas(4) unsigned char r16[12];
-    unsigned char *r4, *r13, *r62, *v2;
+    unsigned char *r4, *r13, *r26, *r62, *v2;
     uint16_t r54;
     uint8_t r5_0_0_copyload, r11_0_0_copyload;
     uint32_t r6_0_0_copyload, common_ret_op;
@@ -3932,11 +3637,12 @@ int32_t dfu_core_next(const struct dfu_config *config, const struct dfu_record *
     size_t r11_8_0_copyload, a1_2;
     r4 = a2;
     r13 = a4;
-    memset(r5, 0, 144);
+    r26 = r5 + 1;
+    *r26 = 4;
     dfu_core_keeping_found(a0, a1, a3, r5);
     uint8_t r32 = *r5;
     if (r32 != 0) {
-        uint8_t r17_0_0_copyload = r5[1];
+        uint8_t r17_0_0_copyload = *r26;
         uint32_t switch_load = (uint32_t)switch_table_dfu_core_numbers_Refusal_number[(size_t)r17_0_0_copyload];
         common_ret_op = switch_load;
     }
@@ -3959,7 +3665,7 @@ int32_t dfu_core_next(const struct dfu_config *config, const struct dfu_record *
                 r6_0_0_copyload = load32(r5 + 52);
                 uint32_t r17 = load32(r5 + 88);
                 size_t r8 = load_size(r5 + 80);
-                size_t r26 = load_size(r5 + 72);
+                size_t r26_2 = load_size(r5 + 72);
                 *r10 = r5_0_0_copyload;
                 memset(r10 + 1, 0, 3);
                 store32(r10 + 4, r6_0_0_copyload);
@@ -3968,7 +3674,7 @@ int32_t dfu_core_next(const struct dfu_config *config, const struct dfu_record *
                 store64(r10 + 16, (size_t)(uintptr_t)(r4 + r1));
                 store64(r10 + 24, (size_t)umin64((uint64_t)a3 - (uint64_t)r1, r8));
                 store64(r10 + 32, (size_t)(uintptr_t)r4);
-                store64(r10 + 40, umin_size(r1, r26));
+                store64(r10 + 40, umin_size(r1, r26_2));
                 store64(r10 + 48, (size_t)r13_3_9_0_copyload);
                 memset(r10 + 56, 0, 40);
                 r10[96] = 4;
@@ -3985,7 +3691,6 @@ int32_t dfu_core_next(const struct dfu_config *config, const struct dfu_record *
                     r11_8_0_copyload = load_size(r10 + 88);
                     uint8_t r72 = dfu_asks_next_and_took_is_sound(r6_0_0_copyload, r69);
                     if (r72) {
-                        memset(r16, 0, 12);
                         size_t r2412 = a5 >> 1;
                         a1_2 = (size_t)((r11_6_0_copyload < (uint64_t)r2412) ? 0 : r2412);
                         if ((uint64_t)(a1_2 + r2412) >= ((uint64_t)r11_8_0_copyload + r11_6_0_copyload)) {
@@ -4035,7 +3740,7 @@ int32_t dfu_core_took(const struct dfu_config *config, struct dfu_record *record
     size_t a8 = (size_t)room;
     _Alignas(8) unsigned char r7[144];
     _Alignas(8) unsigned char r40[16];
-    unsigned char *r4, *r13, *r22, *r58, *r19, *r62, *r65, *r9_9_0_r65_sroa_idx, *r9_13_0_r65_sroa_idx;
+    unsigned char *r4, *r13, *r22, *r49, *r58, *r19, *r62, *r65, *r9_9_0_r65_sroa_idx, *r9_13_0_r65_sroa_idx;
     size_t r1, r92, r27_2015_0_ph27;
     uint64_t r21;
     uint8_t r92_not;
@@ -4046,13 +3751,14 @@ int32_t dfu_core_took(const struct dfu_config *config, struct dfu_record *record
     r4 = a2;
     r13 = a4;
     r22 = a7;
-    memset(r7, 0, 144);
     if (a8 < 6) common_ret_op = 0xfffffffbU;
     else {
+        r49 = r7 + 1;
+        *r49 = 4;
         dfu_core_keeping_found(a0, a1, a3, r7);
         uint8_t r56 = *r7;
         if (r56 != 0) {
-            uint8_t r22_0_0_copyload = r7[1];
+            uint8_t r22_0_0_copyload = *r49;
             uint32_t switch_load = (uint32_t)switch_table_dfu_core_numbers_Refusal_number[(size_t)r22_0_0_copyload];
             common_ret_op = switch_load;
         }
@@ -4063,7 +3769,6 @@ int32_t dfu_core_took(const struct dfu_config *config, struct dfu_record *record
             r19 = r4 + r1;
             r21 = (uint64_t)a3 - (uint64_t)r1;
             r92_not = a6 == 0;
-            memset(r40, 0, 16);
             r62 = r7 + 112;
             uint8_t r63 = *r62;
             if (r63 == 1) {
@@ -4130,7 +3835,6 @@ int32_t dfu_core_refuse(const struct dfu_config *config, struct dfu_record *reco
     _Alignas(4) unsigned char r11[16];
     uint8_t r12_0_0, r12_4_0;
     uint32_t r12_76_0, r12_10_0, r12_13_0, common_ret_op;
-    memset(r6, 0, 68);
     store32(r11, 0);
     dfu_core_mode_idle_mode(r6, a0, a1);
     uint8_t r13 = *r6;
@@ -4199,7 +3903,6 @@ int32_t dfu_core_refuse_close(const struct dfu_config *config, struct dfu_record
     _Alignas(8) unsigned char r6[8];
     uint32_t common_ret_op;
     store32(r2, 0);
-    memset(r8, 0, 68);
     store32(r19, 12);
     dfu_core_mode_idle_mode(r8, a0, a1);
     uint8_t r21 = *r8;
@@ -4243,34 +3946,34 @@ int32_t dfu_core_candidate(const struct dfu_config *config, const struct dfu_rec
     _Alignas(8) unsigned char r3[144];
     _Alignas(8) unsigned char r3_2[24];
     _Alignas(4) unsigned char r13[20];
-    unsigned char *r4;
+    unsigned char *r4, *r19;
+    uint8_t r10_0_0_copyload, r2_0_0, r13_0_0_copyload_sink;
     uint32_t r11_0_0_copyload, r4_2_0_copyload, v4, common_ret_op;
-    uint8_t r10_0_0_copyload;
-    size_t r2_0_0;
     r4 = a2;
-    memset(r3, 0, 144);
+    r19 = r3 + 1;
+    *r19 = 4;
     dfu_core_keeping_found(a0, a1, 4352, r3);
     uint8_t r22 = *r3;
     if (r22 != 0) {
-        uint8_t r13_0_0_copyload = r3[1];
-        uint32_t switch_load_4 = (uint32_t)switch_table_dfu_core_numbers_Refusal_number[(size_t)r13_0_0_copyload];
-        common_ret_op = switch_load_4;
+        uint8_t r13_0_0_copyload = *r19;
+        r13_0_0_copyload_sink = r13_0_0_copyload;
     }
     else {
-        memset(r13, 0, 20);
         uint8_t r2 = r3[112];
         if (r2 == 1) r2_0_0 = 2;
         else {
-            if (wide(a3) <= 0xffffffffU) {
+            r10_0_0_copyload = r3[48];
+            if (wide(a3) > 0xffffffffU) r2_0_0 = 3;
+            else {
                 r11_0_0_copyload = load32(r3 + 52);
-                r10_0_0_copyload = r3[48];
                 store_size(r3_2, (size_t)(uintptr_t)r4);
                 store_size(r3_2 + 8, a3);
                 r3_2[16] = r10_0_0_copyload;
                 store32(r3_2 + 20, r11_0_0_copyload);
                 dfu_asks_noted_look(r13, r3_2, r3 + 92);
                 uint8_t r65 = *r13;
-                if (r65 == 1) {
+                if (r65 != 1) r2_0_0 = 3;
+                else {
                     r4_2_0_copyload = load32(r13 + 8);
                     uint8_t v3 = r3[56];
                     v4 = load32(r3 + 60);
@@ -4279,17 +3982,17 @@ int32_t dfu_core_candidate(const struct dfu_config *config, const struct dfu_rec
                     case 7:
                     case 9: {
                         uint32_t r4_3_0_copyload = load32(r13 + 12);
-                        if (r4_3_0_copyload < v4) {
-                            r2_0_0 = 4;
-                            goto dfu_device_c_tells_refused_exit;
+                        if (r4_3_0_copyload >= v4) {
+                            size_t v5 = (size_t)r10_0_0_copyload;
+                            uint32_t switch_load = (uint32_t)switch_table_dfu_asks_next_piece_numbered_piece[v5];
+                            uint32_t switch_load_2 = (uint32_t)switch_table_dfu_core_candidate[v5];
+                            store32(a4, (umax32(r11_0_0_copyload, switch_load) << 1) + r4_2_0_copyload);
+                            store32(a4 + 4, switch_load_2 & v4);
+                            common_ret_op = 0;
+                            goto dfu_device_c_image_dfu_core_candidate_exit;
                         }
-                        size_t v5 = (size_t)r10_0_0_copyload;
-                        uint32_t switch_load = (uint32_t)switch_table_dfu_asks_next_piece_numbered_piece[v5];
-                        uint32_t switch_load_2 = (uint32_t)switch_table_dfu_core_candidate[v5];
-                        store32(a4, (umax32(r11_0_0_copyload, switch_load) << 1) + r4_2_0_copyload);
-                        store32(a4 + 4, switch_load_2 & v4);
-                        common_ret_op = 0;
-                        goto dfu_device_c_image_dfu_core_candidate_exit;
+                        r2_0_0 = 4;
+                        break;
                     }
                     case 0:
                     case 1:
@@ -4307,12 +4010,11 @@ int32_t dfu_core_candidate(const struct dfu_config *config, const struct dfu_rec
                     }
                 }
             }
-            r2_0_0 = 3;
         }
-dfu_device_c_tells_refused_exit:;
-        uint32_t switch_load_3 = (uint32_t)switch_table_dfu_core_numbers_Refusal_number[r2_0_0];
-        common_ret_op = switch_load_3;
+        r13_0_0_copyload_sink = r2_0_0;
     }
+    uint32_t switch_load_3 = (uint32_t)switch_table_dfu_core_numbers_Refusal_number[(size_t)r13_0_0_copyload_sink];
+    common_ret_op = switch_load_3;
 dfu_device_c_image_dfu_core_candidate_exit:
     return signed32(common_ret_op);
 }
@@ -4332,20 +4034,20 @@ int32_t dfu_core_elapse(const struct dfu_config *config, struct dfu_record *reco
     _Alignas(4) unsigned char r12[24];
     _Alignas(8) unsigned char r29[16];
     _Alignas(1) unsigned char r13_2[6];
-    unsigned char *r4, *r13, *r44, *r19, *r5_2, *v3, *r0_6_0_a0_sroa_idx;
-    size_t r1, r2_0_0;
+    unsigned char *r4, *r13, *r35, *r44, *r19, *r5_2, *v3, *r0_6_0_a0_sroa_idx;
+    size_t r1;
     uint64_t r21, r21_2, r16, r19_3;
     uint32_t r2_2, r2_3, v5, v6, v7, r18_1148_0, r18_16_0, r18_21_0, r18_26_0, common_ret_op;
-    uint8_t r11_2_0_copyload, r11_3_0_copyload, v4, r18_0_0;
+    uint8_t r11_2_0_copyload, r11_3_0_copyload, v4, r18_0_0, r18_0_0_copyload_sink;
     r4 = a2;
     r13 = a4;
-    memset(r5, 0, 144);
+    r35 = r5 + 1;
+    *r35 = 4;
     dfu_core_keeping_found(a0, a1, a3, r5);
     uint8_t r42 = *r5;
     if (r42 != 0) {
-        uint8_t r18_0_0_copyload = r5[1];
-        uint32_t switch_load_2 = (uint32_t)switch_table_dfu_core_numbers_Refusal_number[(size_t)r18_0_0_copyload];
-        common_ret_op = switch_load_2;
+        uint8_t r18_0_0_copyload = *r35;
+        r18_0_0_copyload_sink = r18_0_0_copyload;
     }
     else {
         r44 = r5 + 8;
@@ -4354,10 +4056,8 @@ int32_t dfu_core_elapse(const struct dfu_config *config, struct dfu_record *reco
         r19 = r4 + r1;
         r21 = (uint64_t)a3 - (uint64_t)r1;
         store32(r12, 0);
-        memset(r19_2, 0, 48);
-        memset(r29, 0, 16);
         uint8_t r2 = r5[112];
-        if (r2 == 1) r2_0_0 = 2;
+        if (r2 == 1) r18_0_0_copyload_sink = 2;
         else {
             dfu_asks_asking_Asking_see(r19_2, r44, r1, r13, a5);
             uint8_t r1_0_0_copyload = *r19_2;
@@ -4475,19 +4175,18 @@ int32_t dfu_core_elapse(const struct dfu_config *config, struct dfu_record *reco
                 store32(r12 + 8, r18_16_0);
                 store32(r12 + 12, r18_21_0);
                 store32(r12 + 16, r18_26_0);
-                memset(r13_2, 0, 6);
                 dfu_asks_asking_Asking_carry_out(r29, r44, r12, 0, 0, PLACE(static_2), 0, r4, r1, r19, r21, r5_2, v3, r13_2, 6);
-                uint8_t v10 = *r29;
+                uint8_t v9 = *r29;
                 dfu_core_keeping_keep(r44, a1);
-                common_ret_op = (uint32_t)((v10 == 0) ? 0xfffffff5U : 0);
+                common_ret_op = (uint32_t)((v9 == 0) ? 0xfffffff5U : 0);
                 goto dfu_device_c_calls_dfu_core_elapse_exit;
             }
             uint8_t r1_3_1_copyload = r19_2[1];
-            r2_0_0 = (size_t)(((uint32_t)0x4040302U >> (((uint32_t)r1_3_1_copyload << 3) & 31)) & 7);
+            r18_0_0_copyload_sink = (uint8_t)((uint32_t)0x4040302U >> (((uint32_t)r1_3_1_copyload << 3) & 31));
         }
-        uint32_t switch_load = (uint32_t)switch_table_dfu_core_numbers_Refusal_number[r2_0_0];
-        common_ret_op = switch_load;
     }
+    uint32_t switch_load = (uint32_t)switch_table_dfu_core_numbers_Refusal_number[(size_t)r18_0_0_copyload_sink];
+    common_ret_op = switch_load;
 dfu_device_c_calls_dfu_core_elapse_exit:
     return signed32(common_ret_op);
 }
@@ -4502,32 +4201,31 @@ int32_t dfu_core_usb_reset(const struct dfu_config *config, struct dfu_record *r
     size_t a5 = (size_t)size;
     _Alignas(8) unsigned char r5[144];
     _Alignas(8) unsigned char r14[48];
-    unsigned char *r13, *r38;
+    unsigned char *r13, *r29, *r38;
     uint16_t r53;
-    size_t r2_0_0;
+    uint8_t r18_0_0_copyload_sink;
     uint32_t common_ret_op;
     r13 = a4;
-    memset(r5, 0, 144);
+    r29 = r5 + 1;
+    *r29 = 4;
     dfu_core_keeping_found(a0, a1, a3, r5);
     uint8_t r36 = *r5;
     if (r36 != 0) {
-        uint8_t r18_0_0_copyload = r5[1];
-        uint32_t switch_load_2 = (uint32_t)switch_table_dfu_core_numbers_Refusal_number[(size_t)r18_0_0_copyload];
-        common_ret_op = switch_load_2;
+        uint8_t r18_0_0_copyload = *r29;
+        r18_0_0_copyload_sink = r18_0_0_copyload;
     }
     else {
         r38 = r5 + 8;
         r53 = load16(a0 + 12);
-        memset(r14, 0, 48);
         uint8_t r2 = r5[112];
-        if (r2 == 1) r2_0_0 = 2;
+        if (r2 == 1) r18_0_0_copyload_sink = 2;
         else {
             dfu_asks_asking_Asking_see(r14, r38, (size_t)r53, r13, a5);
             uint8_t r1_0_0_copyload = *r14;
             if (r1_0_0_copyload == 0) {
                 unsigned char *r42 = r5 + 56;
-                uint8_t v4 = *r42;
-                *r42 = (uint8_t)((v4 == 1) ? 2 : 0);
+                uint8_t v3 = *r42;
+                *r42 = (uint8_t)((v3 == 1) ? 2 : 0);
                 r5[57] = 0;
                 store32(r5 + 60, 0);
                 store32(r5 + 64, 0);
@@ -4537,11 +4235,11 @@ int32_t dfu_core_usb_reset(const struct dfu_config *config, struct dfu_record *r
                 goto dfu_device_c_calls_dfu_core_usb_reset_exit;
             }
             uint8_t r1_3_1_copyload = r14[1];
-            r2_0_0 = (size_t)(((uint32_t)0x4040302U >> (((uint32_t)r1_3_1_copyload << 3) & 31)) & 7);
+            r18_0_0_copyload_sink = (uint8_t)((uint32_t)0x4040302U >> (((uint32_t)r1_3_1_copyload << 3) & 31));
         }
-        uint32_t switch_load = (uint32_t)switch_table_dfu_core_numbers_Refusal_number[r2_0_0];
-        common_ret_op = switch_load;
     }
+    uint32_t switch_load = (uint32_t)switch_table_dfu_core_numbers_Refusal_number[(size_t)r18_0_0_copyload_sink];
+    common_ret_op = switch_load;
 dfu_device_c_calls_dfu_core_usb_reset_exit:
     return signed32(common_ret_op);
 }
@@ -4568,27 +4266,27 @@ int32_t dfu_core_handle(const struct dfu_config *config, struct dfu_record *reco
     _Alignas(8) unsigned char r0[16];
     _Alignas(8) unsigned char r12_2[8];
     _Alignas(4) unsigned char r13_2[6];
-    unsigned char *r4, *r13, *r22, *r31, *r68, *r19, *r5, *v7;
+    unsigned char *r4, *r13, *r22, *r31, *r59, *r68, *r19, *r5, *v7;
     uint16_t r4_2, r9_0, r9_0_2, r16_24_0;
     uint64_t r2_0_0_copyload, r21;
     uint8_t r15_not_not;
-    size_t r1, v14, v25, r2_0_0;
-    uint8_t v8, v9, r16_0_0, r16_4_0, v24;
+    size_t r1, v14, v24;
+    uint8_t v8, v9, r16_0_0, r16_4_0, v23, r27_0_0_copyload_sink;
     uint32_t v10, v11, v12, r16_9_0, r16_12_0, r16_15_0, r16_18_0, common_ret_op;
     r4 = a2;
     r13 = a4;
     r22 = a7;
     r31 = a9;
-    memset(r9, 0, 144);
     r4_2 = load16(a0 + 12);
     if (a10 < (size_t)umax16(r4_2, 6)) common_ret_op = 0xfffffffbU;
     else {
+        r59 = r9 + 1;
+        *r59 = 4;
         dfu_core_keeping_found(a0, a1, a3, r9);
         uint8_t r66 = *r9;
         if (r66 != 0) {
-            uint8_t r27_0_0_copyload = r9[1];
-            uint32_t switch_load_2 = (uint32_t)switch_table_dfu_core_numbers_Refusal_number[(size_t)r27_0_0_copyload];
-            common_ret_op = switch_load_2;
+            uint8_t r27_0_0_copyload = *r59;
+            r27_0_0_copyload_sink = r27_0_0_copyload;
         }
         else {
             r68 = r9 + 8;
@@ -4598,12 +4296,11 @@ int32_t dfu_core_handle(const struct dfu_config *config, struct dfu_record *reco
             r1 = (size_t)r4_2;
             r19 = r4 + r1;
             r21 = (uint64_t)a3 - (uint64_t)r1;
-            memset(r27, 0, 48);
             uint8_t r2 = r9[112];
-            if (r2 == 1) r2_0_0 = 2;
+            if (r2 == 1) r27_0_0_copyload_sink = 2;
             else {
                 uint16_t r21_2_0_copyload = load16(r9 + 20);
-                if (a10 < (size_t)umax16(r21_2_0_copyload, 6)) r2_0_0 = 4;
+                if (a10 < (size_t)umax16(r21_2_0_copyload, 6)) r27_0_0_copyload_sink = 4;
                 else {
                     dfu_asks_asking_Asking_see(r27, r68, r1, r13, a5);
                     uint8_t r1_0_0_copyload = *r27;
@@ -4611,8 +4308,6 @@ int32_t dfu_core_handle(const struct dfu_config *config, struct dfu_record *reco
                         r5 = r27 + 8;
                         v7 = r27 + 32;
                         uint32_t r12_3_0_copyload = load32(r27 + 40);
-                        memset(r0, 0, 16);
-                        memset(r10, 0, 24);
                         memcpy(r12, r9 + 14, 10);
                         uint32_t r2_2 = load32(r9 + 24);
                         uint32_t r2_3 = load32(r9 + 28);
@@ -4631,7 +4326,6 @@ int32_t dfu_core_handle(const struct dfu_config *config, struct dfu_record *reco
                         r1_2[1] = v9;
                         store32(r1_2 + 4, v10);
                         store32(r1_2 + 8, v11);
-                        memset(r21_2, 0, 24);
                         store64(r12_2, (uint64_t)(r15_not_not ? 0 : 0x100000000ULL) | (r2_0_0_copyload & 0xffffff00ffffffffULL));
                         dfu_wire_setups_Setup_request(r13_2, r12_2);
                         uint8_t r2_5 = *r13_2;
@@ -4690,20 +4384,20 @@ arm_8:
                         store32(r10 + 12, r16_15_0);
                         store32(r10 + 16, r16_18_0);
                         dfu_asks_asking_Asking_carry_out(r0, r68, r10, 1, r16_24_0, r22, a8, r4, r1, r19, r21, r5, v7, r31, a10);
-                        uint8_t v23 = *r0;
-                        v24 = r0[1];
-                        v25 = load_size(r0 + 8);
+                        uint8_t v22 = *r0;
+                        v23 = r0[1];
+                        v24 = load_size(r0 + 8);
                         dfu_core_keeping_keep(r68, a1);
-                        if (v23 == 0) {
+                        if (v22 == 0) {
                             common_ret_op = 0xfffffff5U;
                             goto dfu_device_c_calls_dfu_core_handle_exit;
                         }
-                        switch (v24) {
+                        switch (v23) {
                         case 0:
                             common_ret_op = 0;
                             goto dfu_device_c_calls_dfu_core_handle_exit;
                         case 1:
-                            common_ret_op = (uint32_t)v25;
+                            common_ret_op = (uint32_t)v24;
                             goto dfu_device_c_calls_dfu_core_handle_exit;
                         case 2:
                             common_ret_op = 0xffffffffU;
@@ -4712,12 +4406,12 @@ arm_8:
                         }
                     }
                     uint8_t r1_3_1_copyload = r27[1];
-                    r2_0_0 = (size_t)(((uint32_t)0x4040302U >> (((uint32_t)r1_3_1_copyload << 3) & 31)) & 7);
+                    r27_0_0_copyload_sink = (uint8_t)((uint32_t)0x4040302U >> (((uint32_t)r1_3_1_copyload << 3) & 31));
                 }
             }
-            uint32_t switch_load = (uint32_t)switch_table_dfu_core_numbers_Refusal_number[r2_0_0];
-            common_ret_op = switch_load;
         }
+        uint32_t switch_load = (uint32_t)switch_table_dfu_core_numbers_Refusal_number[(size_t)r27_0_0_copyload_sink];
+        common_ret_op = switch_load;
     }
 dfu_device_c_calls_dfu_core_handle_exit:
     return signed32(common_ret_op);
@@ -4753,7 +4447,6 @@ int32_t dfu_core_closes(const struct dfu_config *config, const struct dfu_record
     _Alignas(8) unsigned char r5[8];
     uint32_t common_ret_op;
     store32(r2, 0);
-    memset(r7, 0, 68);
     dfu_core_mode_idle_mode(r7, a0, a1);
     uint8_t r14 = *r7;
     if (r14 != 0) {
@@ -4782,39 +4475,56 @@ int32_t dfu_core_is_blank(const struct dfu_config *config, const uint8_t *flash,
     size_t a2 = (size_t)size;
     _Alignas(4) unsigned char r7[52];
     _Alignas(8) unsigned char r5[24];
-    unsigned char *r4;
+    unsigned char *r4, *r9_0_0_in, *r9_0_0_in_2;
     uint8_t r3_2_0_copyload;
-    uint32_t r17, common_ret_op;
-    uint64_t r26;
+    uint32_t r1_4_0, common_ret_op;
+    uint64_t r26, r23, r23_2;
+    uint8_t r7_2;
     r4 = a1;
-    store64a4(r7 + 44, 0);
     dfu_core_config_settings_of(r7, a0);
     uint8_t r14 = *r7;
     if (r14 != 1) common_ret_op = 0xfffffffeU;
     else {
         r3_2_0_copyload = r7[44];
         uint32_t r3_31_0_copyload = load32(r7 + 48);
-        struct i8_i32 r15 = dfu_asks_sector_Sector_new(r3_31_0_copyload);
-        r17 = r15.b;
-        if (!((wide(a2) < 0x100000000ULL) & (r15.a & 1))) common_ret_op = 0xfffffffdU;
+        uint8_t or_cond = (r3_31_0_copyload < 0x20001U) & ((r3_31_0_copyload & 255) == 0);
+        r1_4_0 = (uint32_t)(or_cond ? r3_31_0_copyload : 0);
+        if (!((wide(a2) < 0x100000000ULL) & or_cond)) common_ret_op = 0xfffffffdU;
         else {
             store_size(r5 + 8, a2);
             r5[16] = r3_2_0_copyload;
-            store32(r5 + 20, r17);
+            store32(r5 + 20, r1_4_0);
             uint8_t r10 = dfu_slots_layout_is_sized(r5);
             if (!r10) common_ret_op = 0xfffffffaU;
             else {
                 uint32_t switch_load = (uint32_t)switch_table_dfu_asks_next_piece_numbered_piece[(size_t)r3_2_0_copyload];
-                r26 = (uint64_t)(size_t)umax32(r17, switch_load) << 1;
-                uint8_t r31 = dfu_asks_blank_is_erased(r4, 0, r26);
-                if (!r31) common_ret_op = 0;
-                else {
-                    uint8_t r50 = dfu_asks_blank_is_erased(r4, a2 >> 1, r26);
-                    common_ret_op = (uint32_t)r50;
+                r26 = (uint64_t)(size_t)umax32(r1_4_0, switch_load) << 1;
+                r9_0_0_in = r4;
+                r23 = r26;
+                while (r23 != 0) {
+                    uint8_t r2 = *r9_0_0_in;
+                    if (r2 != 255) {
+                        common_ret_op = 0;
+                        goto dfu_device_c_blank_dfu_core_is_blank_exit;
+                    }
+                    r9_0_0_in = r9_0_0_in + 1;
+                    r23 = r23 - 1;
                 }
+                r9_0_0_in_2 = r4 + (a2 >> 1);
+                r23_2 = r26;
+                for (;;) {
+                    r7_2 = r23_2 == 0;
+                    if (r7_2) break;
+                    uint8_t r2_2 = *r9_0_0_in_2;
+                    if (r2_2 != 255) break;
+                    r9_0_0_in_2 = r9_0_0_in_2 + 1;
+                    r23_2 = r23_2 - 1;
+                }
+                common_ret_op = (uint32_t)r7_2;
             }
         }
     }
+dfu_device_c_blank_dfu_core_is_blank_exit:
     return signed32(common_ret_op);
 }
 
@@ -4832,7 +4542,6 @@ int32_t dfu_core_would_stall(const struct dfu_config *config, const struct dfu_r
     _Alignas(4) unsigned char r10[6];
     _Alignas(4) unsigned char r16_2[6];
     uint32_t common_ret_op;
-    memset(r7, 0, 68);
     dfu_core_mode_idle_mode(r7, a0, a1);
     uint8_t r16 = *r7;
     if (r16 != 0) {
@@ -4871,7 +4580,6 @@ int32_t dfu_core_would_stall(const struct dfu_config *config, const struct dfu_r
         store16(r10 + 2, v6);
         uint16_t v7 = load16(r16_2 + 4);
         store16(r10 + 4, v7);
-        memset(r17, 0, 24);
         dfu_device_table_decide(r17, r12, r1, r10);
         uint8_t r1_0_0_copyload = *r17;
         uint8_t r1_3_1_copyload = r17[1];

@@ -274,12 +274,10 @@ static const uint8_t switch_table_dfu_host_name_1[11] = {
     9, 0x15, 0x1d, 0x25, 0x2d, 0x3c, 0x45, 0x55, 0x5f, 0x68, 0x72
 };
 
-static uint8_t dfu_host_c_watching_is_download(unsigned char *a0);
 static uint8_t dfu_host_c_watching_is_other(unsigned char *a0, unsigned char *a1);
 static void dfu_formats_dfuse_file_read(unsigned char *a0, unsigned char *a1, size_t a2);
 static void dfu_suffix_parse_read_small(unsigned char *a0, unsigned char *a1, size_t a2);
 static void dfu_suffix_crc_Crc_update_small(unsigned char *a0, unsigned char *a1, uint64_t a2);
-static void core_slice_edits_slice_T_copy_from_slice_i8_core_clone_U8Clone(unsigned char *a0, unsigned char *a2, size_t a3);
 static void dfu_formats_dfuse_headings_take_heading(unsigned char *a0, unsigned char *a1, size_t a2);
 static void dfu_formats_dfuse_elements_take_element(unsigned char *a0, unsigned char *a1, size_t a2);
 static void dfu_formats_memory_map_Map_read(unsigned char *a0, unsigned char *a1, size_t a2);
@@ -304,8 +302,6 @@ static struct ptr_i64 dfu_host_task_Task_block(unsigned char *a0, uint64_t a1);
 static void dfu_host_task_download(unsigned char *a0, size_t a1, size_t a3);
 static void dfu_host_task_send(unsigned char *a0, unsigned char *a1, size_t a3);
 static void dfu_wire_requests_Request_setup(unsigned char *a0, unsigned char *a1);
-static void dfu_wire_setups_Setup_encode(unsigned char *a0, unsigned char *a1);
-static void dfu_wire_bytes_two_bytes(unsigned char *a0, uint16_t a1);
 static void dfu_wire_functionals_Functional_decode(unsigned char *a0, unsigned char *a1, size_t a2);
 static void dfu_host_c_beginning_start(unsigned char *a0, unsigned char *a1);
 static uint32_t dfu_host_c_beginning_install(unsigned char *a0, unsigned char *a1, size_t a2, unsigned char *a3, size_t a4, unsigned char *a5, uint32_t a6, uint16_t a7, uint8_t a8);
@@ -339,7 +335,6 @@ static struct ptr_i64 dfuse_host_plan_Plan_bytes_in(unsigned char *a0, uint64_t 
 static struct ptr_i64 dfuse_host_plan_Plan_read_bytes(unsigned char *a0, unsigned char *a1);
 static uint64_t dfuse_host_plan_Plan_read_end(unsigned char *a0, uint64_t a1, uint64_t a2);
 static void dfuse_host_asking_download(unsigned char *a0, unsigned char *a1, uint64_t a2);
-static uint32_t dfu_host_c_dfuse_action_send(unsigned char *a0, unsigned char *a1, uint64_t a2, unsigned char *a3, size_t a4, unsigned char *a5);
 static struct i32_i32 dfu_host_c_dfuse_reports_report_numbers(uint8_t a0, uint8_t a1);
 static uint8_t dfuse_host_plan_Plan_grants(unsigned char *a0, unsigned char *a1);
 static void dfu_host_c_dfuse_holding_record_of(unsigned char *a0, unsigned char *a1);
@@ -355,22 +350,6 @@ static void dfuse_host_plan_Plan_to_write_front(unsigned char *a0, unsigned char
 static void dfuse_host_plan_Plan_to_compare_front(unsigned char *a0, unsigned char *a1, uint8_t a2, uint64_t a3, uint64_t a4);
 static void dfuse_host_plan_Plan_unsure_of(unsigned char *a0, unsigned char *a1, unsigned char *a2, uint8_t a3, uint64_t a4);
 static void dfuse_host_session_Session_spent(unsigned char *a0, unsigned char *a1, unsigned char *a2, uint16_t a3);
-
-/* dfu_host_c::watching::is_download: crates/dfu_host_c/src/watching.rt */
-static uint8_t dfu_host_c_watching_is_download(unsigned char *a0) {
-    uint8_t r1_0_in;
-    uint32_t r10 = load32(a0);
-    if (r10 != 0) r1_0_in = 0;
-    else {
-        uint8_t r20 = a0[28];
-        if (r20 != 33) r1_0_in = 0;
-        else {
-            uint8_t r33 = a0[29];
-            r1_0_in = r33 == 1;
-        }
-    }
-    return r1_0_in;
-}
 
 /* dfu_host_c::watching::is_other: crates/dfu_host_c/src/watching.rt */
 static uint8_t dfu_host_c_watching_is_other(unsigned char *a0, unsigned char *a1) {
@@ -833,29 +812,12 @@ static void dfu_suffix_crc_Crc_update_small(unsigned char *a0, unsigned char *a1
     return;
 }
 
-/* core::slice::edits::slice+T::copy_from_slice::<i8,20'core::clone::U8Clone{}> */
-static void core_slice_edits_slice_T_copy_from_slice_i8_core_clone_U8Clone(unsigned char *a0, unsigned char *a2, size_t a3) {
-    size_t r0_0;
-    if (((uint64_t)(size_t)(uintptr_t)a0 - (uint64_t)(size_t)(uintptr_t)a2) >= (uint64_t)a3) {
-        memmove(a0, a2, a3);
-        return;
-    }
-    r0_0 = 0;
-    for (;;) {
-        if (r0_0 == a3) return;
-        uint8_t r26 = a2[r0_0];
-        a0[r0_0] = r26;
-        r0_0 = r0_0 + 1;
-    }
-}
-
 /* dfu_formats::dfuse::headings::take_heading: crates/dfu_formats/src/dfuse/headings.rt */
 static void dfu_formats_dfuse_headings_take_heading(unsigned char *a0, unsigned char *a1, size_t a2) {
     size_t r57, r19;
     if (a2 < 274) {
         *a0 = 1;
         a0[1] = 10;
-        memset(a0 + 8, 0, 64);
         return;
     }
     uint8_t r23 = *a1;
@@ -876,14 +838,12 @@ static void dfu_formats_dfuse_headings_take_heading(unsigned char *a0, unsigned 
                             if (r19 < r57) {
                                 *a0 = 1;
                                 a0[1] = 11;
-                                memset(a0 + 8, 0, 64);
                                 return;
                             }
                             unsigned char *r16 = a1 + 274;
                             uint8_t r90 = a1[6];
                             uint32_t r26_2 = load32u(a1 + 270);
                             *a0 = 0;
-                            a0[1] = 0;
                             a0[8] = r90;
                             store32(a0 + 32, r26_2);
                             store_size(a0 + 40, (size_t)(uintptr_t)r16);
@@ -899,7 +859,6 @@ static void dfu_formats_dfuse_headings_take_heading(unsigned char *a0, unsigned 
     }
     *a0 = 1;
     a0[1] = 10;
-    memset(a0 + 8, 0, 64);
     return;
 }
 
@@ -911,7 +870,6 @@ static void dfu_formats_dfuse_elements_take_element(unsigned char *a0, unsigned 
     if (a2 < 8) {
         *a0 = 1;
         a0[1] = 12;
-        memset(a0 + 8, 0, 40);
         return;
     }
     r26 = load32u(a1);
@@ -923,23 +881,19 @@ static void dfu_formats_dfuse_elements_take_element(unsigned char *a0, unsigned 
     if (r19 < r49) {
         *a0 = 1;
         a0[1] = 12;
-        memset(a0 + 8, 0, 40);
         return;
     }
     if (r26_2 == 0) {
         *a0 = 1;
         a0[1] = 13;
-        memset(a0 + 8, 0, 40);
         return;
     }
     if (((uint64_t)r49 + (uint64_t)(size_t)r26) > 0x100000000ULL) {
         *a0 = 1;
         a0[1] = 14;
-        memset(a0 + 8, 0, 40);
         return;
     }
     *a0 = 0;
-    a0[1] = 0;
     store32(a0 + 8, r26);
     store32(a0 + 12, 0);
     store64(a0 + 16, wide_1311);
@@ -951,24 +905,24 @@ static void dfu_formats_dfuse_elements_take_element(unsigned char *a0, unsigned 
 
 /* dfu_formats::memory::map::Map::read */
 static void dfu_formats_memory_map_Map_read(unsigned char *a0, unsigned char *a1, size_t a2) {
-    _Alignas(2) unsigned char r20_11[782];
+    _Alignas(2) unsigned char r17_11[782];
     _Alignas(8) unsigned char r3[776];
-    _Alignas(2) unsigned char r0_17_11[776];
+    _Alignas(2) unsigned char r0_20_8[776];
     _Alignas(8) unsigned char r9[776];
     _Alignas(8) unsigned char r0_20[776];
     _Alignas(8) unsigned char r1[768];
     unsigned char *const r12 = r1;
     unsigned char *const r4 = r1;
     unsigned char *const r5 = r1;
-    _Alignas(8) unsigned char r16_2[32];
-    size_t r19, wide_1311, r23, r8_6_5_6_copyload, r2_0, r5_0_0, r1_0, r8_17_0_0, r9_2, r11_2, r0_131_0;
-    unsigned char *r16, *r4_0_0_in, *r11_3_0_r3_sroa_idx, *r20, *r3_3_0_r27_sroa_idx, *r3_4_0_r27_sroa_idx, *r16_3, *r3_3_0_r23_sroa_idx, *r3_4_0_r23_sroa_idx, *r43, *r5_3_0_r43_sroa_idx, *r5_3_3_0_r5_3_0_r43_sroa_idx_sroa_idx;
-    unsigned char *r29_2, *r27_2, *r5_6_3_0_ptr220, *r16_4, *r20_11_8_r60_sroa_idx, *r26, *r16_5, *r10, *r14, *r23_2;
-    uint64_t r3_0, r3_0_2, r4_0, r8_6_3_6_copyload, r8_6_6_6_copyload, r3_2, r5_4_0, r4_0_2, r21, r3_4_0_copyload, r17, r3_4_0_copyload_2;
-    uint64_t r5_6_4_0_ph221, r5_6_1_0_ph219, r17_2, r21_2, r19_4, r8_17_5_0, r8_13_0, r4_2, indvars_iv_in, r4_0_3, indvars_iv, r51;
-    uint64_t r19_5, r3_0_3, r3_0_lcssa, r0_19_0;
-    uint8_t r25_4, r8_6_0, r20_6_0, r0_0_0, r0_7_0;
-    memset(r0_17_11, 0, 776);
+    _Alignas(8) unsigned char r14[32];
+    size_t r19, wide_1311, r23, r7_3_0_copyload, r2_0, r5_0_0, r1_0, r8_17_0_0, r9_2, r11_2, r0_131_0;
+    unsigned char *r16, *r4_0_0_in, *r11_3_0_r3_sroa_idx, *r20, *r3_3_0_r27_sroa_idx, *r3_4_0_r27_sroa_idx, *r16_2, *r3_3_0_r23_sroa_idx, *r3_4_0_r23_sroa_idx, *r43, *r5_3_0_r43_sroa_idx, *r5_3_3_0_r5_3_0_r43_sroa_idx_sroa_idx;
+    unsigned char *r29_2, *r27_2, *r58139, *r16_4, *r17_11_8_r60_sroa_idx, *r26, *r16_5, *r10, *r14_2, *r23_2;
+    uint64_t r3_0, r3_0_2, r4_0, r7_0_0_copyload, r7_4_0_copyload, r3_2, r5_4_0, r4_0_2, r21, r3_4_0_copyload, r17, r3_4_0_copyload_2;
+    uint64_t r19_3, r5_6_4_0_ph138, r5_6_1_0_ph137, r17_2, r21_2, r19_4, r8_17_5_0, r8_13_0, r4_2, indvars_iv_in, r4_0_3, indvars_iv;
+    uint64_t r51, r19_5, r3_0_3, r3_0_lcssa, r0_19_0;
+    uint8_t r25_3, r25_4, r8_6_0, r17_6_0, r0_0_0, r0_7_0;
+    memset(r0_20_8, 0, 776);
     if (a2 != 0) {
         uint8_t r25 = *a1;
         if (r25 == 64) {
@@ -997,20 +951,20 @@ static void dfu_formats_memory_map_Map_read(unsigned char *a0, unsigned char *a1
                 r4_0 = r27;
             }
             uint64_t r47 = r3_0 + 1;
-            dfu_formats_memory_place_take_address(r16_2, r16 + (size_t)r47, (uint64_t)r19 - r47);
-            uint8_t r1_0_0_copyload = *r16_2;
-            if (r1_0_0_copyload != 0) {
-                uint8_t r1_3_1_copyload = r16_2[1];
+            dfu_formats_memory_place_take_address(r14, r16 + (size_t)r47, (uint64_t)r19 - r47);
+            uint8_t r45 = *r14;
+            if (r45 != 0) {
+                uint8_t r8_0_0_copyload = r14[1];
                 memset(r0_20, 0, 776);
                 r0_0_0 = 1;
-                r0_7_0 = r1_3_1_copyload;
+                r0_7_0 = r8_0_0_copyload;
                 r0_131_0 = 0;
                 r0_19_0 = 0;
                 goto dfu_formats_memory_map_read_map_exit;
             }
-            r8_6_3_6_copyload = load64(r16_2 + 8);
-            r8_6_5_6_copyload = load_size(r16_2 + 16);
-            r8_6_6_6_copyload = load64(r16_2 + 24);
+            r7_0_0_copyload = load64(r14 + 8);
+            r7_3_0_copyload = load_size(r14 + 16);
+            r7_4_0_copyload = load64(r14 + 24);
             memset(r1, 0, 768);
             r2_0 = 0;
             while (r2_0 != 32) {
@@ -1022,16 +976,16 @@ static void dfu_formats_memory_map_Map_read(unsigned char *a0, unsigned char *a1
             r20 = r5 + 8;
             r3_3_0_r27_sroa_idx = r5 + 16;
             r3_4_0_r27_sroa_idx = r5 + 24;
-            r16_3 = r4 + 8;
+            r16_2 = r4 + 8;
             r3_3_0_r23_sroa_idx = r4 + 16;
             r3_4_0_r23_sroa_idx = r4 + 24;
             r43 = r12 + 8;
             r5_3_0_r43_sroa_idx = r12 + 16;
             r5_3_3_0_r5_3_0_r43_sroa_idx_sroa_idx = r12 + 24;
             r3_2 = 0;
-            r5_0_0 = r8_6_5_6_copyload;
-            r5_4_0 = r8_6_6_6_copyload;
-            r4_0_2 = r8_6_3_6_copyload;
+            r5_0_0 = r7_3_0_copyload;
+            r5_4_0 = r7_4_0_copyload;
+            r4_0_2 = r7_0_0_copyload;
             for (;;) {
                 dfu_formats_memory_digits_take_number(r5, 10, 5, (unsigned char *)(uintptr_t)r5_0_0, r5_4_0);
                 uint8_t r19_2 = *r5;
@@ -1047,13 +1001,13 @@ static void dfu_formats_memory_map_Map_read(unsigned char *a0, unsigned char *a1
                 dfu_formats_memory_digits_take_number(r4, 10, 5, r29_2 + 1, r3_4_0_copyload - 1);
                 uint8_t r15 = *r4;
                 if (r15 != 1) goto arm_6;
-                r17 = load64(r16_3);
+                r17 = load64(r16_2);
                 if (r17 == 0) goto arm_6;
                 size_t r3_3_0_copyload_2 = load_size(r3_3_0_r23_sroa_idx);
                 r3_4_0_copyload_2 = load64(r3_4_0_r23_sroa_idx);
                 r27_2 = (unsigned char *)(uintptr_t)r3_3_0_copyload_2;
                 if (r3_4_0_copyload_2 == 0) break;
-                uint8_t r25_3 = *r27_2;
+                r25_3 = *r27_2;
                 switch (r25_3) {
                 case 75:
                     r1_0 = 1024;
@@ -1066,37 +1020,40 @@ static void dfu_formats_memory_map_Map_read(unsigned char *a0, unsigned char *a1
                     r1_0 = 1;
                     break;
                 default:
-                    r5_6_4_0_ph221 = r3_4_0_copyload_2;
-                    r5_6_3_0_ptr220 = r27_2;
-                    r5_6_1_0_ph219 = r17;
+                    r25_4 = r25_3;
+                    r58139 = r27_2;
+                    r5_6_4_0_ph138 = r3_4_0_copyload_2;
+                    r5_6_1_0_ph137 = r17;
                     goto arm_3;
                 }
-                uint64_t r19_3 = r3_4_0_copyload_2 - 1;
+                r19_3 = r3_4_0_copyload_2 - 1;
                 if (r19_3 == 0) {
-                    r20_6_0 = 4;
+                    r17_6_0 = 4;
                     goto arm_9;
                 }
-                r5_6_4_0_ph221 = r19_3;
-                r5_6_3_0_ptr220 = r27_2 + 1;
-                r5_6_1_0_ph219 = (uint64_t)r1_0 * r17;
+                unsigned char *r16_3 = r27_2 + 1;
+                uint8_t r25_pre = *r16_3;
+                r25_4 = r25_pre;
+                r58139 = r16_3;
+                r5_6_4_0_ph138 = r19_3;
+                r5_6_1_0_ph137 = (uint64_t)r1_0 * r17;
 arm_3:
-                r25_4 = *r5_6_3_0_ptr220;
                 if ((uint8_t)(r25_4 + 159) >= 7) {
-                    r20_6_0 = 4;
+                    r17_6_0 = 4;
                     goto arm_9;
                 }
-                if (((r5_6_1_0_ph219 * r21) + r4_0_2) > 0x100000000ULL) {
-                    r20_6_0 = 5;
+                if (((r5_6_1_0_ph137 * r21) + r4_0_2) > 0x100000000ULL) {
+                    r17_6_0 = 5;
                     goto arm_9;
                 }
                 if (r3_2 == 32) {
-                    r20_6_0 = 6;
+                    r17_6_0 = 6;
                     goto arm_9;
                 }
                 unsigned char *r13 = r3 + ((size_t)r3_2 * 24);
                 store32(r13, (uint32_t)r4_0_2);
                 store32(r13 + 4, 0);
-                store64(r13 + 8, r5_6_1_0_ph219);
+                store64(r13 + 8, r5_6_1_0_ph137);
                 store32(r13 + 16, (uint32_t)r21);
                 r13[20] = r25_4 & 1;
                 r13[21] = (uint8_t)(r25_4 >> 1) & 1;
@@ -1104,11 +1061,11 @@ arm_3:
                 r13[23] = 0;
                 r17_2 = r3_2 + 1;
                 store64(r11_3_0_r3_sroa_idx, r17_2);
-                r21_2 = (r5_6_1_0_ph219 * (uint64_t)((size_t)r21 & 0xffffffffU)) + (uint64_t)((size_t)r4_0_2 & 0xffffffffU);
-                if (r5_6_4_0_ph221 == 1) goto arm_8;
-                uint8_t r25_5 = r5_6_3_0_ptr220[1];
-                r16_4 = r5_6_3_0_ptr220 + 2;
-                r19_4 = r5_6_4_0_ph221 - 2;
+                r21_2 = (r5_6_1_0_ph137 * (uint64_t)((size_t)r21 & 0xffffffffU)) + (uint64_t)((size_t)r4_0_2 & 0xffffffffU);
+                if (r5_6_4_0_ph138 == 1) goto arm_8;
+                uint8_t r25_5 = r58139[1];
+                r16_4 = r58139 + 2;
+                r19_4 = r5_6_4_0_ph138 - 2;
                 switch (r25_5) {
                 case 44:
                     r8_17_0_0 = (size_t)(uintptr_t)r16_4;
@@ -1136,12 +1093,12 @@ arm_3:
                 r5_4_0 = r8_17_5_0;
                 r4_0_2 = r8_13_0;
             }
-            r20_6_0 = 4;
+            r17_6_0 = 4;
             goto arm_9;
 arm_8:
-            r20_11_8_r60_sroa_idx = r20_11 + 6;
-            memcpy(r20_11_8_r60_sroa_idx, r3, 776);
-            memcpy(r9, r20_11_8_r60_sroa_idx, 776);
+            r17_11_8_r60_sroa_idx = r17_11 + 6;
+            memcpy(r17_11_8_r60_sroa_idx, r3, 776);
+            memcpy(r9, r17_11_8_r60_sroa_idx, 776);
             r4_2 = load64(r9 + 768);
             indvars_iv_in = r4_2;
             r4_0_3 = 0;
@@ -1153,7 +1110,7 @@ arm_8:
                 r16_5 = r9 + ((size_t)r51 * 24);
                 r19_5 = r4_2 - r51;
                 r10 = r26 + 16;
-                r14 = r26 + 8;
+                r14_2 = r26 + 8;
                 r3_0_3 = 0;
                 for (;;) {
                     if (r3_0_3 == r19_5) {
@@ -1164,7 +1121,7 @@ arm_8:
                     uint32_t r7 = load32(r26);
                     r9_2 = (size_t)r7;
                     uint32_t r11 = load32(r10);
-                    uint64_t r15_2 = load64(r14);
+                    uint64_t r15_2 = load64(r14_2);
                     uint32_t r9_3 = load32(r23_2);
                     r11_2 = (size_t)r9_3;
                     if (((r15_2 * (uint64_t)(size_t)r11) + (uint64_t)r9_2) > (uint64_t)r11_2) {
@@ -1181,14 +1138,14 @@ arm_8:
                 indvars_iv_in = indvars_iv;
                 r4_0_3 = r51;
             }
-            memcpy(r0_20, r20_11_8_r60_sroa_idx, 776);
+            memcpy(r0_20, r17_11_8_r60_sroa_idx, 776);
             r0_0_0 = 0;
             r0_7_0 = 0;
             r0_131_0 = wide_1311;
             r0_19_0 = r3_0_2;
             goto dfu_formats_memory_map_read_map_exit;
 then_11:
-            memcpy(r0_20, r0_17_11, 776);
+            memcpy(r0_20, r0_20_8, 776);
             r0_0_0 = 1;
             r0_7_0 = 8;
             r0_131_0 = 0;
@@ -1198,17 +1155,17 @@ arm_10:;
             uint8_t r6_0_0_copyload = r12[1];
             r8_6_0 = r6_0_0_copyload;
 arm_11:
-            r20_6_0 = r8_6_0;
+            r17_6_0 = r8_6_0;
             goto arm_9;
 arm_6:
-            r20_6_0 = 3;
+            r17_6_0 = 3;
             goto arm_9;
 arm_2_2:
-            r20_6_0 = 2;
+            r17_6_0 = 2;
 arm_9:
-            memset(r0_20, 0, 776);
+            memcpy(r0_20, r0_20_8, 776);
             r0_0_0 = 1;
-            r0_7_0 = r20_6_0;
+            r0_7_0 = r17_6_0;
             r0_131_0 = 0;
             r0_19_0 = 0;
             goto dfu_formats_memory_map_read_map_exit;
@@ -1763,22 +1720,22 @@ static void dfu_host_c_reports_report_at(unsigned char *a0, uint64_t a1, uint32_
 static void dfu_host_c_holding_session_of(unsigned char *a0, unsigned char *a1, unsigned char *a2, size_t a3) {
     _Alignas(4) unsigned char r31[3];
     _Alignas(4) unsigned char r36_2[3];
-    size_t wide_17346, r3_12_0_0, r3_12_6_0, r3_7_0_0;
+    size_t wide_16916, r3_12_0_0, r3_12_6_0, r3_7_0_0;
     uint8_t v0;
     uint32_t r36, r40, r6_158_0, r6_106_0, r6_106_0_2, r6_158_0_2, r79;
     uint64_t r38, r6_132_0, r6_132_0_2;
+    uint8_t sink, r6_54_0, r6_28_0, r6_0_0_0, r6_28_0_2, r6_54_0_2, r70, r75;
     uint16_t r6_80_0, r6_80_0_2, r65, r77, r81;
-    uint8_t r6_54_0, r6_28_0, r6_0_0_0, r6_28_0_2, r6_54_0_2, r70, r75;
     uint32_t r13 = load32(a1);
     if (r13 != 300) {
         memset(a0, 0, 72);
         return;
     }
     uint32_t r20 = load32(a1 + 4);
-    wide_17346 = (size_t)(uintptr_t)a2;
+    wide_16916 = (size_t)(uintptr_t)a2;
     switch (r20) {
     case 1:
-        r3_12_0_0 = wide_17346;
+        r3_12_0_0 = wide_16916;
         r3_12_6_0 = a3;
         v0 = 0;
         r3_7_0_0 = 0;
@@ -1790,13 +1747,13 @@ static void dfu_host_c_holding_session_of(unsigned char *a0, unsigned char *a1, 
         r3_7_0_0 = 1;
         break;
     case 3:
-        r3_12_0_0 = wide_17346;
+        r3_12_0_0 = wide_16916;
         r3_12_6_0 = a3;
         v0 = 0;
         r3_7_0_0 = 2;
         break;
     case 4:
-        r3_12_0_0 = wide_17346;
+        r3_12_0_0 = wide_16916;
         r3_12_6_0 = a3;
         v0 = 0;
         r3_7_0_0 = 3;
@@ -1844,22 +1801,12 @@ static void dfu_host_c_holding_session_of(unsigned char *a0, unsigned char *a1, 
         r6_132_0 = r38;
         r6_106_0 = 0;
         break;
-    case 18: {
-        uint8_t r4 = r38 < 0x10000U;
-        r6_80_0 = (uint16_t)(size_t)umin64(r38, 0x10000U);
-        r6_54_0 = 0;
-        r6_28_0 = (uint8_t)(r4 ? 18 : 0);
-        r6_0_0_0 = r4;
-        goto dfu_host_c_phases_phase_at_exit;
-    }
-    case 19: {
-        uint8_t r4_2 = r38 < 0x10000U;
-        r6_80_0 = (uint16_t)(size_t)umin64(r38, 0x10000U);
-        r6_54_0 = 0;
-        r6_28_0 = (uint8_t)(r4_2 ? 19 : 0);
-        r6_0_0_0 = r4_2;
-        goto dfu_host_c_phases_phase_at_exit;
-    }
+    case 18:
+        sink = 18;
+        goto dfu_host_c_phases_phase_at_exit_gvnsink_split;
+    case 19:
+        sink = 19;
+        goto dfu_host_c_phases_phase_at_exit_gvnsink_split;
     case 20: {
         dfu_host_c_reports_report_at(r31, r38, r40);
         uint8_t r320 = *r31;
@@ -1893,6 +1840,12 @@ static void dfu_host_c_holding_session_of(unsigned char *a0, unsigned char *a1, 
     r6_132_0_2 = r6_132_0;
     r6_158_0_2 = r6_158_0;
     goto arm_4;
+dfu_host_c_phases_phase_at_exit_gvnsink_split:;
+    uint8_t r4_sink = r38 < 0x10000U;
+    r6_80_0 = (uint16_t)(size_t)umin64(r38, 0x10000U);
+    r6_54_0 = 0;
+    r6_28_0 = (uint8_t)(r4_sink ? sink : 0);
+    r6_0_0_0 = r4_sink;
 dfu_host_c_phases_phase_at_exit:
     if (r6_0_0_0 != 1) goto arm_5;
     r6_28_0_2 = r6_28_0;
@@ -1981,10 +1934,8 @@ arm_4:
         store32(a0 + 44, r6_106_0_2);
         store64(a0 + 48, r6_132_0_2);
         store32(a0 + 56, r6_158_0_2);
-        store32(a0 + 60, 0);
         store32(a0 + 64, r79);
         store16(a0 + 68, r81);
-        store16(a0 + 70, 0);
         return;
     }
 arm_9:
@@ -2192,8 +2143,6 @@ static void dfu_host_task_download(unsigned char *a0, size_t a1, size_t a3) {
 /* dfu_host::task::send: crates/dfu_host/src/task.rt */
 static void dfu_host_task_send(unsigned char *a0, unsigned char *a1, size_t a3) {
     _Alignas(4) unsigned char r12[10];
-    _Alignas(8) unsigned char r11[8];
-    _Alignas(8) unsigned char r15[8];
     _Alignas(4) unsigned char r10[6];
     uint8_t r2 = *a1;
     uint16_t v0 = load16(a1 + 2);
@@ -2205,19 +2154,17 @@ static void dfu_host_task_send(unsigned char *a0, unsigned char *a1, size_t a3) 
     uint8_t r24 = *r12;
     if (r24 != 1) trap();
     uint64_t v3 = load64a2(r12 + 2);
-    store64(r11, v3);
-    dfu_wire_setups_Setup_encode(r15, r11);
-    uint64_t r14_3_1_copyload = load64(r15);
     *a0 = 0;
-    store64u(a0 + 1, r14_3_1_copyload);
+    store64u(a0 + 1, v3);
     store_size(a0 + 24, a3);
     return;
 }
 
 /* dfu_wire::requests::Request::setup: crates/dfu_wire/src/requests.rt */
 static void dfu_wire_requests_Request_setup(unsigned char *a0, unsigned char *a1) {
-    uint8_t r15, r13_0_0;
-    uint16_t r13_16_0, r13_23_0;
+    uint8_t r15, r13_0_0_2, r13_0_0;
+    size_t sink;
+    uint16_t r13_16_0_2, r13_16_0, r13_23_0;
     r15 = *a1;
     switch (r15) {
     case 0: {
@@ -2225,95 +2172,51 @@ static void dfu_wire_requests_Request_setup(unsigned char *a0, unsigned char *a1
         r13_0_0 = 33;
         r13_16_0 = r17;
         r13_23_0 = 0;
-        break;
+        goto join_10;
     }
     case 1: {
         uint16_t r23 = load16(a1 + 2);
-        uint16_t r25 = load16(a1 + 4);
-        r13_0_0 = 33;
-        r13_16_0 = r23;
-        r13_23_0 = r25;
+        sink = 4;
+        r13_0_0_2 = 33;
+        r13_16_0_2 = r23;
         break;
     }
     case 2: {
         uint16_t r32 = load16(a1 + 2);
-        uint16_t r34 = load16(a1 + 4);
-        r13_0_0 = 161;
-        r13_16_0 = r32;
-        r13_23_0 = r34;
+        sink = 4;
+        r13_0_0_2 = 161;
+        r13_16_0_2 = r32;
         break;
     }
-    case 3: {
-        uint16_t r41 = load16(a1 + 2);
-        r13_0_0 = 161;
-        r13_16_0 = 0;
-        r13_23_0 = r41;
+    case 3:
+    case 5:
+        sink = 2;
+        r13_0_0_2 = 161;
+        r13_16_0_2 = 0;
         break;
-    }
     case 4:
     case 6:
         r13_0_0 = 33;
         r13_16_0 = 0;
         r13_23_0 = 0;
-        break;
-    case 5: {
-        uint16_t r50 = load16(a1 + 2);
-        r13_0_0 = 161;
-        r13_16_0 = 0;
-        r13_23_0 = r50;
-        break;
-    }
+        goto join_10;
     case 7:
     case 8:
         memset(a0, 0, 10);
         return;
     default: never();
     }
+    uint16_t r50 = load16(a1 + sink);
+    r13_0_0 = r13_0_0_2;
+    r13_16_0 = r13_16_0_2;
+    r13_23_0 = r50;
+join_10:
     store16(a0, 1);
     a0[2] = r13_0_0;
     a0[3] = r15;
     store16(a0 + 4, r13_16_0);
     store16(a0 + 6, 0);
     store16(a0 + 8, r13_23_0);
-    return;
-}
-
-/* dfu_wire::setups::Setup::encode */
-static void dfu_wire_setups_Setup_encode(unsigned char *a0, unsigned char *a1) {
-    _Alignas(4) unsigned char r7[2];
-    _Alignas(4) unsigned char r14[2];
-    _Alignas(4) unsigned char r20[2];
-    uint16_t r29 = load16(a1 + 2);
-    dfu_wire_bytes_two_bytes(r7, r29);
-    uint16_t v0 = load16(r7);
-    uint16_t r40 = load16(a1 + 4);
-    dfu_wire_bytes_two_bytes(r14, r40);
-    uint16_t v1 = load16(r14);
-    uint16_t r51 = load16(a1 + 6);
-    dfu_wire_bytes_two_bytes(r20, r51);
-    uint16_t v2 = load16(r20);
-    uint8_t r61 = *a1;
-    uint8_t r63 = a1[1];
-    *a0 = r61;
-    a0[1] = r63;
-    a0[2] = (uint8_t)v0;
-    a0[3] = (uint8_t)(uint16_t)(v0 >> 8);
-    a0[4] = (uint8_t)v1;
-    a0[5] = (uint8_t)(uint16_t)(v1 >> 8);
-    a0[6] = (uint8_t)v2;
-    a0[7] = (uint8_t)(uint16_t)(v2 >> 8);
-    return;
-}
-
-/* dfu_wire::bytes::two_bytes: crates/dfu_wire/src/bytes.rt */
-static void dfu_wire_bytes_two_bytes(unsigned char *a0, uint16_t a1) {
-    _Alignas(4) unsigned char r5[2];
-    _Alignas(4) unsigned char r1[2];
-    store16(r1, 0);
-    store16(r5, a1);
-    core_slice_edits_slice_T_copy_from_slice_i8_core_clone_U8Clone(r1, r5, 2);
-    uint16_t v0 = load16(r1);
-    store16(a0, v0);
     return;
 }
 
@@ -2340,14 +2243,12 @@ static void dfu_wire_functionals_Functional_decode(unsigned char *a0, unsigned c
         if (a2 > r1) {
             *a0 = 1;
             a0[1] = 1;
-            memset(a0 + 2, 0, 10);
             return;
         }
         uint8_t r92 = a1[1];
         if (r92 != 33) {
             *a0 = 1;
             a0[1] = 3;
-            memset(a0 + 2, 0, 10);
             return;
         }
         if (r39 != 9) r19_0 = 256;
@@ -2362,7 +2263,6 @@ static void dfu_wire_functionals_Functional_decode(unsigned char *a0, unsigned c
         uint8_t r11_3 = a1[5];
         uint8_t r15_3 = a1[6];
         *a0 = 0;
-        a0[1] = 0;
         a0[2] = r116 & 1;
         a0[3] = (uint8_t)(r116 >> 1) & 1;
         a0[4] = (uint8_t)(r116 >> 2) & 1;
@@ -2375,7 +2275,6 @@ static void dfu_wire_functionals_Functional_decode(unsigned char *a0, unsigned c
     default:
         *a0 = 1;
         a0[1] = 2;
-        memset(a0 + 2, 0, 10);
         return;
     }
 }
@@ -2393,16 +2292,16 @@ static uint32_t dfu_host_c_beginning_install(unsigned char *a0, unsigned char *a
     _Alignas(8) unsigned char r11[64];
     _Alignas(8) unsigned char r8[48];
     _Alignas(8) unsigned char r10[40];
-    unsigned char *const r8_3 = r10;
     unsigned char *const r8_2 = r10;
     _Alignas(2) unsigned char r5_26[26];
     _Alignas(4) unsigned char r14[12];
     _Alignas(2) unsigned char r5[6];
+    uint64_t v2;
     unsigned char *r14_0_3_0_r8_sroa_idx;
-    uint16_t v4, v10, sink39, sink36, sink, sink39_2, sink36_2, sink_2, r5_18_0, r5_24_0, r5_32_0;
+    size_t v3, sink40, r5_1136_0;
+    uint16_t v4, v10, sink39, sink36, sink, r1_2_0_copyload, sink39_2, sink36_2, sink_2, r5_18_0, r5_24_0, r5_32_0;
     uint8_t v6, v8, r5_0_1, r5_6_1, sink38, sink37, r5_0_2, r5_6_2, sink38_2, sink37_2, r5_0_0, r5_6_0;
     uint8_t r5_20_0, r5_22_0;
-    size_t sink40, sink40_2, r5_1136_0;
     uint32_t sink35, sink35_2, r5_30_0, common_ret_op;
     memcpy(r5, a5, 6);
     dfu_host_c_file_file_in(r10, a1, a2);
@@ -2419,11 +2318,12 @@ static uint32_t dfu_host_c_beginning_install(unsigned char *a0, unsigned char *a
             common_ret_op = (uint32_t)0xffffffe1U - (uint32_t)r9_0_0_copyload;
         }
         else {
-            uint64_t v2 = load64a2(r14 + 2);
+            v2 = load64a2(r14 + 2);
             memcpy(r8, r10 + 8, 32);
             r14_0_3_0_r8_sroa_idx = r8 + 32;
             store64(r14_0_3_0_r8_sroa_idx, v2);
-            v4 = (uint16_t)(size_t)(v2 >> 48);
+            v3 = (size_t)(v2 >> 48);
+            v4 = (uint16_t)v3;
             v6 = (uint8_t)(size_t)(v2 >> 16);
             v8 = (uint8_t)(size_t)(v2 >> 24);
             v10 = (uint16_t)(size_t)(v2 >> 32);
@@ -2432,7 +2332,6 @@ static uint32_t dfu_host_c_beginning_install(unsigned char *a0, unsigned char *a
                 uint8_t r1_0_0_copyload = *r8_2;
                 if (r1_0_0_copyload == 0) {
                     uint8_t r6 = r8_2[8];
-                    memset(r5_26, 0, 26);
                     r5_0_1 = 0;
                     r5_6_1 = 0;
                     sink40 = (size_t)r6;
@@ -2445,7 +2344,6 @@ static uint32_t dfu_host_c_beginning_install(unsigned char *a0, unsigned char *a
                 }
                 else {
                     uint8_t r1_3_1_copyload = r8_2[1];
-                    memset(r5_26, 0, 26);
                     r5_0_1 = 1;
                     r5_6_1 = r1_3_1_copyload;
                     sink40 = 0;
@@ -2456,6 +2354,7 @@ static uint32_t dfu_host_c_beginning_install(unsigned char *a0, unsigned char *a
                     sink35 = 0;
                     sink = 0;
                 }
+                memset(r5_26, 0, 26);
                 r5_0_0 = r5_0_1;
                 r5_6_0 = r5_6_1;
                 r5_1136_0 = sink40;
@@ -2467,27 +2366,11 @@ static uint32_t dfu_host_c_beginning_install(unsigned char *a0, unsigned char *a
                 r5_32_0 = sink;
             }
             else {
-                dfu_host_refusing_goal_to_install(r8_3, r8, r14_0_3_0_r8_sroa_idx, r5, 0);
-                uint8_t r1_0_0_copyload_2 = *r8_3;
-                if (r1_0_0_copyload_2 == 0) {
-                    uint8_t r6_2 = r8_3[8];
-                    memset(r5_26, 0, 26);
-                    r5_0_2 = 0;
-                    r5_6_2 = 0;
-                    sink40_2 = (size_t)r6_2;
-                    sink39_2 = v4;
-                    sink38_2 = v6;
-                    sink37_2 = v8;
-                    sink36_2 = v10;
-                    sink35_2 = umax32(a6, 1);
-                    sink_2 = a7;
-                }
-                else {
-                    uint8_t r1_3_1_copyload_2 = r8_3[1];
-                    memset(r5_26, 0, 26);
+                r1_2_0_copyload = load16(r5 + 2);
+                uint64_t r0_3_0_copyload = load64(r8 + 8);
+                if (r0_3_0_copyload == 0) {
                     r5_0_2 = 1;
-                    r5_6_2 = r1_3_1_copyload_2;
-                    sink40_2 = 0;
+                    r5_6_2 = 0;
                     sink39_2 = 0;
                     sink38_2 = 0;
                     sink37_2 = 0;
@@ -2495,9 +2378,71 @@ static uint32_t dfu_host_c_beginning_install(unsigned char *a0, unsigned char *a
                     sink35_2 = 0;
                     sink_2 = 0;
                 }
+                else {
+                    uint16_t r1_3_0_copyload = load16(r5 + 4);
+                    uint16_t r7_3_0_copyload = load16(r8 + 20);
+                    if (!((r7_3_0_copyload == 0xffffU) | (r7_3_0_copyload == r1_3_0_copyload))) {
+                        r5_0_2 = 1;
+                        r5_6_2 = 1;
+                        sink39_2 = 0;
+                        sink38_2 = 0;
+                        sink37_2 = 0;
+                        sink36_2 = 0;
+                        sink35_2 = 0;
+                        sink_2 = 0;
+                    }
+                    else {
+                        uint16_t r7_2_0_copyload = load16(r8 + 18);
+                        if (!((r7_2_0_copyload == 0xffffU) | (r7_2_0_copyload == r1_2_0_copyload))) {
+                            r5_0_2 = 1;
+                            r5_6_2 = 1;
+                            sink39_2 = 0;
+                            sink38_2 = 0;
+                            sink37_2 = 0;
+                            sink36_2 = 0;
+                            sink35_2 = 0;
+                            sink_2 = 0;
+                        }
+                        else {
+                            if (!(v2 & 1)) {
+                                r5_0_2 = 1;
+                                r5_6_2 = 2;
+                                sink39_2 = 0;
+                                sink38_2 = 0;
+                                sink37_2 = 0;
+                                sink36_2 = 0;
+                                sink35_2 = 0;
+                                sink_2 = 0;
+                            }
+                            else {
+                                if (v3 == 0) {
+                                    r5_0_2 = 1;
+                                    r5_6_2 = 4;
+                                    sink39_2 = 0;
+                                    sink38_2 = 0;
+                                    sink37_2 = 0;
+                                    sink36_2 = 0;
+                                    sink35_2 = 0;
+                                    sink_2 = 0;
+                                }
+                                else {
+                                    r5_0_2 = 0;
+                                    r5_6_2 = 0;
+                                    sink39_2 = v4;
+                                    sink38_2 = v6;
+                                    sink37_2 = v8;
+                                    sink36_2 = v10;
+                                    sink35_2 = umax32(a6, 1);
+                                    sink_2 = a7;
+                                }
+                            }
+                        }
+                    }
+                }
+                memset(r5_26, 0, 26);
                 r5_0_0 = r5_0_2;
                 r5_6_0 = r5_6_2;
-                r5_1136_0 = sink40_2;
+                r5_1136_0 = 0;
                 r5_18_0 = sink39_2;
                 r5_20_0 = sink38_2;
                 r5_22_0 = sink37_2;
@@ -2527,7 +2472,6 @@ static uint32_t dfu_host_c_beginning_install(unsigned char *a0, unsigned char *a
 static void dfu_host_refusing_goal_to_install(unsigned char *a0, unsigned char *a1, unsigned char *a2, unsigned char *a3, uint8_t a4) {
     uint16_t r1_2_0_copyload;
     uint8_t r3_4_0, r8_4_0;
-    unsigned char *r76, *r78;
     r1_2_0_copyload = load16(a3 + 2);
     uint64_t r0_3_0_copyload = load64(a1 + 8);
     if (r0_3_0_copyload == 0) r8_4_0 = 0;
@@ -2543,17 +2487,13 @@ static void dfu_host_refusing_goal_to_install(unsigned char *a0, unsigned char *
                 if (r36 & 1) {
                     if (!a4) {
                         uint16_t r69 = load16(a2 + 6);
-                        r76 = a0 + 1;
-                        r78 = a0 + 8;
                         if (r69 == 0) {
                             *a0 = 1;
-                            *r76 = 4;
-                            memset(r78, 0, 24);
+                            a0[1] = 4;
                             return;
                         }
                         *a0 = 0;
-                        *r76 = 0;
-                        store_size(r78, 0);
+                        store_size(a0 + 8, 0);
                         return;
                     }
                     uint8_t r10 = a2[1];
@@ -2562,7 +2502,6 @@ static void dfu_host_refusing_goal_to_install(unsigned char *a0, unsigned char *
                         uint16_t r21 = load16(a2 + 6);
                         if (r21 != 0) {
                             *a0 = 0;
-                            a0[1] = 0;
                             store_size(a0 + 8, 2);
                             return;
                         }
@@ -2570,7 +2509,6 @@ static void dfu_host_refusing_goal_to_install(unsigned char *a0, unsigned char *
                     }
                     *a0 = 1;
                     a0[1] = r3_4_0;
-                    memset(a0 + 8, 0, 24);
                     return;
                 }
                 r8_4_0 = 2;
@@ -2579,22 +2517,20 @@ static void dfu_host_refusing_goal_to_install(unsigned char *a0, unsigned char *
     }
     *a0 = 1;
     a0[1] = r8_4_0;
-    memset(a0 + 8, 0, 24);
     return;
 }
 
 /* dfu_host::session::Session::on_result: crates/dfu_host/src/session.rt */
 static void dfu_host_session_Session_on_result(unsigned char *a0, unsigned char *a1, uint8_t a2) {
     _Alignas(8) unsigned char r17_2[32];
-    unsigned char *const r0 = r17_2;
+    unsigned char *const r1_3 = r17_2;
     unsigned char *const r5 = r17_2;
     unsigned char *const r4 = r17_2;
-    _Alignas(8) unsigned char r1_3[32];
-    unsigned char *const r1_4 = r1_3;
+    _Alignas(8) unsigned char r0[32];
     _Alignas(8) unsigned char r1_2[32];
-    _Alignas(8) unsigned char r7_2[32];
+    _Alignas(8) unsigned char r1_4[24];
+    unsigned char *const r2 = r1_4;
     _Alignas(8) unsigned char r23[24];
-    unsigned char *const r2 = r23;
     _Alignas(8) unsigned char r24[24];
     _Alignas(8) unsigned char r25[24];
     _Alignas(8) unsigned char r26[24];
@@ -2775,11 +2711,11 @@ static void dfu_host_session_Session_on_result(unsigned char *a0, unsigned char 
     }
     memcpy(r1_2, r12, 32);
     r10 = *r1_2;
-    if ((uint8_t)(r10 + 233) < 2) memcpy(r7_2, r12, 32);
+    if ((uint8_t)(r10 + 233) < 2) memcpy(r0, r12, 32);
     else {
         switch (r18_0_0) {
         case 10:
-            dfu_host_progress_Progress_restarted(r7_2, r1_2);
+            dfu_host_progress_Progress_restarted(r0, r1_2);
             break;
         case 11: {
             memcpy(r1_3, r12, 32);
@@ -2829,11 +2765,9 @@ static void dfu_host_session_Session_on_result(unsigned char *a0, unsigned char 
             if (r13_2 == 2) store_size(a0, 3);
             uint16_t r36 = load16(r1_3 + 28);
             dfu_host_progress_Progress_spent(r0, r1_3, r2, r36);
-            memcpy(r7_2, r0, 32);
             goto dfu_host_progress_Progress_left_exit;
 then_1:
             dfu_host_progress_Progress_restarted(r0, r1_3);
-            memcpy(r7_2, r0, 32);
 dfu_host_progress_Progress_left_exit:
             break;
         }
@@ -3325,19 +3259,19 @@ dfu_host_task_Task_after_ask_exit:
                 if (r10_3 == 2) store_size(a0, 3);
             }
             store64a4(r17_2 + 20, r1_8_0_copyload);
-            dfu_host_progress_Progress_spent(r7_2, r17_2, r10_2, r1_9_0_copyload);
+            dfu_host_progress_Progress_spent(r0, r17_2, r10_2, r1_9_0_copyload);
             break;
         }
         default: never();
         }
     }
-    memcpy(r12, r7_2, 32);
+    memcpy(r12, r0, 32);
     return;
 }
 
 /* dfu_wire::statuses::Status::decode */
 static void dfu_wire_statuses_Status_decode(unsigned char *a0, unsigned char *a1, size_t a2) {
-    uint8_t r54, r78;
+    uint8_t r52, r69;
     if (a2 < 6) {
         *a0 = 1;
         memset(a0 + 4, 0, 12);
@@ -3348,14 +3282,14 @@ static void dfu_wire_statuses_Status_decode(unsigned char *a0, unsigned char *a1
         memset(a0 + 4, 0, 12);
         return;
     }
-    r54 = *a1;
-    if (r54 >= 16) {
+    r52 = *a1;
+    if (r52 >= 16) {
         *a0 = 1;
         memset(a0 + 4, 0, 12);
         return;
     }
-    r78 = a1[4];
-    if (r78 >= 11) {
+    r69 = a1[4];
+    if (r69 >= 11) {
         *a0 = 1;
         memset(a0 + 4, 0, 12);
         return;
@@ -3364,9 +3298,9 @@ static void dfu_wire_statuses_Status_decode(unsigned char *a0, unsigned char *a1
     uint8_t r17 = a1[2];
     uint8_t r21 = a1[3];
     *a0 = 0;
-    store32(a0 + 4, (uint32_t)r54);
+    store32(a0 + 4, (uint32_t)r52);
     store32(a0 + 8, (((uint32_t)r17 << 8) | (uint32_t)r13) | ((uint32_t)r21 << 16));
-    a0[12] = r78;
+    a0[12] = r69;
     memset(a0 + 13, 0, 3);
     return;
 }
@@ -3505,10 +3439,8 @@ static void dfu_host_progress_Progress_spent(unsigned char *a0, unsigned char *a
     store32(a0 + 4, r12_13_4_0);
     store64(a0 + 8, r12_16_0);
     store32(a0 + 16, r12_19_0);
-    store32(a0 + 20, 0);
     store32(a0 + 24, usub_sat32(r1_2_0_copyload, 1));
     store16(a0 + 28, a3);
-    store16(a0 + 30, 0);
     return;
 }
 
@@ -4170,7 +4102,6 @@ arm_1:;
         store32(a0 + 100, r0_32_0);
         store32(a0 + 104, r29);
         store16(a0 + 108, r32);
-        store16(a0 + 110, 0);
         return;
     }
 arm_2:
@@ -4202,8 +4133,6 @@ static void dfuse_host_asking_ask(unsigned char *a0, unsigned char *a1) {
 /* dfuse_host::asking::setup_of: crates/dfuse_host/src/asking.rt */
 static void dfuse_host_asking_setup_of(unsigned char *a0, unsigned char *a1) {
     _Alignas(4) unsigned char r10[10];
-    _Alignas(8) unsigned char r9[8];
-    _Alignas(8) unsigned char r12[8];
     _Alignas(4) unsigned char r8[6];
     uint8_t r2 = *a1;
     uint16_t v0 = load16(a1 + 2);
@@ -4215,10 +4144,7 @@ static void dfuse_host_asking_setup_of(unsigned char *a0, unsigned char *a1) {
     uint8_t r21 = *r10;
     if (r21 != 1) trap();
     uint64_t v3 = load64a2(r10 + 2);
-    store64(r9, v3);
-    dfu_wire_setups_Setup_encode(r12, r9);
-    uint64_t r0_0_0_copyload = load64(r12);
-    store64(a0, r0_0_0_copyload);
+    store64(a0, v3);
     return;
 }
 
@@ -4538,24 +4464,6 @@ static void dfuse_host_asking_download(unsigned char *a0, unsigned char *a1, uin
     store_size(a0 + 16, (size_t)(uintptr_t)a1);
     store64(a0 + 24, a2);
     return;
-}
-
-/* dfu_host_c::dfuse::action::send: crates/dfu_host_c/src/dfuse/action.rt */
-static uint32_t dfu_host_c_dfuse_action_send(unsigned char *a0, unsigned char *a1, uint64_t a2, unsigned char *a3, size_t a4, unsigned char *a5) {
-    uint32_t common_ret_op;
-    if ((uint64_t)a4 < a2) common_ret_op = 0xffffffd5U;
-    else {
-        uint64_t r1_0_0_copyload = load64(a0);
-        core_slice_edits_slice_T_copy_from_slice_i8_core_clone_U8Clone(a3, a1, (size_t)a2);
-        store64(a5, a2);
-        store32(a5 + 8, 0);
-        store32(a5 + 12, 0);
-        store32(a5 + 16, 0);
-        store64a4(a5 + 20, r1_0_0_copyload);
-        store32(a5 + 28, 0);
-        common_ret_op = 0;
-    }
-    return common_ret_op;
 }
 
 /* dfu_host_c::dfuse::reports::report_numbers: crates/dfu_host_c/src/dfuse/reports.rt */
@@ -4922,55 +4830,53 @@ static void dfuse_host_session_Session_restarted_once(unsigned char *a0, unsigne
         *r8 = 1;
         r8[1] = 5;
         dfuse_host_session_Session_spent(r0, r6, r8, 0);
-        memcpy(a0, r0, 104);
-        return;
-    }
-    memcpy(r3, a1, 100);
-    r15 = (size_t)r2_0_0_copyload;
-    if ((uint8_t)(r2_7_0_copyload + 249) >= 2) {
-        store_size(r4 + 8, r15);
-        store64(r4 + 16, r2_38_0_copyload);
-        store64(r4 + 24, r2_4_0_copyload);
-        memset(r4 + 32, 0, 24);
-        v0 = 0;
-        v1 = 0;
-        v2 = 0;
     }
     else {
-        store_size(r6_2, r15);
-        store64(r6_2 + 8, r2_38_0_copyload);
-        store64(r6_2 + 16, r2_4_0_copyload);
-        store_size(r9, r15);
-        store64(r9 + 8, r2_38_0_copyload);
-        struct i8_i64 r35 = dfuse_host_plan_Plan_command_of(r3, r9, r2_5_0_copyload, r2_69_0_copyload);
-        dfuse_host_plan_Plan_unsure(r4, r3, r6_2, r35.a);
-        uint8_t pre = *r4;
-        uint8_t pre10 = r4[1];
-        uint8_t pre11 = r4[2];
-        v0 = pre11;
-        v1 = pre10;
-        v2 = pre;
+        memcpy(r3, a1, 100);
+        r15 = (size_t)r2_0_0_copyload;
+        if ((uint8_t)(r2_7_0_copyload + 249) >= 2) {
+            store_size(r4 + 8, r15);
+            store64(r4 + 16, r2_38_0_copyload);
+            store64(r4 + 24, r2_4_0_copyload);
+            memset(r4 + 32, 0, 24);
+            v0 = 0;
+            v1 = 0;
+            v2 = 0;
+        }
+        else {
+            store_size(r6_2, r15);
+            store64(r6_2 + 8, r2_38_0_copyload);
+            store64(r6_2 + 16, r2_4_0_copyload);
+            store_size(r9, r15);
+            store64(r9 + 8, r2_38_0_copyload);
+            struct i8_i64 r35 = dfuse_host_plan_Plan_command_of(r3, r9, r2_5_0_copyload, r2_69_0_copyload);
+            dfuse_host_plan_Plan_unsure(r4, r3, r6_2, r35.a);
+            uint8_t pre = *r4;
+            uint8_t pre10 = r4[1];
+            uint8_t pre11 = r4[2];
+            v0 = pre11;
+            v1 = pre10;
+            v2 = pre;
+        }
+        *r3_2 = v2;
+        r3_2[1] = v1;
+        r3_2[2] = v0;
+        memcpy(r3_2 + 8, r4 + 8, 48);
+        memcpy(r10, r1_0, 100);
+        dfuse_host_session_Session_spent(r0, r10, r3_2, (uint16_t)(r1_5_0_copyload + 0xffffU));
     }
-    *r3_2 = v2;
-    r3_2[1] = v1;
-    r3_2[2] = v0;
-    memcpy(r3_2 + 8, r4 + 8, 48);
-    memcpy(r10, r1_0, 100);
-    dfuse_host_session_Session_spent(r0, r10, r3_2, (uint16_t)(r1_5_0_copyload + 0xffffU));
     memcpy(a0, r0, 104);
     return;
 }
 
 /* dfuse_host::plan::Plan::unsure: crates/dfuse_host/src/command.rt */
 static void dfuse_host_plan_Plan_unsure(unsigned char *a0, unsigned char *a1, unsigned char *a2, uint8_t a3) {
-    _Alignas(8) unsigned char r11_17[24];
-    uint8_t r2, r11_0_0_0, r11_1014_0_in;
-    uint64_t v0, v1, r11_5_0, r11_9_0, r11_13_0, r11_15_0;
+    uint8_t r2, r11_1014_0_in;
+    uint64_t v0, v1, r11_13_0, r11_15_0;
     r2 = *a2;
     v0 = load64(a2 + 8);
     v1 = load64(a2 + 16);
     if (a3 != 2) {
-        memset(r11_17, 0, 24);
         r11_1014_0_in = r2;
         r11_13_0 = v0;
         r11_15_0 = v1;
@@ -4979,9 +4885,9 @@ static void dfuse_host_plan_Plan_unsure(unsigned char *a0, unsigned char *a1, un
         switch (r2) {
         case 2: {
             uint64_t r24 = dfuse_host_plan_Plan_page_start(a1, v0);
-            r11_0_0_0 = 1;
-            r11_5_0 = r24;
-            r11_9_0 = v1;
+            r11_1014_0_in = 1;
+            r11_13_0 = r24;
+            r11_15_0 = v1;
             break;
         }
         case 4: {
@@ -4990,9 +4896,9 @@ static void dfuse_host_plan_Plan_unsure(unsigned char *a0, unsigned char *a1, un
             size_t r17_0_0_copyload = load_size(a1 + 8);
             size_t r17_3_0_copyload = load_size(a1 + 16);
             uint64_t r39 = dfuse_host_image_image_end((unsigned char *)(uintptr_t)r17_0_0_copyload, r17_3_0_copyload);
-            r11_0_0_0 = 1;
-            r11_5_0 = r32;
-            r11_9_0 = umin64(r39, r34);
+            r11_1014_0_in = 1;
+            r11_13_0 = r32;
+            r11_15_0 = umin64(r39, r34);
             break;
         }
         case 0:
@@ -5000,16 +4906,12 @@ static void dfuse_host_plan_Plan_unsure(unsigned char *a0, unsigned char *a1, un
         case 3:
         case 5:
         case 6:
-            r11_0_0_0 = r2;
-            r11_5_0 = v0;
-            r11_9_0 = v1;
+            r11_1014_0_in = r2;
+            r11_13_0 = v0;
+            r11_15_0 = v1;
             break;
         default: never();
         }
-        memset(r11_17, 0, 24);
-        r11_1014_0_in = r11_0_0_0;
-        r11_13_0 = r11_5_0;
-        r11_15_0 = r11_9_0;
     }
     *a0 = 0;
     a0[1] = 0;
@@ -5017,7 +4919,7 @@ static void dfuse_host_plan_Plan_unsure(unsigned char *a0, unsigned char *a1, un
     store_size(a0 + 8, (size_t)r11_1014_0_in);
     store64(a0 + 16, r11_13_0);
     store64(a0 + 24, r11_15_0);
-    memcpy(a0 + 32, r11_17, 24);
+    memset(a0 + 32, 0, 24);
     return;
 }
 
@@ -5567,39 +5469,42 @@ uint32_t dfu_watch_before(const struct dfu_watch *watch, const struct dfu_action
     unsigned char *a0 = (unsigned char *)(uintptr_t)watch;
     unsigned char *a1 = (unsigned char *)(uintptr_t)action;
     uint32_t a2 = by_another;
-    uint32_t r22, r1_0;
-    if (a2 == 0) {
-        uint32_t r22_pr_pre = load32(a1);
-        r22 = r22_pr_pre;
-    }
-    else {
-        uint8_t r11 = dfu_host_c_watching_is_download(a1);
-        if (r11) {
-            r1_0 = 7;
-            goto dfu_host_c_watching_dfu_watch_before_exit;
-        }
-        uint32_t r15 = load32(a1);
-        if (r15 == 0) {
-            uint8_t r25 = a1[28];
-            if (r25 != 161) goto join_12;
-            uint8_t r38 = a1[29];
-            if (r38 != 2) goto join_12;
-            r1_0 = 7;
-            goto dfu_host_c_watching_dfu_watch_before_exit;
-        }
-        r22 = r15;
-    }
-    if (r22 == 2) {
-        uint8_t r29 = a0[8];
-        if (r29 != 0) {
-            uint32_t r39 = load32(a0 + 4);
-            if (r39 > 2) {
-                r1_0 = 6;
-                goto dfu_host_c_watching_dfu_watch_before_exit;
+    uint32_t r22_pr_pre, r1_0;
+    r22_pr_pre = load32(a1);
+    if (!((a2 != 0) ? (r22_pr_pre == 0) : 0)) {
+        if (r22_pr_pre == 2) {
+            uint8_t r29 = a0[8];
+            if (r29 != 0) {
+                uint32_t r39 = load32(a0 + 4);
+                if (r39 > 2) {
+                    r1_0 = 6;
+                    goto dfu_host_c_watching_dfu_watch_before_exit;
+                }
             }
         }
     }
-join_12:
+    else {
+        uint8_t r20 = a1[28];
+        switch (r20) {
+        case 33: {
+            uint8_t r33 = a1[29];
+            if (r33 == 1) {
+                r1_0 = 7;
+                goto dfu_host_c_watching_dfu_watch_before_exit;
+            }
+            break;
+        }
+        case 161: {
+            uint8_t r38 = a1[29];
+            if (r38 == 2) {
+                r1_0 = 7;
+                goto dfu_host_c_watching_dfu_watch_before_exit;
+            }
+            break;
+        }
+        default: break;
+        }
+    }
     r1_0 = 0;
 dfu_host_c_watching_dfu_watch_before_exit:
     return r1_0;
@@ -5632,7 +5537,6 @@ int32_t dfuse_file_image(const uint8_t *file, size_t length, uint8_t setting, st
     uint64_t r3_0, r5_0;
     uint32_t r1_5_0_copyload, r4_0_0, common_ret_op;
     r13 = (unsigned char *)((uintptr_t)a3 + (uintptr_t)(size_t)((a3 == NULL) ? 4096 : 0));
-    memset(r10, 0, 32);
     dfu_formats_dfuse_file_read(r10, (unsigned char *)((uintptr_t)a0 + (uintptr_t)(size_t)((a0 == NULL) ? 4096 : 0)), a1);
     uint8_t r23 = *r10;
     if (r23 != 0) {
@@ -5662,11 +5566,10 @@ int32_t dfuse_file_image(const uint8_t *file, size_t length, uint8_t setting, st
             r5_6_0_2 = r5_6_0;
             r5_9_0_2 = r5_9_0;
             for (;;) {
-                memset(r4, 0, 72);
-                if (r5_0_0_2 == 0) goto dfu_formats_dfuse_targets_Targets_next_target_exit_thread;
+                if (r5_0_0_2 == 0) goto after_1;
                 dfu_formats_dfuse_headings_take_heading(r4, (unsigned char *)(uintptr_t)r5_6_0_2, r5_9_0_2);
                 uint8_t r31 = *r4;
-                if (r31 == 1) goto after_1_critedge;
+                if (r31 == 1) goto after_1;
                 uint8_t r1_0_0_copyload = *r32;
                 r1_5_0_copyload = load32(r1_5_0_r32_sroa_idx);
                 r1_63_0_copyload = load_size(r1_63_0_r32_sroa_idx);
@@ -5683,12 +5586,10 @@ int32_t dfuse_file_image(const uint8_t *file, size_t length, uint8_t setting, st
             r4_57_0 = r1_63_0_copyload;
             r4_7_0 = r1_7_0_copyload;
             r5_0 = r3_0;
-            for (;;) {
-                memset(r4_2, 0, 48);
-                if (r4_0_0 == 0) break;
+            while (r4_0_0 != 0) {
                 dfu_formats_dfuse_elements_take_element(r4_2, (unsigned char *)(uintptr_t)r4_57_0, r4_7_0);
                 uint8_t r25 = *r4_2;
-                if (r25 != 0) goto dfu_formats_dfuse_elements_Elements_next_element_exit;
+                if (r25 != 0) break;
                 r4_57_8_copyload = load_size(v1);
                 r4_7_8_copyload = load_size(r4_7_8_sroa_idx);
                 memcpy(r8_4, r26, 24);
@@ -5699,18 +5600,12 @@ int32_t dfuse_file_image(const uint8_t *file, size_t length, uint8_t setting, st
                 r4_7_0 = r4_7_8_copyload;
                 r5_0 = r5_0 + 1;
             }
-            goto arm_10;
-dfu_formats_dfuse_elements_Elements_next_element_exit:
-arm_10:
             r5_0_0 = r35;
             r5_6_0 = r1_8_0_0_copyload;
             r5_9_0 = r1_8_5_0_copyload;
             r4_0_off0 = 1;
             r3_0 = r5_0;
         }
-dfu_formats_dfuse_targets_Targets_next_target_exit_thread:
-        goto after_1;
-after_1_critedge:
 after_1:
         if (!r4_0_off0) {
             common_ret_op = 0xffffffa9U;
@@ -5733,7 +5628,6 @@ int32_t dfuse_read_map(const uint8_t *text, size_t length, struct dfuse_map *out
     unsigned char *a2 = (unsigned char *)(uintptr_t)out;
     _Alignas(8) unsigned char r5[800];
     uint32_t r6_0;
-    memset(r5, 0, 800);
     dfu_formats_memory_map_Map_read(r5, (unsigned char *)((uintptr_t)a0 + (uintptr_t)(size_t)((a0 == NULL) ? 4096 : 0)), a1);
     uint8_t r13 = *r5;
     if (r13 != 0) {
@@ -5760,7 +5654,6 @@ int32_t dfuse_read_range(const uint8_t *text, size_t length, uint32_t number, st
     _Alignas(8) unsigned char r3[792];
     size_t r33;
     uint32_t common_ret_op;
-    memset(r7, 0, 800);
     dfu_formats_memory_map_Map_read(r7, (unsigned char *)((uintptr_t)a0 + (uintptr_t)(size_t)((a0 == NULL) ? 4096 : 0)), a1);
     uint8_t r19 = *r7;
     if (r19 != 0) {
@@ -5799,7 +5692,6 @@ int32_t dfu_host_file(const uint8_t *file, size_t length, struct dfu_file *out) 
     unsigned char *r4;
     uint32_t r6_0;
     r4 = (unsigned char *)((uintptr_t)a0 + (uintptr_t)(size_t)((a0 == NULL) ? 4096 : 0));
-    memset(r5, 0, 40);
     dfu_host_c_file_file_in(r5, r4, a1);
     uint8_t r13 = *r5;
     if (r13 != 0) {
@@ -6006,7 +5898,6 @@ dfu_formats_images_text_unblanked_exit:;
                     uint8_t r44 = dfu_formats_images_text_is_text(r4, a1);
                     if (!r44) goto else_8;
                 }
-                memset(r4_2, 0, 24);
                 dfu_formats_images_places_bad_from(r4_2, 58, r4_0_0_in, r4_4_0);
                 r14_4_0_2 = 1;
                 goto dfu_formats_images_places_bad_place_exit;
@@ -6016,7 +5907,6 @@ dfu_formats_images_text_unblanked_exit:;
                 if ((uint8_t)(r28 + 208) < 10) {
                     uint8_t r55 = dfu_formats_images_looks_has_digits(r3_0_0_in_lcssa + 2, (uint64_t)r3_7_0 - 2);
                     if (r55) {
-                        memset(r4_2, 0, 24);
                         dfu_formats_images_places_bad_from(r4_2, 83, r4_0_0_in, r4_4_0);
                         r14_4_0_2 = 257;
                         goto dfu_formats_images_places_bad_place_exit;
@@ -6188,7 +6078,7 @@ int32_t dfu_host_name(uint32_t report, uint8_t *out, size_t room) {
         r4_4_0 = (size_t)r33;
         r4_0_0 = PLACE(static_21) + switch_load;
     }
-    core_slice_edits_slice_T_copy_from_slice_i8_core_clone_U8Clone(r4, r4_0_0, r4_4_0);
+    memcpy(r4, r4_0_0, r4_4_0);
     common_ret_op = (uint32_t)r4_4_0;
 dfu_host_c_names_dfu_host_name_exit:
     return signed32(common_ret_op);
@@ -6204,8 +6094,6 @@ int32_t dfu_host_abort(struct dfu_session *session, const uint8_t *payload, size
     _Alignas(8) unsigned char r7[48];
     unsigned char *r1;
     uint32_t common_ret_op;
-    memset(r4, 0, 72);
-    memset(r7, 0, 48);
     dfu_host_c_holding_session_of(r4, a0, (unsigned char *)((uintptr_t)a1 + (uintptr_t)(size_t)((a1 == NULL) ? 4096 : 0)), a2);
     uint8_t r14 = *r4;
     if (r14 != 1) common_ret_op = 0xffffffd7U;
@@ -6245,7 +6133,6 @@ int32_t dfu_host_next(const struct dfu_session *session, const uint8_t *payload,
     uint64_t v5, v16, v21, r14_18_0;
     uint32_t v6, r14_0, r14_0_0, r14_6_0, r14_15_0, common_ret_op;
     size_t r0_5_59_7_copyload, r2_0, r14_9_0, r14_12_0;
-    memset(r4, 0, 72);
     dfu_host_c_holding_session_of(r4, a0, (unsigned char *)((uintptr_t)a1 + (uintptr_t)(size_t)((a1 == NULL) ? 4096 : 0)), a2);
     uint8_t r13 = *r4;
     if (r13 != 1) common_ret_op = 0xffffffd7U;
@@ -6436,8 +6323,7 @@ int32_t dfuse_read_file(const uint8_t *file, size_t length, struct dfuse_file *o
     uint8_t r3_5_0_copyload, r1_0_0_copyload, r1_0_0_in, r1_0_0;
     size_t r3_61_0_copyload, r3_7_0_copyload, r1_9_0, r1_14_0;
     unsigned char *r32, *r1_8_0_r32_sroa_idx, *r1_8_5_0_r1_8_0_r32_sroa_idx_sroa_idx;
-    uint32_t v2, r6_0;
-    memset(r5, 0, 32);
+    uint32_t v1, r6_0;
     dfu_formats_dfuse_file_read(r5, (unsigned char *)((uintptr_t)a0 + (uintptr_t)(size_t)((a0 == NULL) ? 4096 : 0)), a1);
     uint8_t r13 = *r5;
     if (r13 != 0) {
@@ -6451,12 +6337,11 @@ int32_t dfuse_read_file(const uint8_t *file, size_t length, struct dfuse_file *o
         r3_5_0_copyload = r5[14];
         r3_61_0_copyload = load_size(r5 + 16);
         r3_7_0_copyload = load_size(r5 + 24);
-        memset(r4, 0, 72);
-        if (r3_5_0_copyload == 0) v2 = 256;
+        if (r3_5_0_copyload == 0) v1 = 256;
         else {
             dfu_formats_dfuse_headings_take_heading(r4, (unsigned char *)(uintptr_t)r3_61_0_copyload, r3_7_0_copyload);
             uint8_t r31 = *r4;
-            if (r31 == 1) v2 = 256;
+            if (r31 == 1) v1 = 256;
             else {
                 r1_0_0_copyload = r4[8];
                 size_t r1_8_0_0_copyload = load_size(r4 + 56);
@@ -6469,31 +6354,27 @@ int32_t dfuse_read_file(const uint8_t *file, size_t length, struct dfuse_file *o
                 r1_14_0 = r1_8_5_0_copyload;
                 for (;;) {
                     r1_0_0 = (uint8_t)(r1_0_0_in + 255);
-                    memset(r4_2, 0, 72);
                     if (r1_0_0 == 0) break;
                     dfu_formats_dfuse_headings_take_heading(r4_2, (unsigned char *)(uintptr_t)r1_9_0, r1_14_0);
                     uint8_t r31_2 = *r4_2;
-                    if (r31_2 == 1) goto return_5_critedge;
+                    if (r31_2 == 1) break;
                     uint8_t r1_0_0_copyload_2 = *r32;
                     size_t r1_8_0_0_copyload_2 = load_size(r1_8_0_r32_sroa_idx);
                     size_t r1_8_5_0_copyload_2 = load_size(r1_8_5_0_r1_8_0_r32_sroa_idx_sroa_idx);
                     if (r1_0_0_copyload_2 != r1_0_0_copyload) {
-                        v2 = 256;
+                        v1 = 256;
                         goto dfu_host_c_dfuse_file_file_record_exit;
                     }
                     r1_0_0_in = r1_0_0;
                     r1_9_0 = r1_8_0_0_copyload_2;
                     r1_14_0 = r1_8_5_0_copyload_2;
                 }
-                goto v1;
-return_5_critedge:
-v1:
-                v2 = (uint32_t)r1_0_0_copyload;
+                v1 = (uint32_t)r1_0_0_copyload;
             }
         }
 dfu_host_c_dfuse_file_file_record_exit:
         store32(a2, (uint32_t)r3_5_0_copyload);
-        store32(a2 + 4, v2);
+        store32(a2 + 4, v1);
         store16(a2 + 8, r3_0_0_copyload);
         store16(a2 + 10, r3_3_0_copyload);
         store16(a2 + 12, r3_4_0_copyload);
@@ -6600,16 +6481,19 @@ int32_t dfu_host_take(struct dfu_session *session, const uint8_t *payload, size_
     _Alignas(8) unsigned char r0[48];
     _Alignas(8) unsigned char r16[24];
     _Alignas(8) unsigned char r18[24];
-    unsigned char *r13, *r22, *v5;
-    uint64_t r30, r0_4_0_pn, r14_0;
-    size_t r3_20_0_0, r3_20_10_0, r3_11_0_0, v4;
-    uint8_t v1;
+    unsigned char *r13, *r22, *r16_sink3_gep, *r16_sink3_gep15, *r16_sink3_gep18, *r16_sink3_gep21, *r16_sink3_phi, *r16_sink3_phi17, *r16_sink3;
+    uint64_t r30, r14_0;
+    size_t wide_23668, v3, r3_11_0_0, r3_20_10_0, r3_20_0_0;
+    uint8_t sink;
     uint32_t common_ret_op;
     r13 = (unsigned char *)((uintptr_t)a3 + (uintptr_t)(size_t)((a3 == NULL) ? 4096 : 0));
     r22 = (unsigned char *)((uintptr_t)a6 + (uintptr_t)(size_t)((a6 == NULL) ? 4096 : 0));
-    memset(r9, 0, 72);
     dfu_host_c_holding_session_of(r9, a0, (unsigned char *)((uintptr_t)a1 + (uintptr_t)(size_t)((a1 == NULL) ? 4096 : 0)), a2);
     uint8_t r26 = *r9;
+    r16_sink3_gep = r16 + 8;
+    r16_sink3_gep15 = r18 + 8;
+    r16_sink3_gep18 = r16 + 16;
+    r16_sink3_gep21 = r18 + 16;
     if (r26 != 1) common_ret_op = 0xffffffd7U;
     else {
         memcpy(r7, r9 + 8, 64);
@@ -6624,49 +6508,77 @@ int32_t dfu_host_take(struct dfu_session *session, const uint8_t *payload, size_
             case 6:
             case 5:
             case 7:
-                r3_20_0_0 = 0;
+                r3_11_0_0 = (size_t)a5;
                 r3_20_10_0 = 0;
-                v1 = 0;
+                r3_20_0_0 = 0;
+                r16_sink3_phi = r16_sink3_gep;
+                r16_sink3_phi17 = r16_sink3_gep18;
+                r16_sink3 = r16;
+                sink = 0;
+                r14_0 = r30;
                 break;
-            case 1:
-                r3_20_0_0 = (size_t)(uintptr_t)r22;
-                r3_20_10_0 = a7;
-                v1 = 1;
+            case 1: {
+                wide_23668 = (size_t)(uintptr_t)r22;
+                uint8_t r8_0_0_copyload = r7[32];
+                if (r8_0_0_copyload != 18) {
+                    r3_11_0_0 = 1;
+                    r3_20_10_0 = a7;
+                    r3_20_0_0 = wide_23668;
+                    r16_sink3_phi = r16_sink3_gep;
+                    r16_sink3_phi17 = r16_sink3_gep18;
+                    r16_sink3 = r16;
+                    sink = 0;
+                    r14_0 = r30;
+                }
+                else {
+                    uint16_t r8_4_2_copyload = load16(r7 + 34);
+                    uint16_t r7_2 = load16(r7 + 24);
+                    size_t r9_2 = (size_t)r7_2;
+                    v3 = (size_t)((r8_4_2_copyload == 0) ? 0 : (size_t)r30);
+                    if (!((a7 < r9_2) | ((r8_4_2_copyload != 0xfffeU) & (a7 == r9_2)))) {
+                        r3_11_0_0 = 1;
+                        r3_20_10_0 = a7;
+                        r3_20_0_0 = wide_23668;
+                        r16_sink3_phi = r16_sink3_gep;
+                        r16_sink3_phi17 = r16_sink3_gep18;
+                        r16_sink3 = r16;
+                        sink = 0;
+                        r14_0 = r30;
+                    }
+                    else {
+                        if ((a4 - v3) < a7) {
+                            r3_11_0_0 = 1;
+                            r3_20_10_0 = a7;
+                            r3_20_0_0 = wide_23668;
+                            r16_sink3_phi = r16_sink3_gep15;
+                            r16_sink3_phi17 = r16_sink3_gep21;
+                            r16_sink3 = r18;
+                            sink = 1;
+                            r14_0 = r30;
+                        }
+                        else {
+                            memmove(r13 + v3, r22, a7);
+                            r3_11_0_0 = 1;
+                            r3_20_10_0 = a7;
+                            r3_20_0_0 = wide_23668;
+                            r16_sink3_phi = r16_sink3_gep;
+                            r16_sink3_phi17 = r16_sink3_gep18;
+                            r16_sink3 = r16;
+                            sink = 0;
+                            r14_0 = (uint64_t)v3 + (uint64_t)a7;
+                        }
+                    }
+                }
                 break;
+            }
             default:
                 common_ret_op = 0xffffffd6U;
                 goto dfu_host_c_steps_dfu_host_take_exit;
             }
-            r3_11_0_0 = (size_t)a5;
-            memset(r0, 0, 48);
-            uint8_t r8_0_0_copyload = r7[32];
-            if (!(v1 & (r8_0_0_copyload == 18))) r0_4_0_pn = r30;
-            else {
-                uint16_t r8_4_2_copyload = load16(r7 + 34);
-                uint16_t r7_2 = load16(r7 + 24);
-                size_t r9_2 = (size_t)r7_2;
-                v4 = (size_t)((r8_4_2_copyload == 0) ? 0 : (size_t)r30);
-                v5 = (unsigned char *)(uintptr_t)r3_20_0_0;
-                if (!((r3_20_10_0 < r9_2) | ((r8_4_2_copyload != 0xfffeU) & (r3_20_10_0 == r9_2)))) r0_4_0_pn = r30;
-                else {
-                    if ((a4 - v4) < r3_20_10_0) {
-                        store_size(r18, r3_11_0_0);
-                        store_size(r18 + 8, r3_20_0_0);
-                        store_size(r18 + 16, r3_20_10_0);
-                        dfu_host_session_Session_on_result(r7, r18, 1);
-                        r14_0 = r30;
-                        goto dfu_host_c_steps_step_exit;
-                    }
-                    core_slice_edits_slice_T_copy_from_slice_i8_core_clone_U8Clone(r13 + v4, v5, r3_20_10_0);
-                    r0_4_0_pn = (uint64_t)v4 + (uint64_t)r3_20_10_0;
-                }
-            }
-            store_size(r16, r3_11_0_0);
-            store_size(r16 + 8, r3_20_0_0);
-            store_size(r16 + 16, r3_20_10_0);
-            dfu_host_session_Session_on_result(r7, r16, 0);
-            r14_0 = r0_4_0_pn;
-dfu_host_c_steps_step_exit:
+            store_size(r16_sink3, r3_11_0_0);
+            store_size(r16_sink3_phi, r3_20_0_0);
+            store_size(r16_sink3_phi17, r3_20_10_0);
+            dfu_host_session_Session_on_result(r7, r16_sink3, sink);
             dfu_host_c_holding_record_of(r0, r7, r14_0);
             memcpy(a0, r0, 48);
             common_ret_op = 0;
@@ -6893,10 +6805,14 @@ dfu_host_c_watching_stalled_after_exit:
     if (r6 | r46) r18_0_in = r46;
     else {
         uint8_t r10_2 = *a3;
-        if (r10_2 == 0) r18_0_in = 0;
+        if (!((r9 == 0) & (r10_2 != 0))) r18_0_in = 0;
         else {
-            uint8_t r57 = dfu_host_c_watching_is_download(a1);
-            r18_0_in = r57;
+            uint8_t r20 = a1[28];
+            if (r20 != 33) r18_0_in = 0;
+            else {
+                uint8_t r33 = a1[29];
+                r18_0_in = r33 == 1;
+            }
         }
     }
     r68 = a0 + 10;
@@ -6917,8 +6833,8 @@ dfu_host_c_watching_stalled_after_exit:
     }
     if (r1_0 > 23) r1_0_5 = 4;
     else {
-        uint8_t r57_2 = dfu_host_c_watching_is_other(a0, a3);
-        if (r57_2) r1_0_5 = 5;
+        uint8_t r57 = dfu_host_c_watching_is_other(a0, a3);
+        if (r57) r1_0_5 = 5;
         else {
             uint8_t r62 = a3[4];
             if (r62 == 0) r1_0_5 = 0;
@@ -6958,25 +6874,22 @@ int32_t dfuse_next(const struct dfuse_session *session, const uint8_t *map, size
     _Alignas(8) unsigned char r10[112];
     _Alignas(8) unsigned char r0[32];
     unsigned char *const r14 = r0;
-    unsigned char *const r10_2 = r0;
     _Alignas(8) unsigned char r15[32];
-    unsigned char *const r12 = r15;
     _Alignas(8) unsigned char r1_3[24];
     unsigned char *const r1_2 = r1_3;
-    unsigned char *const r13 = r1_3;
     _Alignas(8) unsigned char r1[24];
     _Alignas(4) unsigned char r16_2[6];
     _Alignas(4) unsigned char r16[6];
     _Alignas(4) unsigned char r17_2[6];
     _Alignas(4) unsigned char r18[6];
     _Alignas(4) unsigned char r19[6];
-    _Alignas(4) unsigned char r12_9[5];
-    unsigned char *r22, *r28;
+    _Alignas(4) unsigned char r12_5[5];
+    unsigned char *r22, *r28, *v18;
     uint16_t r8_3_0_copyload;
-    uint8_t r8_72_0_copyload, r8_10_0_copyload, r10_4_4_0, r10_4_0_0;
-    uint64_t r8_83_0_copyload, r8_9_0_copyload, r8_114_0_copyload, r36, r10_10_5_2_copyload_pre, v19, v21;
-    uint32_t r8_135_0_copyload, r18_0, common_ret_op;
-    size_t r17, r10_10_3_2_copyload_pre;
+    uint8_t r8_72_0_copyload, r8_10_0_copyload;
+    uint64_t r8_83_0_copyload, r8_9_0_copyload, r8_114_0_copyload, r36, r10_10_5_2_copyload_pre, v19, v20, r10_4_0_0, sink;
+    uint32_t r8_135_0_copyload, r74_sink, common_ret_op;
+    size_t r17;
     r22 = (unsigned char *)((uintptr_t)a5 + (uintptr_t)(size_t)((a5 == NULL) ? 4096 : 0));
     dfu_host_c_dfuse_holding_map_of(r9, (unsigned char *)((uintptr_t)a1 + (uintptr_t)(size_t)((a1 == NULL) ? 4096 : 0)), a2);
     uint8_t r20 = *r9;
@@ -7030,8 +6943,8 @@ int32_t dfuse_next(const struct dfuse_session *session, const uint8_t *map, size
                 case 3:
                 case 8: {
                     store32(r15 + 4, r8_135_0_copyload);
-                    uint64_t v18 = load64u(r15 + 1);
-                    v21 = v18;
+                    uint64_t v17 = load64u(r15 + 1);
+                    v20 = v17;
                     goto arm_3;
                 }
                 case 4:
@@ -7043,7 +6956,6 @@ int32_t dfuse_next(const struct dfuse_session *session, const uint8_t *map, size
                     r36 = r34.b;
                     store_size(r1_2, r17);
                     store64(r1_2 + 16, r8_9_0_copyload);
-                    memset(r14, 0, 32);
                     switch (r34.a) {
                     case 0:
                         dfuse_host_asking_address_command(r14, 33, (size_t)r36);
@@ -7072,16 +6984,15 @@ int32_t dfuse_next(const struct dfuse_session *session, const uint8_t *map, size
                     store_size(r1_3, r17);
                     store64(r1_3 + 8, r8_83_0_copyload);
                     store64(r1_3 + 16, r8_9_0_copyload);
-                    memset(r0 + 8, 0, 24);
                     struct ptr_i64 r23 = dfuse_host_plan_Plan_read_bytes(r28, r1_3);
                     store16(r16_2, 2);
                     store16(r16_2 + 2, (uint16_t)((uint16_t)(size_t)(((uint64_t)((r8_10_0_copyload == 2) ? (uint64_t)((r8_72_0_copyload == 6) ? 0 : usub_sat64(r8_83_0_copyload, r8_114_0_copyload)) : 0) / (uint64_t)(size_t)umax16(r8_3_0_copyload, 1)) % 0xfffeU) + 2));
                     store16(r16_2 + 4, (uint16_t)(size_t)r23.b);
                     dfuse_host_asking_ask(r0, r16_2);
-                    uint8_t v16 = *r0;
-                    *r15 = v16;
-                    uint64_t v17 = load64u(r0 + 1);
-                    store64u(r15 + 1, v17);
+                    uint8_t v15 = *r0;
+                    *r15 = v15;
+                    uint64_t v16 = load64u(r0 + 1);
+                    store64u(r15 + 1, v16);
                     memcpy(r15 + 9, r0 + 9, 5);
                     memcpy(r15 + 16, r0 + 16, 16);
                     break;
@@ -7092,58 +7003,70 @@ int32_t dfuse_next(const struct dfuse_session *session, const uint8_t *map, size
                 default: never();
                 }
                 uint8_t pr = *r15;
-                r10_10_3_2_copyload_pre = load_size(r15 + 16);
+                size_t r10_10_3_2_copyload_pre = load_size(r15 + 16);
                 r10_10_5_2_copyload_pre = load64(r15 + 24);
+                v18 = (unsigned char *)(uintptr_t)r10_10_3_2_copyload_pre;
                 v19 = load64u(r15 + 1);
-                memcpy(r12_9, r15 + 9, 5);
+                memcpy(r12_5, r15 + 9, 5);
                 switch (pr) {
-                case 0: {
-                    store64(r10_2, v19);
-                    uint32_t r45 = dfu_host_c_dfuse_action_send(r10_2, (unsigned char *)(uintptr_t)r10_10_3_2_copyload_pre, r10_10_5_2_copyload_pre, r22, a6, a7);
-                    r18_0 = r45;
-                    goto dfu_host_c_dfuse_action_tell_exit;
-                }
-                case 1: {
-                    store64(r12, v19);
-                    memcpy(r13, r12_9, 5);
-                    uint32_t r62 = dfu_host_c_dfuse_action_send(r12, r13, 5, r22, a6, a7);
-                    r18_0 = r62;
-                    goto dfu_host_c_dfuse_action_tell_exit;
-                }
+                case 0:
+                    if ((uint64_t)a6 < r10_10_5_2_copyload_pre) {
+                        common_ret_op = 0xffffffd5U;
+                        goto dfu_host_c_dfuse_action_dfuse_next_exit;
+                    }
+                    memmove(r22, v18, (size_t)r10_10_5_2_copyload_pre);
+                    store64(a7, r10_10_5_2_copyload_pre);
+                    store32(a7 + 8, 0);
+                    store32(a7 + 12, 0);
+                    r74_sink = 0;
+                    sink = v19;
+                    goto dfu_host_c_dfuse_action_dfuse_next_exit_gvnsink_split;
+                case 1:
+                    if (a6 < 5) {
+                        common_ret_op = 0xffffffd5U;
+                        goto dfu_host_c_dfuse_action_dfuse_next_exit;
+                    }
+                    memcpy(r22, r12_5, 5);
+                    store64(a7, 5);
+                    store32(a7 + 8, 0);
+                    store32(a7 + 12, 0);
+                    r74_sink = 0;
+                    sink = v19;
+                    goto dfu_host_c_dfuse_action_dfuse_next_exit_gvnsink_split;
                 case 2:
-                    v21 = v19;
+                    v20 = v19;
                     break;
                 case 3:
-                    r10_4_4_0 = (uint8_t)(size_t)(v19 >> 8);
-                    r10_4_0_0 = (uint8_t)v19;
+                    r10_4_0_0 = v19;
                     goto arm_4;
                 default: never();
                 }
 arm_3:
                 store64(a7, 0);
                 store32(a7 + 8, 1);
-                store32(a7 + 12, (uint32_t)(size_t)(v21 >> 24));
+                store32(a7 + 12, (uint32_t)(size_t)(v20 >> 24));
                 memset(a7 + 16, 0, 16);
-                r18_0 = 0;
-                goto dfu_host_c_dfuse_action_tell_exit;
+                common_ret_op = 0;
+                goto dfu_host_c_dfuse_action_dfuse_next_exit;
             }
             uint8_t r8_6_0_copyload = r10[50];
             uint8_t r8_5_0_copyload = r10[49];
-            r10_4_4_0 = r8_6_0_copyload;
-            r10_4_0_0 = r8_5_0_copyload;
+            r10_4_0_0 = ((size_t)r8_6_0_copyload << 8) | (size_t)r8_5_0_copyload;
 arm_4:;
-            struct i32_i32 r72 = dfu_host_c_dfuse_reports_report_numbers(r10_4_0_0, r10_4_4_0);
+            struct i32_i32 r72 = dfu_host_c_dfuse_reports_report_numbers((uint8_t)r10_4_0_0, (uint8_t)(size_t)(r10_4_0_0 >> 8));
             store64(a7, 0);
             store32(a7 + 8, 3);
             store32(a7 + 12, r72.a);
-            store32(a7 + 16, r72.b);
-            store64a4(a7 + 20, 0);
+            r74_sink = r72.b;
+            sink = 0;
+dfu_host_c_dfuse_action_dfuse_next_exit_gvnsink_split:
+            store32(a7 + 16, r74_sink);
+            store64a4(a7 + 20, sink);
             store32(a7 + 28, 0);
-            r18_0 = 0;
-dfu_host_c_dfuse_action_tell_exit:
-            common_ret_op = r18_0;
+            common_ret_op = 0;
         }
     }
+dfu_host_c_dfuse_action_dfuse_next_exit:
     return signed32(common_ret_op);
 }
 
@@ -7157,7 +7080,7 @@ int32_t dfuse_begin(struct dfuse_session *session, const uint8_t *map, size_t ma
     unsigned char *a5 = (unsigned char *)(uintptr_t)plan;
     _Alignas(8) unsigned char r11[800];
     _Alignas(8) unsigned char r5[792];
-    _Alignas(8) unsigned char r9[104];
+    _Alignas(8) unsigned char r9_2[104];
     _Alignas(8) unsigned char r20[64];
     _Alignas(2) unsigned char r8_6_0[46];
     _Alignas(2) unsigned char r16_5[46];
@@ -7171,10 +7094,6 @@ int32_t dfuse_begin(struct dfuse_session *session, const uint8_t *map, size_t ma
     uint64_t r3_0_3;
     uint8_t v1;
     r13 = (unsigned char *)((uintptr_t)a3 + (uintptr_t)(size_t)((a3 == NULL) ? 4096 : 0));
-    memset(r9, 0, 104);
-    memset(r11, 0, 800);
-    memset(r16_5, 0, 46);
-    memset(r20, 0, 64);
     dfu_formats_memory_map_Map_read(r11, (unsigned char *)((uintptr_t)a1 + (uintptr_t)(size_t)((a1 == NULL) ? 4096 : 0)), a2);
     uint8_t r26 = *r11;
     if (r26 != 0) {
@@ -7185,7 +7104,7 @@ int32_t dfuse_begin(struct dfuse_session *session, const uint8_t *map, size_t ma
         memcpy(r5, r11 + 8, 792);
         r36 = load32(a5 + 4);
         r38 = load16(a5 + 8);
-        uint16_t r9_2 = load16(a5 + 10);
+        uint16_t r9 = load16(a5 + 10);
         uint16_t r11_2 = load16(a5 + 12);
         uint16_t r13_2 = load16(a5 + 14);
         uint32_t r17 = load32(a5);
@@ -7194,11 +7113,11 @@ int32_t dfuse_begin(struct dfuse_session *session, const uint8_t *map, size_t ma
         store_size(r4, (size_t)(uintptr_t)r5);
         store_size(r4 + 8, (size_t)(uintptr_t)r13);
         store_size(r4 + 16, a4);
-        store16(r4 + 24, r9_2);
+        store16(r4 + 24, r9);
         store16(r4 + 26, r11_2);
         r4[28] = r13_2 != 0;
         store32(r4 + 32, r17);
-        if (r9_2 == 0) r0_11_0_neg = 0xffffffc3U;
+        if (r9 == 0) r0_11_0_neg = 0xffffffc3U;
         else {
             if (a4 == 0) r0_11_0_neg = 0xffffffc2U;
             else {
@@ -7299,17 +7218,17 @@ dfuse_host_session_Session_begin_exit:
         memcpy(r16_5_8_r52_sroa_idx, r8_6_0 + 6, 40);
         if (!v1) common_ret_op = r8_4_0_neg;
         else {
-            memcpy(r9, r16_5_8_r52_sroa_idx, 40);
-            r9[40] = 0;
-            r9[41] = 0;
-            r9[42] = 0;
-            store_size(r9 + 48, 0);
-            store64(r9 + 56, r8_6_8_0);
-            store64(r9 + 64, 0);
-            memcpy(r9 + 72, r8_6_10, 24);
-            store32(r9 + 96, r8_8_0);
-            store16(r9 + 100, r8_9_0);
-            dfu_host_c_dfuse_holding_record_of(r20, r9);
+            memcpy(r9_2, r16_5_8_r52_sroa_idx, 40);
+            r9_2[40] = 0;
+            r9_2[41] = 0;
+            r9_2[42] = 0;
+            store_size(r9_2 + 48, 0);
+            store64(r9_2 + 56, r8_6_8_0);
+            store64(r9_2 + 64, 0);
+            memcpy(r9_2 + 72, r8_6_10, 24);
+            store32(r9_2 + 96, r8_8_0);
+            store16(r9_2 + 100, r8_9_0);
+            dfu_host_c_dfuse_holding_record_of(r20, r9_2);
             memcpy(a0, r20, 64);
             common_ret_op = 0;
         }
@@ -7331,16 +7250,15 @@ int32_t dfuse_take(struct dfuse_session *session, const uint8_t *map, size_t map
     _Alignas(8) unsigned char r7[792];
     _Alignas(8) unsigned char r11[112];
     _Alignas(8) unsigned char r3[104];
-    unsigned char *const r5 = r3;
-    unsigned char *const r4 = r3;
     _Alignas(8) unsigned char r4_2[104];
-    unsigned char *const r11_3 = r4_2;
+    unsigned char *const r11_2 = r4_2;
     unsigned char *const r12_5 = r4_2;
-    unsigned char *const r10_4 = r4_2;
     unsigned char *const r10_3 = r4_2;
+    unsigned char *const r10_2 = r4_2;
     unsigned char *const r12_3 = r4_2;
     unsigned char *const r9_3 = r4_2;
-    unsigned char *const r1 = r4_2;
+    unsigned char *const r5 = r4_2;
+    unsigned char *const r4 = r4_2;
     _Alignas(8) unsigned char r9_2[104];
     unsigned char *const r14_3 = r9_2;
     unsigned char *const r14_2 = r9_2;
@@ -7348,18 +7266,17 @@ int32_t dfuse_take(struct dfuse_session *session, const uint8_t *map, size_t map
     unsigned char *const r1_7 = r9_2;
     unsigned char *const r1_4 = r9_2;
     unsigned char *const r1_2 = r9_2;
+    unsigned char *const r1 = r9_2;
     _Alignas(8) unsigned char r5_2[104];
     unsigned char *const r12_4 = r5_2;
     unsigned char *const r12_2 = r5_2;
-    _Alignas(8) unsigned char r10_2[104];
     _Alignas(8) unsigned char r12[104];
-    _Alignas(8) unsigned char r11_2[104];
     _Alignas(8) unsigned char r8[104];
     _Alignas(8) unsigned char r17[64];
     _Alignas(8) unsigned char r7_2[56];
-    unsigned char *const r13_2 = r7_2;
+    unsigned char *const r13 = r7_2;
     unsigned char *const r1_6 = r7_2;
-    _Alignas(8) unsigned char r13[56];
+    _Alignas(8) unsigned char r13_2[56];
     _Alignas(8) unsigned char r2_2[48];
     unsigned char *const r1_8 = r2_2;
     unsigned char *const r1_5 = r2_2;
@@ -7368,19 +7285,18 @@ int32_t dfuse_take(struct dfuse_session *session, const uint8_t *map, size_t map
     unsigned char *r22, *r31, *r23, *r23_2;
     size_t r3_16_0_0, r3_16_8_0, r18, r9_21_8_copyload25, r9_1321_8_copyload22, r17_83_8_copyload241, r17_46230_8_copyload232, r17_83_8_copyload242, r17_46230_8_copyload233, r17_46230_0, r17_83_0;
     uint8_t r3_9_0_0, r5_0_0_copyload, r5_10_0_copyload, r5_14_0_copyload, r5_5_3_0, r5_5_7_0, r5_0_0, r13_10_3_0, r13_10_9_0, r13_0_0, r13_6_0, r17_10_3_0;
-    uint8_t r17_10_7_0, r17_0_0, r17_8_0, v7, v8, v9, r9_0_0, r9_5_0, r9_9_0, r9_1319_0_in, v13, v14;
-    uint8_t v15, v16, v17, v18, v27, v28, v29, v30, v31, v32, v33, v34;
-    uint8_t v35, v40, v41, v42, v43, v44, v45, r12_23_0_in, r12_0_0, r12_108_0_in, r12_17_0_in, r17_0_0_2;
+    uint8_t r17_10_7_0, r17_0_0, r17_8_0, v6, v7, v8, r9_0_0, r9_5_0, r9_9_0, r9_1319_0_in, v12, v13;
+    uint8_t v14, v15, v16, v17, v26, v27, v28, v29, v30, v31, v32, v33;
+    uint8_t v34, v39, v40, v41, v42, v43, v44, r12_23_0_in, r12_0_0, r12_108_0_in, r12_17_0_in, r17_0_0_2;
     uint8_t r17_16_0, r17_31_0;
     uint64_t r5_6_0_copyload, r5_8_0_copyload, r5_13_0_copyload, r9_23_8_copyload26, r9_19_8_copyload24, r9_17_8_copyload23, r9_17_0, r9_20_0, r33, r17_94_8_copyload244, r17_72_8_copyload238, r17_61_8_copyload235;
     uint64_t r14_4, r11_5_0, r11_9_0, r17_94_8_copyload245, r17_72_8_copyload239, r17_61_8_copyload236, r12_26_0, r12_13_0, r12_15_0, r12_19_0, r17_61_0, r17_72_0;
     uint64_t r17_94_0;
-    uint32_t r5_18_0_copyload, r5_5_6_0, r13_10_8_0, r17_10_6_0, r9_27_8_copyload28, r9_25_8_copyload27, r9_28_0, r9_31_0, r17_111_8_copyload250, r17_101_8_copyload247, r17_111_8_copyload251, r17_101_8_copyload248;
-    uint32_t r12_29_0, r12_21_0, r17_101_0, r17_111_0, common_ret_op;
+    uint32_t r5_18_0_copyload, r5_5_6_0, r13_10_8_0, r17_10_6_0, r9_27_8_copyload28, r9_25_8_copyload27, r9_28_0, r9_31_0, sink, r17_111_8_copyload250, r17_101_8_copyload247, r17_111_8_copyload251;
+    uint32_t r17_101_8_copyload248, r12_29_0, r12_21_0, r17_101_0, r17_111_0, common_ret_op;
     uint8_t common_ret_op_2;
-    uint16_t r8_3_0_copyload, r8_5_0_copyload;
+    uint16_t r8_3_0_copyload, r8_5_0_copyload, r8_3_0_copyload8;
     r22 = (unsigned char *)((uintptr_t)a6 + (uintptr_t)(size_t)((a6 == NULL) ? 4096 : 0));
-    memset(r17, 0, 64);
     dfu_host_c_dfuse_holding_map_of(r10, (unsigned char *)((uintptr_t)a1 + (uintptr_t)(size_t)((a1 == NULL) ? 4096 : 0)), a2);
     uint8_t r22_2 = *r10;
     if (r22_2 != 1) common_ret_op = 0xffffffd7U;
@@ -7427,7 +7343,6 @@ int32_t dfuse_take(struct dfuse_session *session, const uint8_t *map, size_t map
                 common_ret_op = 0xffffffd6U;
                 goto dfu_host_c_dfuse_steps_dfuse_take_exit;
             }
-            memset(r11_2, 0, 104);
             uint8_t r14 = r8[40];
             if (r14 == 0) {
                 r5_0_0_copyload = r8[48];
@@ -7475,7 +7390,6 @@ int32_t dfuse_take(struct dfuse_session *session, const uint8_t *map, size_t map
                     case 2:
                     case 7:
                     case 14: {
-                        memset(r4, 0, 16);
                         dfu_wire_statuses_Status_decode(r4, r23, r3_16_8_0);
                         uint8_t r9 = *r4;
                         if (r9 != 0) {
@@ -7577,19 +7491,8 @@ int32_t dfuse_take(struct dfuse_session *session, const uint8_t *map, size_t map
                     r17_8_0 = 0;
                     break;
                 case 5:
-                    r17_10_3_0 = 0;
-                    r17_10_6_0 = 0;
-                    r17_10_7_0 = 0;
-                    r17_0_0 = 7;
-                    r17_8_0 = 0;
-                    break;
-                default: never();
-                }
-                memset(r10_2, 0, 104);
-                memset(r13, 0, 56);
-                r8_3_0_copyload = load16(r11 + 108);
-                r8_5_0_copyload = load16(r11 + 110);
-                if (r17_0_0 == 7) {
+                    r8_3_0_copyload = load16(r11 + 108);
+                    r8_5_0_copyload = load16(r11 + 110);
                     *r2 = r5_0_0_copyload;
                     store64(r2 + 8, r5_6_0_copyload);
                     store64(r2 + 16, r5_8_0_copyload);
@@ -7609,7 +7512,6 @@ int32_t dfuse_take(struct dfuse_session *session, const uint8_t *map, size_t map
                         r2_2[24] = r5_10_0_copyload;
                         store64(r2_2 + 32, r5_13_0_copyload);
                         r2_2[40] = r5_14_0_copyload;
-                        memset(r3, 0, 104);
                         memset(r7_2, 0, 56);
                         if ((uint8_t)(r5_14_0_copyload + 244) < 3) {
                             memcpy(r4_2, r31, 100);
@@ -7624,322 +7526,16 @@ int32_t dfuse_take(struct dfuse_session *session, const uint8_t *map, size_t map
                             dfuse_host_session_Session_restarted_once(r3, r9_2, r2_2);
                         }
                     }
-                    memcpy(r10_2, r3, 104);
+                    goto dfuse_host_session_Session_after_exit;
+                default: never();
                 }
-                else {
-                    memcpy(r12, r31, 104);
-                    switch (r5_14_0_copyload) {
+                r8_3_0_copyload8 = load16(r11 + 108);
+                memcpy(r12, r31, 104);
+                switch (r5_14_0_copyload) {
+                case 0:
+                    switch (r17_0_0) {
                     case 0:
-                        switch (r17_0_0) {
-                        case 0:
-                        case 4:
-                            r17_0_0_2 = 0;
-                            r17_16_0 = 0;
-                            r17_31_0 = 0;
-                            r17_46230_0 = r18;
-                            r17_61_0 = r5_6_0_copyload;
-                            r17_72_0 = r5_8_0_copyload;
-                            r17_83_0 = 0;
-                            r17_94_0 = 0;
-                            r17_101_0 = 1;
-                            r17_111_0 = 0;
-                            break;
-                        case 1:
-                        case 2:
-                        case 3:
-                        case 5:
-                        case 6:
-                            r17_0_0_2 = 0;
-                            r17_16_0 = 0;
-                            r17_31_0 = 0;
-                            r17_46230_0 = r18;
-                            r17_61_0 = r5_6_0_copyload;
-                            r17_72_0 = r5_8_0_copyload;
-                            r17_83_0 = 0;
-                            r17_94_0 = 0;
-                            r17_101_0 = 0;
-                            r17_111_0 = 0;
-                            break;
-                        default: never();
-                        }
-                        break;
-                    case 1:
-                        switch (r17_0_0) {
-                        case 2:
-                            store_size(r1_2, r18);
-                            store64(r1_2 + 8, r5_6_0_copyload);
-                            store64(r1_2 + 16, r5_8_0_copyload);
-                            memset(r9_3, 0, 56);
-                            switch (r17_8_0) {
-                            case 0:
-                            case 1:
-                                r9_27_8_copyload28 = 0;
-                                r9_25_8_copyload27 = 0;
-                                r9_23_8_copyload26 = 0;
-                                r9_21_8_copyload25 = 0;
-                                r9_19_8_copyload24 = 0;
-                                r9_17_8_copyload23 = 0;
-                                r9_1321_8_copyload22 = 0;
-                                v7 = 0;
-                                v8 = 6;
-                                v9 = 1;
-                                break;
-                            case 2: {
-                                dfuse_host_plan_Plan_settle(r9_3, r31, r1_2, 0, 0);
-                                uint8_t pre = *r9_3;
-                                uint8_t pre6 = r9_3[1];
-                                uint8_t pre7 = r9_3[2];
-                                size_t r9_1321_8_copyload22_pre = load_size(r9_3 + 8);
-                                uint64_t r9_17_8_copyload23_pre = load64(r9_3 + 16);
-                                uint64_t r9_19_8_copyload24_pre = load64(r9_3 + 24);
-                                size_t r9_21_8_copyload25_pre = load_size(r9_3 + 32);
-                                uint64_t r9_23_8_copyload26_pre = load64(r9_3 + 40);
-                                uint32_t r9_25_8_copyload27_pre = load32(r9_3 + 48);
-                                uint32_t r9_27_8_copyload28_pre = load32(r9_3 + 52);
-                                r9_27_8_copyload28 = r9_27_8_copyload28_pre;
-                                r9_25_8_copyload27 = r9_25_8_copyload27_pre;
-                                r9_23_8_copyload26 = r9_23_8_copyload26_pre;
-                                r9_21_8_copyload25 = r9_21_8_copyload25_pre;
-                                r9_19_8_copyload24 = r9_19_8_copyload24_pre;
-                                r9_17_8_copyload23 = r9_17_8_copyload23_pre;
-                                r9_1321_8_copyload22 = r9_1321_8_copyload22_pre;
-                                v7 = pre7;
-                                v8 = pre6;
-                                v9 = pre;
-                                break;
-                            }
-                            case 3:
-                            case 5:
-                            case 6:
-                            case 9:
-                                r9_27_8_copyload28 = 0;
-                                r9_25_8_copyload27 = 0;
-                                r9_23_8_copyload26 = 0;
-                                r9_21_8_copyload25 = 0;
-                                r9_19_8_copyload24 = r5_8_0_copyload;
-                                r9_17_8_copyload23 = r5_6_0_copyload;
-                                r9_1321_8_copyload22 = r18;
-                                v7 = 0;
-                                v8 = 0;
-                                v9 = 0;
-                                break;
-                            case 4:
-                            case 7:
-                            case 8:
-                            case 10:
-                                r9_27_8_copyload28 = 0;
-                                r9_25_8_copyload27 = 2;
-                                r9_23_8_copyload26 = 0;
-                                r9_21_8_copyload25 = 0;
-                                r9_19_8_copyload24 = r5_8_0_copyload;
-                                r9_17_8_copyload23 = r5_6_0_copyload;
-                                r9_1321_8_copyload22 = r18;
-                                v7 = 0;
-                                v8 = 0;
-                                v9 = 0;
-                                break;
-                            default: never();
-                            }
-                            r17_0_0_2 = v9;
-                            r17_16_0 = v8;
-                            r17_31_0 = v7;
-                            r17_46230_0 = r9_1321_8_copyload22;
-                            r17_61_0 = r9_17_8_copyload23;
-                            r17_72_0 = r9_19_8_copyload24;
-                            r17_83_0 = r9_21_8_copyload25;
-                            r17_94_0 = r9_23_8_copyload26;
-                            r17_101_0 = r9_25_8_copyload27;
-                            r17_111_0 = r9_27_8_copyload28;
-                            break;
-                        case 4:
-                            r17_0_0_2 = 0;
-                            r17_16_0 = 0;
-                            r17_31_0 = 0;
-                            r17_46230_0 = r18;
-                            r17_61_0 = r5_6_0_copyload;
-                            r17_72_0 = r5_8_0_copyload;
-                            r17_83_0 = 0;
-                            r17_94_0 = 0;
-                            r17_101_0 = 2;
-                            r17_111_0 = 0;
-                            break;
-                        case 0:
-                        case 1:
-                        case 3:
-                        case 5:
-                        case 6:
-                            r17_0_0_2 = 0;
-                            r17_16_0 = 0;
-                            r17_31_0 = 0;
-                            r17_46230_0 = r18;
-                            r17_61_0 = r5_6_0_copyload;
-                            r17_72_0 = r5_8_0_copyload;
-                            r17_83_0 = 0;
-                            r17_94_0 = 0;
-                            r17_101_0 = 1;
-                            r17_111_0 = 0;
-                            break;
-                        default: never();
-                        }
-                        break;
-                    case 2:
-                        switch (r17_0_0) {
-                        case 1:
-                            switch (r17_10_7_0) {
-                            case 0:
-                            case 1:
-                                r9_0_0 = 1;
-                                r9_5_0 = 6;
-                                r9_9_0 = 0;
-                                r9_1319_0_in = 0;
-                                r9_17_0 = 0;
-                                r9_20_0 = 0;
-                                r9_28_0 = 0;
-                                r9_31_0 = 0;
-                                break;
-                            case 2:
-                                r9_0_0 = 0;
-                                r9_5_0 = 0;
-                                r9_9_0 = 0;
-                                r9_1319_0_in = r5_0_0_copyload;
-                                r9_17_0 = r5_6_0_copyload;
-                                r9_20_0 = r5_8_0_copyload;
-                                r9_28_0 = 1;
-                                r9_31_0 = 0;
-                                break;
-                            case 5:
-                            case 9:
-                                r9_0_0 = 0;
-                                r9_5_0 = 0;
-                                r9_9_0 = 0;
-                                r9_1319_0_in = r5_0_0_copyload;
-                                r9_17_0 = r5_6_0_copyload;
-                                r9_20_0 = r5_8_0_copyload;
-                                r9_28_0 = 0;
-                                r9_31_0 = 0;
-                                break;
-                            case 10:
-                                switch (r5_0_0_copyload) {
-                                case 0:
-                                    r9_0_0 = r5_0_0_copyload;
-                                    r9_5_0 = r5_0_0_copyload;
-                                    r9_9_0 = r5_0_0_copyload;
-                                    r9_1319_0_in = r5_0_0_copyload;
-                                    r9_17_0 = r5_6_0_copyload;
-                                    r9_20_0 = r5_8_0_copyload;
-                                    r9_28_0 = 4;
-                                    r9_31_0 = 0;
-                                    goto dfuse_host_clearing_on_ask_status_exit;
-                                case 3:
-                                case 5:
-                                    switch (r17_10_3_0) {
-                                    case 11: break;
-                                    case 15:
-                                        r9_0_0 = 0;
-                                        r9_5_0 = 0;
-                                        r9_9_0 = 0;
-                                        r9_1319_0_in = r5_0_0_copyload;
-                                        r9_17_0 = r5_6_0_copyload;
-                                        r9_20_0 = r5_8_0_copyload;
-                                        r9_28_0 = 4;
-                                        r9_31_0 = 0;
-                                        goto dfuse_host_clearing_on_ask_status_exit;
-                                    default:
-                                        r9_0_0 = 1;
-                                        r9_5_0 = 2;
-                                        r9_9_0 = r17_10_3_0;
-                                        r9_1319_0_in = 0;
-                                        r9_17_0 = 0;
-                                        r9_20_0 = 0;
-                                        r9_28_0 = 0;
-                                        r9_31_0 = 0;
-                                        goto dfuse_host_clearing_on_ask_status_exit;
-                                    }
-                                    break;
-                                case 1:
-                                case 2:
-                                case 4:
-                                case 6:
-                                    if (r17_10_3_0 != 11) {
-                                        r9_0_0 = 0;
-                                        r9_5_0 = 0;
-                                        r9_9_0 = 0;
-                                        r9_1319_0_in = r5_0_0_copyload;
-                                        r9_17_0 = r5_6_0_copyload;
-                                        r9_20_0 = r5_8_0_copyload;
-                                        r9_28_0 = 4;
-                                        r9_31_0 = 0;
-                                        goto dfuse_host_clearing_on_ask_status_exit;
-                                    }
-                                    break;
-                                default: never();
-                                }
-                                r9_0_0 = 1;
-                                r9_5_0 = 3;
-                                r9_9_0 = 0;
-                                r9_1319_0_in = 0;
-                                r9_17_0 = 0;
-                                r9_20_0 = 0;
-                                r9_28_0 = 0;
-                                r9_31_0 = 0;
-                                break;
-                            case 3:
-                            case 4:
-                            case 6:
-                            case 7:
-                            case 8:
-                                r9_0_0 = 0;
-                                r9_5_0 = 0;
-                                r9_9_0 = 0;
-                                r9_1319_0_in = r5_0_0_copyload;
-                                r9_17_0 = r5_6_0_copyload;
-                                r9_20_0 = r5_8_0_copyload;
-                                r9_28_0 = 3;
-                                r9_31_0 = r17_10_6_0;
-                                break;
-                            default: never();
-                            }
-                            break;
-                        case 4:
-                            r9_0_0 = 0;
-                            r9_5_0 = 0;
-                            r9_9_0 = 0;
-                            r9_1319_0_in = r5_0_0_copyload;
-                            r9_17_0 = r5_6_0_copyload;
-                            r9_20_0 = r5_8_0_copyload;
-                            r9_28_0 = 3;
-                            r9_31_0 = 100;
-                            break;
-                        case 0:
-                        case 2:
-                        case 3:
-                        case 5:
-                        case 6:
-                            r9_0_0 = 0;
-                            r9_5_0 = 0;
-                            r9_9_0 = 0;
-                            r9_1319_0_in = r5_0_0_copyload;
-                            r9_17_0 = r5_6_0_copyload;
-                            r9_20_0 = r5_8_0_copyload;
-                            r9_28_0 = 2;
-                            r9_31_0 = 0;
-                            break;
-                        default: never();
-                        }
-dfuse_host_clearing_on_ask_status_exit:
-                        r17_0_0_2 = r9_0_0;
-                        r17_16_0 = r9_5_0;
-                        r17_31_0 = r9_9_0;
-                        r17_46230_0 = (size_t)r9_1319_0_in;
-                        r17_61_0 = r9_17_0;
-                        r17_72_0 = r9_20_0;
-                        r17_83_0 = 0;
-                        r17_94_0 = 0;
-                        r17_101_0 = r9_28_0;
-                        r17_111_0 = r9_31_0;
-                        break;
-                    case 3: {
-                        uint8_t v11 = r17_0_0 == 6;
+                    case 4:
                         r17_0_0_2 = 0;
                         r17_16_0 = 0;
                         r17_31_0 = 0;
@@ -7948,11 +7544,14 @@ dfuse_host_clearing_on_ask_status_exit:
                         r17_72_0 = r5_8_0_copyload;
                         r17_83_0 = 0;
                         r17_94_0 = 0;
-                        r17_101_0 = (uint32_t)(v11 ? 1 : 3);
-                        r17_111_0 = (uint32_t)(v11 ? 0 : r5_18_0_copyload);
+                        r17_101_0 = 1;
+                        r17_111_0 = 0;
                         break;
-                    }
-                    case 4:
+                    case 1:
+                    case 2:
+                    case 3:
+                    case 5:
+                    case 6:
                         r17_0_0_2 = 0;
                         r17_16_0 = 0;
                         r17_31_0 = 0;
@@ -7964,682 +7563,972 @@ dfuse_host_clearing_on_ask_status_exit:
                         r17_101_0 = 0;
                         r17_111_0 = 0;
                         break;
-                    case 5:
-                        r17_0_0_2 = 0;
-                        r17_16_0 = 0;
-                        r17_31_0 = 0;
-                        r17_46230_0 = r18;
-                        r17_61_0 = r5_6_0_copyload;
-                        r17_72_0 = r5_8_0_copyload;
-                        r17_83_0 = (size_t)r5_10_0_copyload;
-                        r17_94_0 = r5_13_0_copyload;
-                        r17_101_0 = (uint32_t)((r17_0_0 == 0) ? 7 : 6);
-                        r17_111_0 = 0;
-                        break;
-                    case 6: {
-                        store_size(r1_3, r18);
-                        store64(r1_3 + 8, r5_6_0_copyload);
-                        store64(r1_3 + 16, r5_8_0_copyload);
-                        memset(r12_2, 0, 56);
-                        switch (r17_0_0) {
-                        case 2:
-                            store_size(r1_4, r18);
-                            store64(r1_4 + 8, r5_6_0_copyload);
-                            store64(r1_4 + 16, r5_8_0_copyload);
-                            memset(r12_3, 0, 56);
-                            switch (r17_8_0) {
-                            case 3:
-                                store_size(r12_3 + 8, r18);
-                                store64(r12_3 + 16, r5_6_0_copyload);
-                                store64(r12_3 + 24, r5_8_0_copyload);
-                                store_size(r12_3 + 32, (size_t)r5_10_0_copyload);
-                                store64(r12_3 + 40, r5_13_0_copyload);
-                                store32(r12_3 + 48, 7);
-                                v13 = 0;
-                                v14 = 0;
-                                v15 = 0;
-                                break;
-                            case 2:
-                            case 5:
-                                store_size(r12_3 + 8, r18);
-                                store64(r12_3 + 16, r5_6_0_copyload);
-                                store64(r12_3 + 24, r5_8_0_copyload);
-                                store_size(r12_3 + 32, (size_t)r5_10_0_copyload);
-                                store64(r12_3 + 40, r5_13_0_copyload);
-                                store32(r12_3 + 48, 5);
-                                v13 = 0;
-                                v14 = 0;
-                                v15 = 0;
-                                break;
-                            case 10:
-                                store_size(r12_3 + 8, r18);
-                                store64(r12_3 + 16, r5_6_0_copyload);
-                                store64(r12_3 + 24, r5_8_0_copyload);
-                                memset(r12_3 + 32, 0, 24);
-                                v13 = 0;
-                                v14 = 0;
-                                v15 = 0;
-                                break;
-                            case 0:
-                            case 1:
-                            case 4:
-                            case 6:
-                            case 7:
-                            case 8:
-                            case 9: {
-                                dfuse_host_plan_Plan_unsure_of(r12_3, r31, r1_4, r5_10_0_copyload, r5_13_0_copyload);
-                                uint8_t pre_2 = *r12_3;
-                                uint8_t pre26 = r12_3[1];
-                                uint8_t pre27 = r12_3[2];
-                                v13 = pre27;
-                                v14 = pre26;
-                                v15 = pre_2;
-                                break;
-                            }
-                            default: never();
-                            }
-                            memcpy(r12_2 + 8, r12_3 + 8, 48);
-                            v16 = v13;
-                            v17 = v14;
-                            v18 = v15;
-                            break;
-                        case 4: {
-                            dfuse_host_plan_Plan_unsure_of(r12_2, r31, r1_3, r5_10_0_copyload, r5_13_0_copyload);
-                            uint8_t pre_3 = *r12_2;
-                            uint8_t pre10 = r12_2[1];
-                            uint8_t pre11 = r12_2[2];
-                            v16 = pre11;
-                            v17 = pre10;
-                            v18 = pre_3;
-                            break;
-                        }
-                        case 0:
-                        case 1:
-                        case 3:
-                        case 5:
-                        case 6:
-                            store_size(r12_2 + 8, r18);
-                            store64(r12_2 + 16, r5_6_0_copyload);
-                            store64(r12_2 + 24, r5_8_0_copyload);
-                            store_size(r12_2 + 32, (size_t)r5_10_0_copyload);
-                            store64(r12_2 + 40, r5_13_0_copyload);
-                            store32(r12_2 + 48, 6);
-                            v16 = 0;
-                            v17 = 0;
-                            v18 = 0;
-                            break;
-                        default: never();
-                        }
-                        size_t r17_46230_8_copyload231 = load_size(r12_2 + 8);
-                        uint64_t r17_61_8_copyload234 = load64(r12_2 + 16);
-                        uint64_t r17_72_8_copyload237 = load64(r12_2 + 24);
-                        size_t r17_83_8_copyload240 = load_size(r12_2 + 32);
-                        uint64_t r17_94_8_copyload243 = load64(r12_2 + 40);
-                        uint32_t r17_101_8_copyload246 = load32(r12_2 + 48);
-                        uint32_t r17_111_8_copyload249 = load32(r12_2 + 52);
-                        r17_0_0_2 = v18;
-                        r17_16_0 = v17;
-                        r17_31_0 = v16;
-                        r17_46230_0 = r17_46230_8_copyload231;
-                        r17_61_0 = r17_61_8_copyload234;
-                        r17_72_0 = r17_72_8_copyload237;
-                        r17_83_0 = r17_83_8_copyload240;
-                        r17_94_0 = r17_94_8_copyload243;
-                        r17_101_0 = r17_101_8_copyload246;
-                        r17_111_0 = r17_111_8_copyload249;
-                        break;
+                    default: never();
                     }
-                    case 7:
-                        switch (r17_0_0) {
-                        case 1: {
-                            store_size(r1_5, r18);
-                            store64(r1_5 + 8, r5_6_0_copyload);
-                            store64(r1_5 + 16, r5_8_0_copyload);
-                            memset(r12_4, 0, 56);
-                            switch (r17_10_7_0) {
-                            case 3:
-                            case 4:
-                                store_size(r12_4 + 8, r18);
-                                store64(r12_4 + 16, r5_6_0_copyload);
-                                store64(r12_4 + 24, r5_8_0_copyload);
-                                store_size(r12_4 + 32, (size_t)r5_10_0_copyload);
-                                store64(r12_4 + 40, r5_13_0_copyload);
-                                store32(r12_4 + 48, 8);
-                                store32(r12_4 + 52, r17_10_6_0);
-                                v33 = 0;
-                                v34 = 0;
-                                v35 = 0;
-                                break;
-                            case 5: {
-                                struct i8_i64 r31_2 = dfuse_host_plan_Plan_command_of(r31, r1_5, r5_10_0_copyload, r5_13_0_copyload);
-                                r33 = r31_2.b;
-                                store_size(r1_6, r18);
-                                store64(r1_6 + 8, r5_6_0_copyload);
-                                store64(r1_6 + 16, r5_8_0_copyload);
-                                memset(r14_2, 0, 56);
-                                switch (r31_2.a) {
-                                case 0: {
-                                    dfuse_host_plan_Plan_settle(r14_2, r31, r1_6, 1, r33);
-                                    uint8_t pre_4 = *r14_2;
-                                    uint8_t pre15 = r14_2[1];
-                                    uint8_t pre16 = r14_2[2];
-                                    v27 = pre16;
-                                    v28 = pre15;
-                                    v29 = pre_4;
-                                    break;
-                                }
-                                case 1: {
-                                    memset(r10_3, 0, 56);
-                                    if (r5_0_0_copyload == 1) {
-                                        uint64_t r21 = dfuse_host_plan_Plan_front_end(r31);
-                                        dfuse_host_plan_Plan_to_write(r10_3, r31, 0, 0, umax64(r21, r5_6_0_copyload), r5_8_0_copyload);
-                                    }
-                                    else {
-                                        uint64_t r30_2 = dfuse_host_plan_Plan_page_end(r31, r33);
-                                        dfuse_host_plan_Plan_to_erase(r10_3, r31, 0, 0, r30_2);
-                                    }
-                                    uint8_t v20 = *r10_3;
-                                    uint8_t v21 = r10_3[1];
-                                    uint8_t v22 = r10_3[2];
-                                    memcpy(r14_2 + 8, r10_3 + 8, 48);
-                                    v27 = v22;
-                                    v28 = v21;
-                                    v29 = v20;
-                                    break;
-                                }
-                                case 2: {
-                                    memset(r10_4, 0, 56);
-                                    if (r5_0_0_copyload == 2) {
-                                        uint64_t r23_3 = dfuse_host_plan_Plan_write_end(r31, r33, r5_8_0_copyload);
-                                        dfuse_host_plan_Plan_to_write(r10_4, r31, 0, 0, umax64(r23_3, r5_6_0_copyload), r5_8_0_copyload);
-                                    }
-                                    else {
-                                        uint64_t r32 = dfuse_host_plan_Plan_front_end(r31);
-                                        uint64_t r34 = dfuse_host_plan_Plan_write_end(r31, r33, r32);
-                                        dfuse_host_plan_Plan_to_write_front(r10_4, r31, 0, 0, r34);
-                                    }
-                                    uint8_t v24 = *r10_4;
-                                    uint8_t v25 = r10_4[1];
-                                    uint8_t v26 = r10_4[2];
-                                    memcpy(r14_2 + 8, r10_4 + 8, 48);
-                                    v27 = v26;
-                                    v28 = v25;
-                                    v29 = v24;
-                                    break;
-                                }
-                                default: never();
-                                }
-                                memcpy(r12_4 + 8, r14_2 + 8, 48);
-                                v33 = v27;
-                                v34 = v28;
-                                v35 = v29;
-                                break;
-                            }
-                            case 10:
-                                store_size(r1_7, r18);
-                                store64(r1_7 + 8, r5_6_0_copyload);
-                                store64(r1_7 + 16, r5_8_0_copyload);
-                                memset(r12_5, 0, 56);
-                                switch (r17_10_3_0) {
-                                case 15: {
-                                    dfuse_host_plan_Plan_unsure_of(r12_5, r31, r1_7, r5_10_0_copyload, r5_13_0_copyload);
-                                    uint8_t pre_5 = *r12_5;
-                                    uint8_t pre4 = r12_5[1];
-                                    uint8_t pre5 = r12_5[2];
-                                    v30 = pre5;
-                                    v31 = pre4;
-                                    v32 = pre_5;
-                                    break;
-                                }
-                                case 11:
-                                    v30 = 0;
-                                    v31 = 3;
-                                    v32 = 1;
-                                    break;
-                                case 0:
-                                case 1:
-                                case 2:
-                                case 3:
-                                case 4:
-                                case 5:
-                                case 6:
-                                case 7:
-                                case 8:
-                                case 9:
-                                case 10:
-                                case 12:
-                                case 13:
-                                case 14:
-                                    v30 = r17_10_3_0;
-                                    v31 = 2;
-                                    v32 = 1;
-                                    break;
-                                default: never();
-                                }
-                                memcpy(r12_4 + 8, r12_5 + 8, 48);
-                                v33 = v30;
-                                v34 = v31;
-                                v35 = v32;
-                                break;
-                            case 0:
-                            case 1:
-                            case 2:
-                            case 6:
-                            case 7:
-                            case 8:
-                            case 9: {
-                                dfuse_host_plan_Plan_unsure_of(r12_4, r31, r1_5, r5_10_0_copyload, r5_13_0_copyload);
-                                uint8_t pre_6 = *r12_4;
-                                uint8_t pre30 = r12_4[1];
-                                uint8_t pre31 = r12_4[2];
-                                v33 = pre31;
-                                v34 = pre30;
-                                v35 = pre_6;
-                                break;
-                            }
-                            default: never();
-                            }
-                            size_t r12_1327_8_copyload28 = load_size(r12_4 + 8);
-                            uint64_t r12_17_8_copyload29 = load64(r12_4 + 16);
-                            uint64_t r12_19_8_copyload30 = load64(r12_4 + 24);
-                            size_t r12_21_8_copyload31 = load_size(r12_4 + 32);
-                            uint64_t r12_23_8_copyload32 = load64(r12_4 + 40);
-                            uint32_t r12_25_8_copyload33 = load32(r12_4 + 48);
-                            uint32_t r12_27_8_copyload34 = load32(r12_4 + 52);
-                            r17_0_0_2 = v35;
-                            r17_16_0 = v34;
-                            r17_31_0 = v33;
-                            r17_46230_0 = r12_1327_8_copyload28;
-                            r17_61_0 = r12_17_8_copyload29;
-                            r17_72_0 = r12_19_8_copyload30;
-                            r17_83_0 = r12_21_8_copyload31;
-                            r17_94_0 = r12_23_8_copyload32;
-                            r17_101_0 = r12_25_8_copyload33;
-                            r17_111_0 = r12_27_8_copyload34;
+                    break;
+                case 1:
+                    switch (r17_0_0) {
+                    case 2:
+                        store_size(r1_2, r18);
+                        store64(r1_2 + 8, r5_6_0_copyload);
+                        store64(r1_2 + 16, r5_8_0_copyload);
+                        switch (r17_8_0) {
+                        case 0:
+                        case 1:
+                            r9_27_8_copyload28 = 0;
+                            r9_25_8_copyload27 = 0;
+                            r9_23_8_copyload26 = 0;
+                            r9_21_8_copyload25 = 0;
+                            r9_19_8_copyload24 = 0;
+                            r9_17_8_copyload23 = 0;
+                            r9_1321_8_copyload22 = 0;
+                            v6 = 0;
+                            v7 = 6;
+                            v8 = 1;
+                            break;
+                        case 2: {
+                            dfuse_host_plan_Plan_settle(r9_3, r31, r1_2, 0, 0);
+                            uint8_t pre = *r9_3;
+                            uint8_t pre6 = r9_3[1];
+                            uint8_t pre7 = r9_3[2];
+                            size_t r9_1321_8_copyload22_pre = load_size(r9_3 + 8);
+                            uint64_t r9_17_8_copyload23_pre = load64(r9_3 + 16);
+                            uint64_t r9_19_8_copyload24_pre = load64(r9_3 + 24);
+                            size_t r9_21_8_copyload25_pre = load_size(r9_3 + 32);
+                            uint64_t r9_23_8_copyload26_pre = load64(r9_3 + 40);
+                            uint32_t r9_25_8_copyload27_pre = load32(r9_3 + 48);
+                            uint32_t r9_27_8_copyload28_pre = load32(r9_3 + 52);
+                            r9_27_8_copyload28 = r9_27_8_copyload28_pre;
+                            r9_25_8_copyload27 = r9_25_8_copyload27_pre;
+                            r9_23_8_copyload26 = r9_23_8_copyload26_pre;
+                            r9_21_8_copyload25 = r9_21_8_copyload25_pre;
+                            r9_19_8_copyload24 = r9_19_8_copyload24_pre;
+                            r9_17_8_copyload23 = r9_17_8_copyload23_pre;
+                            r9_1321_8_copyload22 = r9_1321_8_copyload22_pre;
+                            v6 = pre7;
+                            v7 = pre6;
+                            v8 = pre;
                             break;
                         }
-                        case 4:
-                            r17_0_0_2 = 0;
-                            r17_16_0 = 0;
-                            r17_31_0 = 0;
-                            r17_46230_0 = r18;
-                            r17_61_0 = r5_6_0_copyload;
-                            r17_72_0 = r5_8_0_copyload;
-                            r17_83_0 = (size_t)r5_10_0_copyload;
-                            r17_94_0 = r5_13_0_copyload;
-                            r17_101_0 = 8;
-                            r17_111_0 = (uint32_t)((r5_18_0_copyload == 0) ? 100 : r5_18_0_copyload);
-                            break;
-                        case 0:
-                        case 2:
                         case 3:
                         case 5:
                         case 6:
-                            r17_0_0_2 = 0;
-                            r17_16_0 = 0;
-                            r17_31_0 = 0;
-                            r17_46230_0 = r18;
-                            r17_61_0 = r5_6_0_copyload;
-                            r17_72_0 = r5_8_0_copyload;
-                            r17_83_0 = (size_t)r5_10_0_copyload;
-                            r17_94_0 = r5_13_0_copyload;
-                            r17_101_0 = 7;
-                            r17_111_0 = r5_18_0_copyload;
+                        case 9:
+                            r9_27_8_copyload28 = 0;
+                            r9_25_8_copyload27 = 0;
+                            r9_23_8_copyload26 = 0;
+                            r9_21_8_copyload25 = 0;
+                            r9_19_8_copyload24 = r5_8_0_copyload;
+                            r9_17_8_copyload23 = r5_6_0_copyload;
+                            r9_1321_8_copyload22 = r18;
+                            v6 = 0;
+                            v7 = 0;
+                            v8 = 0;
+                            break;
+                        case 4:
+                        case 7:
+                        case 8:
+                        case 10:
+                            r9_27_8_copyload28 = 0;
+                            r9_25_8_copyload27 = 2;
+                            r9_23_8_copyload26 = 0;
+                            r9_21_8_copyload25 = 0;
+                            r9_19_8_copyload24 = r5_8_0_copyload;
+                            r9_17_8_copyload23 = r5_6_0_copyload;
+                            r9_1321_8_copyload22 = r18;
+                            v6 = 0;
+                            v7 = 0;
+                            v8 = 0;
                             break;
                         default: never();
                         }
+                        r17_0_0_2 = v8;
+                        r17_16_0 = v7;
+                        r17_31_0 = v6;
+                        r17_46230_0 = r9_1321_8_copyload22;
+                        r17_61_0 = r9_17_8_copyload23;
+                        r17_72_0 = r9_19_8_copyload24;
+                        r17_83_0 = r9_21_8_copyload25;
+                        r17_94_0 = r9_23_8_copyload26;
+                        r17_101_0 = r9_25_8_copyload27;
+                        r17_111_0 = r9_27_8_copyload28;
                         break;
-                    case 8:
+                    case 4:
                         r17_0_0_2 = 0;
                         r17_16_0 = 0;
                         r17_31_0 = 0;
                         r17_46230_0 = r18;
                         r17_61_0 = r5_6_0_copyload;
                         r17_72_0 = r5_8_0_copyload;
-                        r17_83_0 = (size_t)r5_10_0_copyload;
-                        r17_94_0 = r5_13_0_copyload;
-                        r17_101_0 = (uint32_t)((r17_0_0 == 6) ? 7 : 8);
-                        r17_111_0 = r5_18_0_copyload;
-                        break;
-                    case 9:
-                    case 10:
-                        store_size(r1_8, r18);
-                        store64(r1_8 + 8, r5_6_0_copyload);
-                        store64(r1_8 + 16, r5_8_0_copyload);
-                        memset(r14_3, 0, 56);
-                        switch (r17_0_0) {
-                        case 0: {
-                            dfuse_host_plan_Plan_settle(r14_3, r31, r1_8, (uint8_t)((r5_14_0_copyload == 9) ? (uint8_t)((r5_10_0_copyload == 1) ? 2 : r5_10_0_copyload) : (uint8_t)((r5_10_0_copyload == 2) ? 1 : r5_10_0_copyload)), r5_13_0_copyload);
-                            uint8_t pre_7 = *r14_3;
-                            uint8_t pre10_2 = r14_3[1];
-                            uint8_t pre11_2 = r14_3[2];
-                            size_t r17_46230_8_copyload232_pre = load_size(r14_3 + 8);
-                            uint64_t r17_61_8_copyload235_pre = load64(r14_3 + 16);
-                            uint64_t r17_72_8_copyload238_pre = load64(r14_3 + 24);
-                            size_t r17_83_8_copyload241_pre = load_size(r14_3 + 32);
-                            uint64_t r17_94_8_copyload244_pre = load64(r14_3 + 40);
-                            uint32_t r17_101_8_copyload247_pre = load32(r14_3 + 48);
-                            uint32_t r17_111_8_copyload250_pre = load32(r14_3 + 52);
-                            r17_111_8_copyload250 = r17_111_8_copyload250_pre;
-                            r17_101_8_copyload247 = r17_101_8_copyload247_pre;
-                            r17_94_8_copyload244 = r17_94_8_copyload244_pre;
-                            r17_83_8_copyload241 = r17_83_8_copyload241_pre;
-                            r17_72_8_copyload238 = r17_72_8_copyload238_pre;
-                            r17_61_8_copyload235 = r17_61_8_copyload235_pre;
-                            r17_46230_8_copyload232 = r17_46230_8_copyload232_pre;
-                            v40 = pre11_2;
-                            v41 = pre10_2;
-                            v42 = pre_7;
-                            break;
-                        }
-                        case 4:
-                            r17_111_8_copyload250 = 0;
-                            r17_101_8_copyload247 = 0;
-                            r17_94_8_copyload244 = 0;
-                            r17_83_8_copyload241 = 0;
-                            r17_72_8_copyload238 = r5_8_0_copyload;
-                            r17_61_8_copyload235 = r5_6_0_copyload;
-                            r17_46230_8_copyload232 = r18;
-                            v40 = 0;
-                            v41 = 0;
-                            v42 = 0;
-                            break;
-                        case 1:
-                        case 2:
-                        case 3:
-                        case 5:
-                        case 6:
-                            r17_111_8_copyload250 = r5_18_0_copyload;
-                            r17_101_8_copyload247 = (uint32_t)r5_14_0_copyload;
-                            r17_94_8_copyload244 = r5_13_0_copyload;
-                            r17_83_8_copyload241 = (size_t)r5_10_0_copyload;
-                            r17_72_8_copyload238 = r5_8_0_copyload;
-                            r17_61_8_copyload235 = r5_6_0_copyload;
-                            r17_46230_8_copyload232 = r18;
-                            v40 = 0;
-                            v41 = 0;
-                            v42 = 0;
-                            break;
-                        default: never();
-                        }
-                        r17_0_0_2 = v42;
-                        r17_16_0 = v41;
-                        r17_31_0 = v40;
-                        r17_46230_0 = r17_46230_8_copyload232;
-                        r17_61_0 = r17_61_8_copyload235;
-                        r17_72_0 = r17_72_8_copyload238;
-                        r17_83_0 = r17_83_8_copyload241;
-                        r17_94_0 = r17_94_8_copyload244;
-                        r17_101_0 = r17_101_8_copyload247;
-                        r17_111_0 = r17_111_8_copyload250;
-                        break;
-                    case 11:
-                        memset(r11_3, 0, 56);
-                        switch (r17_0_0) {
-                        case 3:
-                            if (!(r17_8_0 & 1)) {
-                                r17_111_8_copyload251 = 0;
-                                r17_101_8_copyload248 = 0;
-                                r17_94_8_copyload245 = 0;
-                                r17_83_8_copyload242 = 0;
-                                r17_72_8_copyload239 = 0;
-                                r17_61_8_copyload236 = 0;
-                                r17_46230_8_copyload233 = 0;
-                                v43 = 0;
-                                v44 = 1;
-                                v45 = 1;
-                            }
-                            else {
-                                store_size(r1_9, r18);
-                                store64(r1_9 + 16, r5_8_0_copyload);
-                                r14_4 = dfuse_host_plan_Plan_end_of_work(r31, r1_9);
-                                switch (r5_0_0_copyload) {
-                                case 3: {
-                                    uint64_t r20 = dfuse_host_plan_Plan_read_end(r31, r5_6_0_copyload, r14_4);
-                                    r11_5_0 = r20;
-                                    r11_9_0 = 0;
-                                    break;
-                                }
-                                case 5: {
-                                    uint64_t r27_2 = dfuse_host_plan_Plan_read_end(r31, r5_6_0_copyload, r14_4);
-                                    r11_5_0 = r27_2;
-                                    r11_9_0 = 0;
-                                    break;
-                                }
-                                case 0:
-                                case 1:
-                                case 2:
-                                case 4:
-                                case 6:
-                                    r11_5_0 = r5_6_0_copyload;
-                                    r11_9_0 = r5_8_0_copyload;
-                                    break;
-                                default: never();
-                                }
-                                store_size(r13_2, r18);
-                                store64(r13_2 + 8, r11_5_0);
-                                store64(r13_2 + 16, r11_9_0);
-                                dfuse_host_plan_Plan_settle(r11_3, r31, r13_2, r5_10_0_copyload, r5_13_0_copyload);
-                                uint8_t pre_8 = *r11_3;
-                                uint8_t pre20 = r11_3[1];
-                                uint8_t pre21 = r11_3[2];
-                                size_t r17_46230_8_copyload233_pre = load_size(r11_3 + 8);
-                                uint64_t r17_61_8_copyload236_pre = load64(r11_3 + 16);
-                                uint64_t r17_72_8_copyload239_pre = load64(r11_3 + 24);
-                                size_t r17_83_8_copyload242_pre = load_size(r11_3 + 32);
-                                uint64_t r17_94_8_copyload245_pre = load64(r11_3 + 40);
-                                uint32_t r17_101_8_copyload248_pre = load32(r11_3 + 48);
-                                uint32_t r17_111_8_copyload251_pre = load32(r11_3 + 52);
-                                r17_111_8_copyload251 = r17_111_8_copyload251_pre;
-                                r17_101_8_copyload248 = r17_101_8_copyload248_pre;
-                                r17_94_8_copyload245 = r17_94_8_copyload245_pre;
-                                r17_83_8_copyload242 = r17_83_8_copyload242_pre;
-                                r17_72_8_copyload239 = r17_72_8_copyload239_pre;
-                                r17_61_8_copyload236 = r17_61_8_copyload236_pre;
-                                r17_46230_8_copyload233 = r17_46230_8_copyload233_pre;
-                                v43 = pre21;
-                                v44 = pre20;
-                                v45 = pre_8;
-                            }
-                            break;
-                        case 4:
-                            r17_111_8_copyload251 = 0;
-                            r17_101_8_copyload248 = 0;
-                            r17_94_8_copyload245 = 0;
-                            r17_83_8_copyload242 = 0;
-                            r17_72_8_copyload239 = r5_8_0_copyload;
-                            r17_61_8_copyload236 = r5_6_0_copyload;
-                            r17_46230_8_copyload233 = r18;
-                            v43 = 0;
-                            v44 = 0;
-                            v45 = 0;
-                            break;
-                        case 0:
-                        case 1:
-                        case 2:
-                        case 5:
-                        case 6:
-                            r17_111_8_copyload251 = 0;
-                            r17_101_8_copyload248 = 11;
-                            r17_94_8_copyload245 = r5_13_0_copyload;
-                            r17_83_8_copyload242 = (size_t)r5_10_0_copyload;
-                            r17_72_8_copyload239 = r5_8_0_copyload;
-                            r17_61_8_copyload236 = r5_6_0_copyload;
-                            r17_46230_8_copyload233 = r18;
-                            v43 = 0;
-                            v44 = 0;
-                            v45 = 0;
-                            break;
-                        default: never();
-                        }
-                        r17_0_0_2 = v45;
-                        r17_16_0 = v44;
-                        r17_31_0 = v43;
-                        r17_46230_0 = r17_46230_8_copyload233;
-                        r17_61_0 = r17_61_8_copyload236;
-                        r17_72_0 = r17_72_8_copyload239;
-                        r17_83_0 = r17_83_8_copyload242;
-                        r17_94_0 = r17_94_8_copyload245;
-                        r17_101_0 = r17_101_8_copyload248;
-                        r17_111_0 = r17_111_8_copyload251;
-                        break;
-                    case 12:
-                        r17_0_0_2 = 0;
-                        r17_16_0 = 0;
-                        r17_31_0 = 0;
-                        r17_46230_0 = r18;
-                        r17_61_0 = r5_6_0_copyload;
-                        r17_72_0 = r5_8_0_copyload;
-                        r17_83_0 = (size_t)r5_10_0_copyload;
-                        r17_94_0 = r5_13_0_copyload;
-                        r17_101_0 = (uint32_t)((r17_0_0 == 0) ? 14 : 13);
+                        r17_83_0 = 0;
+                        r17_94_0 = 0;
+                        r17_101_0 = 2;
                         r17_111_0 = 0;
                         break;
-                    case 13:
-                        switch (r17_0_0) {
-                        case 2:
-                            switch (r17_8_0) {
-                            case 2:
-                            case 5:
-                                r12_23_0_in = r5_10_0_copyload;
-                                r12_26_0 = r5_13_0_copyload;
-                                r12_29_0 = 12;
-                                break;
-                            case 10:
-                                r12_23_0_in = 0;
-                                r12_26_0 = 0;
-                                r12_29_0 = 0;
-                                break;
-                            case 0:
-                            case 1:
-                            case 3:
-                            case 4:
-                            case 6:
-                            case 7:
-                            case 8:
-                            case 9:
-                                r12_23_0_in = r5_10_0_copyload;
-                                r12_26_0 = r5_13_0_copyload;
-                                r12_29_0 = 14;
-                                break;
-                            default: never();
-                            }
-                            break;
-                        case 4:
-                            r12_23_0_in = r5_10_0_copyload;
-                            r12_26_0 = r5_13_0_copyload;
-                            r12_29_0 = 14;
-                            break;
-                        case 0:
-                        case 1:
-                        case 3:
-                        case 5:
-                        case 6:
-                            r12_23_0_in = r5_10_0_copyload;
-                            r12_26_0 = r5_13_0_copyload;
-                            r12_29_0 = 13;
-                            break;
-                        default: never();
-                        }
+                    case 0:
+                    case 1:
+                    case 3:
+                    case 5:
+                    case 6:
                         r17_0_0_2 = 0;
                         r17_16_0 = 0;
                         r17_31_0 = 0;
                         r17_46230_0 = r18;
                         r17_61_0 = r5_6_0_copyload;
                         r17_72_0 = r5_8_0_copyload;
-                        r17_83_0 = (size_t)r12_23_0_in;
-                        r17_94_0 = r12_26_0;
-                        r17_101_0 = r12_29_0;
-                        r17_111_0 = 0;
-                        break;
-                    case 14:
-                        if (r17_0_0 != 1) {
-                            r12_0_0 = 0;
-                            r12_108_0_in = r5_0_0_copyload;
-                            r12_13_0 = r5_6_0_copyload;
-                            r12_15_0 = r5_8_0_copyload;
-                            r12_17_0_in = r5_10_0_copyload;
-                            r12_19_0 = r5_13_0_copyload;
-                            r12_21_0 = 14;
-                        }
-                        else {
-                            switch (r17_10_7_0) {
-                            case 2:
-                            case 5:
-                                r12_0_0 = 0;
-                                r12_108_0_in = r5_0_0_copyload;
-                                r12_13_0 = r5_6_0_copyload;
-                                r12_15_0 = r5_8_0_copyload;
-                                r12_17_0_in = r5_10_0_copyload;
-                                r12_19_0 = r5_13_0_copyload;
-                                r12_21_0 = 12;
-                                goto dfuse_host_closing_on_close_poll_exit;
-                            case 10:
-                                r12_0_0 = 0;
-                                r12_108_0_in = r5_0_0_copyload;
-                                r12_13_0 = r5_6_0_copyload;
-                                r12_15_0 = r5_8_0_copyload;
-                                r12_17_0_in = 0;
-                                r12_19_0 = 0;
-                                r12_21_0 = 0;
-                                goto dfuse_host_closing_on_close_poll_exit;
-                            case 7:
-                            case 8:
-                                if (r17_10_3_0 == 0) {
-                                    r12_0_0 = 1;
-                                    r12_108_0_in = 0;
-                                    r12_13_0 = 0;
-                                    r12_15_0 = 0;
-                                    r12_17_0_in = 0;
-                                    r12_19_0 = 0;
-                                    r12_21_0 = 0;
-                                    goto dfuse_host_closing_on_close_poll_exit;
-                                }
-                                break;
-                            case 0:
-                            case 1:
-                            case 3:
-                            case 4:
-                            case 6:
-                            case 9: break;
-                            default: never();
-                            }
-                            r12_0_0 = 0;
-                            r12_108_0_in = r5_0_0_copyload;
-                            r12_13_0 = r5_6_0_copyload;
-                            r12_15_0 = r5_8_0_copyload;
-                            r12_17_0_in = r5_10_0_copyload;
-                            r12_19_0 = r5_13_0_copyload;
-                            r12_21_0 = 14;
-                        }
-dfuse_host_closing_on_close_poll_exit:
-                        r17_0_0_2 = r12_0_0;
-                        r17_16_0 = 0;
-                        r17_31_0 = r12_0_0;
-                        r17_46230_0 = (size_t)r12_108_0_in;
-                        r17_61_0 = r12_13_0;
-                        r17_72_0 = r12_15_0;
-                        r17_83_0 = (size_t)r12_17_0_in;
-                        r17_94_0 = r12_19_0;
-                        r17_101_0 = r12_21_0;
+                        r17_83_0 = 0;
+                        r17_94_0 = 0;
+                        r17_101_0 = 1;
                         r17_111_0 = 0;
                         break;
                     default: never();
                     }
-                    *r13 = r17_0_0_2;
-                    r13[1] = r17_16_0;
-                    r13[2] = r17_31_0;
-                    store_size(r13 + 8, r17_46230_0);
-                    store64(r13 + 16, r17_61_0);
-                    store64(r13 + 24, r17_72_0);
-                    store_size(r13 + 32, r17_83_0);
-                    store64(r13 + 40, r17_94_0);
-                    store32(r13 + 48, r17_101_0);
-                    store32(r13 + 52, r17_111_0);
-                    dfuse_host_session_Session_spent(r10_2, r12, r13, r8_3_0_copyload);
+                    break;
+                case 2:
+                    switch (r17_0_0) {
+                    case 1:
+                        switch (r17_10_7_0) {
+                        case 0:
+                        case 1:
+                            r9_0_0 = 1;
+                            r9_5_0 = 6;
+                            r9_9_0 = 0;
+                            r9_1319_0_in = 0;
+                            r9_17_0 = 0;
+                            r9_20_0 = 0;
+                            r9_28_0 = 0;
+                            r9_31_0 = 0;
+                            break;
+                        case 2:
+                            r9_0_0 = 0;
+                            r9_5_0 = 0;
+                            r9_9_0 = 0;
+                            r9_1319_0_in = r5_0_0_copyload;
+                            r9_17_0 = r5_6_0_copyload;
+                            r9_20_0 = r5_8_0_copyload;
+                            r9_28_0 = 1;
+                            r9_31_0 = 0;
+                            break;
+                        case 5:
+                        case 9:
+                            r9_0_0 = 0;
+                            r9_5_0 = 0;
+                            r9_9_0 = 0;
+                            r9_1319_0_in = r5_0_0_copyload;
+                            r9_17_0 = r5_6_0_copyload;
+                            r9_20_0 = r5_8_0_copyload;
+                            r9_28_0 = 0;
+                            r9_31_0 = 0;
+                            break;
+                        case 10:
+                            switch (r5_0_0_copyload) {
+                            case 0:
+                                r9_0_0 = r5_0_0_copyload;
+                                r9_5_0 = r5_0_0_copyload;
+                                r9_9_0 = r5_0_0_copyload;
+                                r9_1319_0_in = r5_0_0_copyload;
+                                r9_17_0 = r5_6_0_copyload;
+                                r9_20_0 = r5_8_0_copyload;
+                                r9_28_0 = 4;
+                                r9_31_0 = 0;
+                                goto dfuse_host_clearing_on_ask_status_exit;
+                            case 3:
+                            case 5:
+                                switch (r17_10_3_0) {
+                                case 11: break;
+                                case 15:
+                                    r9_0_0 = 0;
+                                    r9_5_0 = 0;
+                                    r9_9_0 = 0;
+                                    r9_1319_0_in = r5_0_0_copyload;
+                                    r9_17_0 = r5_6_0_copyload;
+                                    r9_20_0 = r5_8_0_copyload;
+                                    r9_28_0 = 4;
+                                    r9_31_0 = 0;
+                                    goto dfuse_host_clearing_on_ask_status_exit;
+                                default:
+                                    r9_0_0 = 1;
+                                    r9_5_0 = 2;
+                                    r9_9_0 = r17_10_3_0;
+                                    r9_1319_0_in = 0;
+                                    r9_17_0 = 0;
+                                    r9_20_0 = 0;
+                                    r9_28_0 = 0;
+                                    r9_31_0 = 0;
+                                    goto dfuse_host_clearing_on_ask_status_exit;
+                                }
+                                break;
+                            case 1:
+                            case 2:
+                            case 4:
+                            case 6:
+                                if (r17_10_3_0 != 11) {
+                                    r9_0_0 = 0;
+                                    r9_5_0 = 0;
+                                    r9_9_0 = 0;
+                                    r9_1319_0_in = r5_0_0_copyload;
+                                    r9_17_0 = r5_6_0_copyload;
+                                    r9_20_0 = r5_8_0_copyload;
+                                    r9_28_0 = 4;
+                                    r9_31_0 = 0;
+                                    goto dfuse_host_clearing_on_ask_status_exit;
+                                }
+                                break;
+                            default: never();
+                            }
+                            r9_0_0 = 1;
+                            r9_5_0 = 3;
+                            r9_9_0 = 0;
+                            r9_1319_0_in = 0;
+                            r9_17_0 = 0;
+                            r9_20_0 = 0;
+                            r9_28_0 = 0;
+                            r9_31_0 = 0;
+                            break;
+                        case 3:
+                        case 4:
+                        case 6:
+                        case 7:
+                        case 8:
+                            r9_0_0 = 0;
+                            r9_5_0 = 0;
+                            r9_9_0 = 0;
+                            r9_1319_0_in = r5_0_0_copyload;
+                            r9_17_0 = r5_6_0_copyload;
+                            r9_20_0 = r5_8_0_copyload;
+                            r9_28_0 = 3;
+                            r9_31_0 = r17_10_6_0;
+                            break;
+                        default: never();
+                        }
+                        break;
+                    case 4:
+                        r9_0_0 = 0;
+                        r9_5_0 = 0;
+                        r9_9_0 = 0;
+                        r9_1319_0_in = r5_0_0_copyload;
+                        r9_17_0 = r5_6_0_copyload;
+                        r9_20_0 = r5_8_0_copyload;
+                        r9_28_0 = 3;
+                        r9_31_0 = 100;
+                        break;
+                    case 0:
+                    case 2:
+                    case 3:
+                    case 5:
+                    case 6:
+                        r9_0_0 = 0;
+                        r9_5_0 = 0;
+                        r9_9_0 = 0;
+                        r9_1319_0_in = r5_0_0_copyload;
+                        r9_17_0 = r5_6_0_copyload;
+                        r9_20_0 = r5_8_0_copyload;
+                        r9_28_0 = 2;
+                        r9_31_0 = 0;
+                        break;
+                    default: never();
+                    }
+dfuse_host_clearing_on_ask_status_exit:
+                    r17_0_0_2 = r9_0_0;
+                    r17_16_0 = r9_5_0;
+                    r17_31_0 = r9_9_0;
+                    r17_46230_0 = (size_t)r9_1319_0_in;
+                    r17_61_0 = r9_17_0;
+                    r17_72_0 = r9_20_0;
+                    r17_83_0 = 0;
+                    r17_94_0 = 0;
+                    r17_101_0 = r9_28_0;
+                    r17_111_0 = r9_31_0;
+                    break;
+                case 3: {
+                    uint8_t v10 = r17_0_0 == 6;
+                    r17_0_0_2 = 0;
+                    r17_16_0 = 0;
+                    r17_31_0 = 0;
+                    r17_46230_0 = r18;
+                    r17_61_0 = r5_6_0_copyload;
+                    r17_72_0 = r5_8_0_copyload;
+                    r17_83_0 = 0;
+                    r17_94_0 = 0;
+                    r17_101_0 = (uint32_t)(v10 ? 1 : 3);
+                    r17_111_0 = (uint32_t)(v10 ? 0 : r5_18_0_copyload);
+                    break;
                 }
-                memcpy(r11_2, r10_2, 104);
-                memcpy(r8, r11_2, 104);
+                case 4:
+                    r17_0_0_2 = 0;
+                    r17_16_0 = 0;
+                    r17_31_0 = 0;
+                    r17_46230_0 = r18;
+                    r17_61_0 = r5_6_0_copyload;
+                    r17_72_0 = r5_8_0_copyload;
+                    r17_83_0 = 0;
+                    r17_94_0 = 0;
+                    r17_101_0 = 0;
+                    r17_111_0 = 0;
+                    break;
+                case 5:
+                    r17_0_0_2 = 0;
+                    r17_16_0 = 0;
+                    r17_31_0 = 0;
+                    r17_46230_0 = r18;
+                    r17_61_0 = r5_6_0_copyload;
+                    r17_72_0 = r5_8_0_copyload;
+                    r17_83_0 = (size_t)r5_10_0_copyload;
+                    r17_94_0 = r5_13_0_copyload;
+                    r17_101_0 = (uint32_t)((r17_0_0 == 0) ? 7 : 6);
+                    r17_111_0 = 0;
+                    break;
+                case 6: {
+                    store_size(r1_3, r18);
+                    store64(r1_3 + 8, r5_6_0_copyload);
+                    store64(r1_3 + 16, r5_8_0_copyload);
+                    memset(r12_2, 0, 56);
+                    switch (r17_0_0) {
+                    case 2:
+                        store_size(r1_4, r18);
+                        store64(r1_4 + 8, r5_6_0_copyload);
+                        store64(r1_4 + 16, r5_8_0_copyload);
+                        memset(r12_3, 0, 56);
+                        switch (r17_8_0) {
+                        case 3:
+                            sink = 7;
+                            break;
+                        case 2:
+                        case 5:
+                            sink = 5;
+                            break;
+                        case 10:
+                            store_size(r12_3 + 8, r18);
+                            store64(r12_3 + 16, r5_6_0_copyload);
+                            store64(r12_3 + 24, r5_8_0_copyload);
+                            memset(r12_3 + 32, 0, 24);
+                            v12 = 0;
+                            v13 = 0;
+                            v14 = 0;
+                            goto dfuse_host_plan_Plan_probed_exit;
+                        case 0:
+                        case 1:
+                        case 4:
+                        case 6:
+                        case 7:
+                        case 8:
+                        case 9: {
+                            dfuse_host_plan_Plan_unsure_of(r12_3, r31, r1_4, r5_10_0_copyload, r5_13_0_copyload);
+                            uint8_t pre_2 = *r12_3;
+                            uint8_t pre26 = r12_3[1];
+                            uint8_t pre27 = r12_3[2];
+                            v12 = pre27;
+                            v13 = pre26;
+                            v14 = pre_2;
+                            goto dfuse_host_plan_Plan_probed_exit;
+                        }
+                        default: never();
+                        }
+                        store_size(r12_3 + 8, r18);
+                        store64(r12_3 + 16, r5_6_0_copyload);
+                        store64(r12_3 + 24, r5_8_0_copyload);
+                        store_size(r12_3 + 32, (size_t)r5_10_0_copyload);
+                        store64(r12_3 + 40, r5_13_0_copyload);
+                        store32(r12_3 + 48, sink);
+                        v12 = 0;
+                        v13 = 0;
+                        v14 = 0;
+dfuse_host_plan_Plan_probed_exit:
+                        memcpy(r12_2 + 8, r12_3 + 8, 48);
+                        v15 = v12;
+                        v16 = v13;
+                        v17 = v14;
+                        break;
+                    case 4: {
+                        dfuse_host_plan_Plan_unsure_of(r12_2, r31, r1_3, r5_10_0_copyload, r5_13_0_copyload);
+                        uint8_t pre_3 = *r12_2;
+                        uint8_t pre10 = r12_2[1];
+                        uint8_t pre11 = r12_2[2];
+                        v15 = pre11;
+                        v16 = pre10;
+                        v17 = pre_3;
+                        break;
+                    }
+                    case 0:
+                    case 1:
+                    case 3:
+                    case 5:
+                    case 6:
+                        store_size(r12_2 + 8, r18);
+                        store64(r12_2 + 16, r5_6_0_copyload);
+                        store64(r12_2 + 24, r5_8_0_copyload);
+                        store_size(r12_2 + 32, (size_t)r5_10_0_copyload);
+                        store64(r12_2 + 40, r5_13_0_copyload);
+                        store32(r12_2 + 48, 6);
+                        v15 = 0;
+                        v16 = 0;
+                        v17 = 0;
+                        break;
+                    default: never();
+                    }
+                    size_t r17_46230_8_copyload231 = load_size(r12_2 + 8);
+                    uint64_t r17_61_8_copyload234 = load64(r12_2 + 16);
+                    uint64_t r17_72_8_copyload237 = load64(r12_2 + 24);
+                    size_t r17_83_8_copyload240 = load_size(r12_2 + 32);
+                    uint64_t r17_94_8_copyload243 = load64(r12_2 + 40);
+                    uint32_t r17_101_8_copyload246 = load32(r12_2 + 48);
+                    uint32_t r17_111_8_copyload249 = load32(r12_2 + 52);
+                    r17_0_0_2 = v17;
+                    r17_16_0 = v16;
+                    r17_31_0 = v15;
+                    r17_46230_0 = r17_46230_8_copyload231;
+                    r17_61_0 = r17_61_8_copyload234;
+                    r17_72_0 = r17_72_8_copyload237;
+                    r17_83_0 = r17_83_8_copyload240;
+                    r17_94_0 = r17_94_8_copyload243;
+                    r17_101_0 = r17_101_8_copyload246;
+                    r17_111_0 = r17_111_8_copyload249;
+                    break;
+                }
+                case 7:
+                    switch (r17_0_0) {
+                    case 1: {
+                        store_size(r1_5, r18);
+                        store64(r1_5 + 8, r5_6_0_copyload);
+                        store64(r1_5 + 16, r5_8_0_copyload);
+                        switch (r17_10_7_0) {
+                        case 3:
+                        case 4:
+                            store_size(r12_4 + 8, r18);
+                            store64(r12_4 + 16, r5_6_0_copyload);
+                            store64(r12_4 + 24, r5_8_0_copyload);
+                            store_size(r12_4 + 32, (size_t)r5_10_0_copyload);
+                            store64(r12_4 + 40, r5_13_0_copyload);
+                            store32(r12_4 + 48, 8);
+                            store32(r12_4 + 52, r17_10_6_0);
+                            v32 = 0;
+                            v33 = 0;
+                            v34 = 0;
+                            break;
+                        case 5: {
+                            struct i8_i64 r31_2 = dfuse_host_plan_Plan_command_of(r31, r1_5, r5_10_0_copyload, r5_13_0_copyload);
+                            r33 = r31_2.b;
+                            store_size(r1_6, r18);
+                            store64(r1_6 + 8, r5_6_0_copyload);
+                            store64(r1_6 + 16, r5_8_0_copyload);
+                            switch (r31_2.a) {
+                            case 0: {
+                                dfuse_host_plan_Plan_settle(r14_2, r31, r1_6, 1, r33);
+                                uint8_t pre_4 = *r14_2;
+                                uint8_t pre15 = r14_2[1];
+                                uint8_t pre16 = r14_2[2];
+                                v26 = pre16;
+                                v27 = pre15;
+                                v28 = pre_4;
+                                break;
+                            }
+                            case 1: {
+                                if (r5_0_0_copyload == 1) {
+                                    uint64_t r21 = dfuse_host_plan_Plan_front_end(r31);
+                                    dfuse_host_plan_Plan_to_write(r10_2, r31, 0, 0, umax64(r21, r5_6_0_copyload), r5_8_0_copyload);
+                                }
+                                else {
+                                    uint64_t r30_2 = dfuse_host_plan_Plan_page_end(r31, r33);
+                                    dfuse_host_plan_Plan_to_erase(r10_2, r31, 0, 0, r30_2);
+                                }
+                                uint8_t v19 = *r10_2;
+                                uint8_t v20 = r10_2[1];
+                                uint8_t v21 = r10_2[2];
+                                memcpy(r14_2 + 8, r10_2 + 8, 48);
+                                v26 = v21;
+                                v27 = v20;
+                                v28 = v19;
+                                break;
+                            }
+                            case 2: {
+                                if (r5_0_0_copyload == 2) {
+                                    uint64_t r23_3 = dfuse_host_plan_Plan_write_end(r31, r33, r5_8_0_copyload);
+                                    dfuse_host_plan_Plan_to_write(r10_3, r31, 0, 0, umax64(r23_3, r5_6_0_copyload), r5_8_0_copyload);
+                                }
+                                else {
+                                    uint64_t r32 = dfuse_host_plan_Plan_front_end(r31);
+                                    uint64_t r34 = dfuse_host_plan_Plan_write_end(r31, r33, r32);
+                                    dfuse_host_plan_Plan_to_write_front(r10_3, r31, 0, 0, r34);
+                                }
+                                uint8_t v23 = *r10_3;
+                                uint8_t v24 = r10_3[1];
+                                uint8_t v25 = r10_3[2];
+                                memcpy(r14_2 + 8, r10_3 + 8, 48);
+                                v26 = v25;
+                                v27 = v24;
+                                v28 = v23;
+                                break;
+                            }
+                            default: never();
+                            }
+                            memcpy(r12_4 + 8, r14_2 + 8, 48);
+                            v32 = v26;
+                            v33 = v27;
+                            v34 = v28;
+                            break;
+                        }
+                        case 10:
+                            store_size(r1_7, r18);
+                            store64(r1_7 + 8, r5_6_0_copyload);
+                            store64(r1_7 + 16, r5_8_0_copyload);
+                            memset(r12_5, 0, 56);
+                            switch (r17_10_3_0) {
+                            case 15: {
+                                dfuse_host_plan_Plan_unsure_of(r12_5, r31, r1_7, r5_10_0_copyload, r5_13_0_copyload);
+                                uint8_t pre_5 = *r12_5;
+                                uint8_t pre4 = r12_5[1];
+                                uint8_t pre5 = r12_5[2];
+                                v29 = pre5;
+                                v30 = pre4;
+                                v31 = pre_5;
+                                break;
+                            }
+                            case 11:
+                                v29 = 0;
+                                v30 = 3;
+                                v31 = 1;
+                                break;
+                            case 0:
+                            case 1:
+                            case 2:
+                            case 3:
+                            case 4:
+                            case 5:
+                            case 6:
+                            case 7:
+                            case 8:
+                            case 9:
+                            case 10:
+                            case 12:
+                            case 13:
+                            case 14:
+                                v29 = r17_10_3_0;
+                                v30 = 2;
+                                v31 = 1;
+                                break;
+                            default: never();
+                            }
+                            memcpy(r12_4 + 8, r12_5 + 8, 48);
+                            v32 = v29;
+                            v33 = v30;
+                            v34 = v31;
+                            break;
+                        case 0:
+                        case 1:
+                        case 2:
+                        case 6:
+                        case 7:
+                        case 8:
+                        case 9: {
+                            dfuse_host_plan_Plan_unsure_of(r12_4, r31, r1_5, r5_10_0_copyload, r5_13_0_copyload);
+                            uint8_t pre_6 = *r12_4;
+                            uint8_t pre30 = r12_4[1];
+                            uint8_t pre31 = r12_4[2];
+                            v32 = pre31;
+                            v33 = pre30;
+                            v34 = pre_6;
+                            break;
+                        }
+                        default: never();
+                        }
+                        size_t r12_1327_8_copyload28 = load_size(r12_4 + 8);
+                        uint64_t r12_17_8_copyload29 = load64(r12_4 + 16);
+                        uint64_t r12_19_8_copyload30 = load64(r12_4 + 24);
+                        size_t r12_21_8_copyload31 = load_size(r12_4 + 32);
+                        uint64_t r12_23_8_copyload32 = load64(r12_4 + 40);
+                        uint32_t r12_25_8_copyload33 = load32(r12_4 + 48);
+                        uint32_t r12_27_8_copyload34 = load32(r12_4 + 52);
+                        r17_0_0_2 = v34;
+                        r17_16_0 = v33;
+                        r17_31_0 = v32;
+                        r17_46230_0 = r12_1327_8_copyload28;
+                        r17_61_0 = r12_17_8_copyload29;
+                        r17_72_0 = r12_19_8_copyload30;
+                        r17_83_0 = r12_21_8_copyload31;
+                        r17_94_0 = r12_23_8_copyload32;
+                        r17_101_0 = r12_25_8_copyload33;
+                        r17_111_0 = r12_27_8_copyload34;
+                        break;
+                    }
+                    case 4:
+                        r17_0_0_2 = 0;
+                        r17_16_0 = 0;
+                        r17_31_0 = 0;
+                        r17_46230_0 = r18;
+                        r17_61_0 = r5_6_0_copyload;
+                        r17_72_0 = r5_8_0_copyload;
+                        r17_83_0 = (size_t)r5_10_0_copyload;
+                        r17_94_0 = r5_13_0_copyload;
+                        r17_101_0 = 8;
+                        r17_111_0 = (uint32_t)((r5_18_0_copyload == 0) ? 100 : r5_18_0_copyload);
+                        break;
+                    case 0:
+                    case 2:
+                    case 3:
+                    case 5:
+                    case 6:
+                        r17_0_0_2 = 0;
+                        r17_16_0 = 0;
+                        r17_31_0 = 0;
+                        r17_46230_0 = r18;
+                        r17_61_0 = r5_6_0_copyload;
+                        r17_72_0 = r5_8_0_copyload;
+                        r17_83_0 = (size_t)r5_10_0_copyload;
+                        r17_94_0 = r5_13_0_copyload;
+                        r17_101_0 = 7;
+                        r17_111_0 = r5_18_0_copyload;
+                        break;
+                    default: never();
+                    }
+                    break;
+                case 8:
+                    r17_0_0_2 = 0;
+                    r17_16_0 = 0;
+                    r17_31_0 = 0;
+                    r17_46230_0 = r18;
+                    r17_61_0 = r5_6_0_copyload;
+                    r17_72_0 = r5_8_0_copyload;
+                    r17_83_0 = (size_t)r5_10_0_copyload;
+                    r17_94_0 = r5_13_0_copyload;
+                    r17_101_0 = (uint32_t)((r17_0_0 == 6) ? 7 : 8);
+                    r17_111_0 = r5_18_0_copyload;
+                    break;
+                case 9:
+                case 10:
+                    store_size(r1_8, r18);
+                    store64(r1_8 + 8, r5_6_0_copyload);
+                    store64(r1_8 + 16, r5_8_0_copyload);
+                    switch (r17_0_0) {
+                    case 0: {
+                        dfuse_host_plan_Plan_settle(r14_3, r31, r1_8, (uint8_t)((r5_14_0_copyload == 9) ? (uint8_t)((r5_10_0_copyload == 1) ? 2 : r5_10_0_copyload) : (uint8_t)((r5_10_0_copyload == 2) ? 1 : r5_10_0_copyload)), r5_13_0_copyload);
+                        uint8_t pre_7 = *r14_3;
+                        uint8_t pre10_2 = r14_3[1];
+                        uint8_t pre11_2 = r14_3[2];
+                        size_t r17_46230_8_copyload232_pre = load_size(r14_3 + 8);
+                        uint64_t r17_61_8_copyload235_pre = load64(r14_3 + 16);
+                        uint64_t r17_72_8_copyload238_pre = load64(r14_3 + 24);
+                        size_t r17_83_8_copyload241_pre = load_size(r14_3 + 32);
+                        uint64_t r17_94_8_copyload244_pre = load64(r14_3 + 40);
+                        uint32_t r17_101_8_copyload247_pre = load32(r14_3 + 48);
+                        uint32_t r17_111_8_copyload250_pre = load32(r14_3 + 52);
+                        r17_111_8_copyload250 = r17_111_8_copyload250_pre;
+                        r17_101_8_copyload247 = r17_101_8_copyload247_pre;
+                        r17_94_8_copyload244 = r17_94_8_copyload244_pre;
+                        r17_83_8_copyload241 = r17_83_8_copyload241_pre;
+                        r17_72_8_copyload238 = r17_72_8_copyload238_pre;
+                        r17_61_8_copyload235 = r17_61_8_copyload235_pre;
+                        r17_46230_8_copyload232 = r17_46230_8_copyload232_pre;
+                        v39 = pre11_2;
+                        v40 = pre10_2;
+                        v41 = pre_7;
+                        break;
+                    }
+                    case 4:
+                        r17_111_8_copyload250 = 0;
+                        r17_101_8_copyload247 = 0;
+                        r17_94_8_copyload244 = 0;
+                        r17_83_8_copyload241 = 0;
+                        r17_72_8_copyload238 = r5_8_0_copyload;
+                        r17_61_8_copyload235 = r5_6_0_copyload;
+                        r17_46230_8_copyload232 = r18;
+                        v39 = 0;
+                        v40 = 0;
+                        v41 = 0;
+                        break;
+                    case 1:
+                    case 2:
+                    case 3:
+                    case 5:
+                    case 6:
+                        r17_111_8_copyload250 = r5_18_0_copyload;
+                        r17_101_8_copyload247 = (uint32_t)r5_14_0_copyload;
+                        r17_94_8_copyload244 = r5_13_0_copyload;
+                        r17_83_8_copyload241 = (size_t)r5_10_0_copyload;
+                        r17_72_8_copyload238 = r5_8_0_copyload;
+                        r17_61_8_copyload235 = r5_6_0_copyload;
+                        r17_46230_8_copyload232 = r18;
+                        v39 = 0;
+                        v40 = 0;
+                        v41 = 0;
+                        break;
+                    default: never();
+                    }
+                    r17_0_0_2 = v41;
+                    r17_16_0 = v40;
+                    r17_31_0 = v39;
+                    r17_46230_0 = r17_46230_8_copyload232;
+                    r17_61_0 = r17_61_8_copyload235;
+                    r17_72_0 = r17_72_8_copyload238;
+                    r17_83_0 = r17_83_8_copyload241;
+                    r17_94_0 = r17_94_8_copyload244;
+                    r17_101_0 = r17_101_8_copyload247;
+                    r17_111_0 = r17_111_8_copyload250;
+                    break;
+                case 11:
+                    switch (r17_0_0) {
+                    case 3:
+                        if (!(r17_8_0 & 1)) {
+                            r17_111_8_copyload251 = 0;
+                            r17_101_8_copyload248 = 0;
+                            r17_94_8_copyload245 = 0;
+                            r17_83_8_copyload242 = 0;
+                            r17_72_8_copyload239 = 0;
+                            r17_61_8_copyload236 = 0;
+                            r17_46230_8_copyload233 = 0;
+                            v42 = 0;
+                            v43 = 1;
+                            v44 = 1;
+                        }
+                        else {
+                            store_size(r1_9, r18);
+                            store64(r1_9 + 16, r5_8_0_copyload);
+                            r14_4 = dfuse_host_plan_Plan_end_of_work(r31, r1_9);
+                            switch (r5_0_0_copyload) {
+                            case 3: {
+                                uint64_t r20 = dfuse_host_plan_Plan_read_end(r31, r5_6_0_copyload, r14_4);
+                                r11_5_0 = r20;
+                                r11_9_0 = 0;
+                                break;
+                            }
+                            case 5: {
+                                uint64_t r27_2 = dfuse_host_plan_Plan_read_end(r31, r5_6_0_copyload, r14_4);
+                                r11_5_0 = r27_2;
+                                r11_9_0 = 0;
+                                break;
+                            }
+                            case 0:
+                            case 1:
+                            case 2:
+                            case 4:
+                            case 6:
+                                r11_5_0 = r5_6_0_copyload;
+                                r11_9_0 = r5_8_0_copyload;
+                                break;
+                            default: never();
+                            }
+                            store_size(r13, r18);
+                            store64(r13 + 8, r11_5_0);
+                            store64(r13 + 16, r11_9_0);
+                            dfuse_host_plan_Plan_settle(r11_2, r31, r13, r5_10_0_copyload, r5_13_0_copyload);
+                            uint8_t pre_8 = *r11_2;
+                            uint8_t pre20 = r11_2[1];
+                            uint8_t pre21 = r11_2[2];
+                            size_t r17_46230_8_copyload233_pre = load_size(r11_2 + 8);
+                            uint64_t r17_61_8_copyload236_pre = load64(r11_2 + 16);
+                            uint64_t r17_72_8_copyload239_pre = load64(r11_2 + 24);
+                            size_t r17_83_8_copyload242_pre = load_size(r11_2 + 32);
+                            uint64_t r17_94_8_copyload245_pre = load64(r11_2 + 40);
+                            uint32_t r17_101_8_copyload248_pre = load32(r11_2 + 48);
+                            uint32_t r17_111_8_copyload251_pre = load32(r11_2 + 52);
+                            r17_111_8_copyload251 = r17_111_8_copyload251_pre;
+                            r17_101_8_copyload248 = r17_101_8_copyload248_pre;
+                            r17_94_8_copyload245 = r17_94_8_copyload245_pre;
+                            r17_83_8_copyload242 = r17_83_8_copyload242_pre;
+                            r17_72_8_copyload239 = r17_72_8_copyload239_pre;
+                            r17_61_8_copyload236 = r17_61_8_copyload236_pre;
+                            r17_46230_8_copyload233 = r17_46230_8_copyload233_pre;
+                            v42 = pre21;
+                            v43 = pre20;
+                            v44 = pre_8;
+                        }
+                        break;
+                    case 4:
+                        r17_111_8_copyload251 = 0;
+                        r17_101_8_copyload248 = 0;
+                        r17_94_8_copyload245 = 0;
+                        r17_83_8_copyload242 = 0;
+                        r17_72_8_copyload239 = r5_8_0_copyload;
+                        r17_61_8_copyload236 = r5_6_0_copyload;
+                        r17_46230_8_copyload233 = r18;
+                        v42 = 0;
+                        v43 = 0;
+                        v44 = 0;
+                        break;
+                    case 0:
+                    case 1:
+                    case 2:
+                    case 5:
+                    case 6:
+                        r17_111_8_copyload251 = 0;
+                        r17_101_8_copyload248 = 11;
+                        r17_94_8_copyload245 = r5_13_0_copyload;
+                        r17_83_8_copyload242 = (size_t)r5_10_0_copyload;
+                        r17_72_8_copyload239 = r5_8_0_copyload;
+                        r17_61_8_copyload236 = r5_6_0_copyload;
+                        r17_46230_8_copyload233 = r18;
+                        v42 = 0;
+                        v43 = 0;
+                        v44 = 0;
+                        break;
+                    default: never();
+                    }
+                    r17_0_0_2 = v44;
+                    r17_16_0 = v43;
+                    r17_31_0 = v42;
+                    r17_46230_0 = r17_46230_8_copyload233;
+                    r17_61_0 = r17_61_8_copyload236;
+                    r17_72_0 = r17_72_8_copyload239;
+                    r17_83_0 = r17_83_8_copyload242;
+                    r17_94_0 = r17_94_8_copyload245;
+                    r17_101_0 = r17_101_8_copyload248;
+                    r17_111_0 = r17_111_8_copyload251;
+                    break;
+                case 12:
+                    r17_0_0_2 = 0;
+                    r17_16_0 = 0;
+                    r17_31_0 = 0;
+                    r17_46230_0 = r18;
+                    r17_61_0 = r5_6_0_copyload;
+                    r17_72_0 = r5_8_0_copyload;
+                    r17_83_0 = (size_t)r5_10_0_copyload;
+                    r17_94_0 = r5_13_0_copyload;
+                    r17_101_0 = (uint32_t)((r17_0_0 == 0) ? 14 : 13);
+                    r17_111_0 = 0;
+                    break;
+                case 13:
+                    switch (r17_0_0) {
+                    case 2:
+                        switch (r17_8_0) {
+                        case 2:
+                        case 5:
+                            r12_23_0_in = r5_10_0_copyload;
+                            r12_26_0 = r5_13_0_copyload;
+                            r12_29_0 = 12;
+                            break;
+                        case 10:
+                            r12_23_0_in = 0;
+                            r12_26_0 = 0;
+                            r12_29_0 = 0;
+                            break;
+                        case 0:
+                        case 1:
+                        case 3:
+                        case 4:
+                        case 6:
+                        case 7:
+                        case 8:
+                        case 9:
+                            r12_23_0_in = r5_10_0_copyload;
+                            r12_26_0 = r5_13_0_copyload;
+                            r12_29_0 = 14;
+                            break;
+                        default: never();
+                        }
+                        break;
+                    case 4:
+                        r12_23_0_in = r5_10_0_copyload;
+                        r12_26_0 = r5_13_0_copyload;
+                        r12_29_0 = 14;
+                        break;
+                    case 0:
+                    case 1:
+                    case 3:
+                    case 5:
+                    case 6:
+                        r12_23_0_in = r5_10_0_copyload;
+                        r12_26_0 = r5_13_0_copyload;
+                        r12_29_0 = 13;
+                        break;
+                    default: never();
+                    }
+                    r17_0_0_2 = 0;
+                    r17_16_0 = 0;
+                    r17_31_0 = 0;
+                    r17_46230_0 = r18;
+                    r17_61_0 = r5_6_0_copyload;
+                    r17_72_0 = r5_8_0_copyload;
+                    r17_83_0 = (size_t)r12_23_0_in;
+                    r17_94_0 = r12_26_0;
+                    r17_101_0 = r12_29_0;
+                    r17_111_0 = 0;
+                    break;
+                case 14:
+                    if (r17_0_0 != 1) {
+                        r12_0_0 = 0;
+                        r12_108_0_in = r5_0_0_copyload;
+                        r12_13_0 = r5_6_0_copyload;
+                        r12_15_0 = r5_8_0_copyload;
+                        r12_17_0_in = r5_10_0_copyload;
+                        r12_19_0 = r5_13_0_copyload;
+                        r12_21_0 = 14;
+                    }
+                    else {
+                        switch (r17_10_7_0) {
+                        case 2:
+                        case 5:
+                            r12_0_0 = 0;
+                            r12_108_0_in = r5_0_0_copyload;
+                            r12_13_0 = r5_6_0_copyload;
+                            r12_15_0 = r5_8_0_copyload;
+                            r12_17_0_in = r5_10_0_copyload;
+                            r12_19_0 = r5_13_0_copyload;
+                            r12_21_0 = 12;
+                            goto dfuse_host_closing_on_close_poll_exit;
+                        case 10:
+                            r12_0_0 = 0;
+                            r12_108_0_in = r5_0_0_copyload;
+                            r12_13_0 = r5_6_0_copyload;
+                            r12_15_0 = r5_8_0_copyload;
+                            r12_17_0_in = 0;
+                            r12_19_0 = 0;
+                            r12_21_0 = 0;
+                            goto dfuse_host_closing_on_close_poll_exit;
+                        case 7:
+                        case 8:
+                            if (r17_10_3_0 == 0) {
+                                r12_0_0 = 1;
+                                r12_108_0_in = 0;
+                                r12_13_0 = 0;
+                                r12_15_0 = 0;
+                                r12_17_0_in = 0;
+                                r12_19_0 = 0;
+                                r12_21_0 = 0;
+                                goto dfuse_host_closing_on_close_poll_exit;
+                            }
+                            break;
+                        case 0:
+                        case 1:
+                        case 3:
+                        case 4:
+                        case 6:
+                        case 9: break;
+                        default: never();
+                        }
+                        r12_0_0 = 0;
+                        r12_108_0_in = r5_0_0_copyload;
+                        r12_13_0 = r5_6_0_copyload;
+                        r12_15_0 = r5_8_0_copyload;
+                        r12_17_0_in = r5_10_0_copyload;
+                        r12_19_0 = r5_13_0_copyload;
+                        r12_21_0 = 14;
+                    }
+dfuse_host_closing_on_close_poll_exit:
+                    r17_0_0_2 = r12_0_0;
+                    r17_16_0 = 0;
+                    r17_31_0 = r12_0_0;
+                    r17_46230_0 = (size_t)r12_108_0_in;
+                    r17_61_0 = r12_13_0;
+                    r17_72_0 = r12_15_0;
+                    r17_83_0 = (size_t)r12_17_0_in;
+                    r17_94_0 = r12_19_0;
+                    r17_101_0 = r12_21_0;
+                    r17_111_0 = 0;
+                    break;
+                default: never();
+                }
+                *r13_2 = r17_0_0_2;
+                r13_2[1] = r17_16_0;
+                r13_2[2] = r17_31_0;
+                store_size(r13_2 + 8, r17_46230_0);
+                store64(r13_2 + 16, r17_61_0);
+                store64(r13_2 + 24, r17_72_0);
+                store_size(r13_2 + 32, r17_83_0);
+                store64(r13_2 + 40, r17_94_0);
+                store32(r13_2 + 48, r17_101_0);
+                store32(r13_2 + 52, r17_111_0);
+                dfuse_host_session_Session_spent(r3, r12, r13_2, r8_3_0_copyload8);
+dfuse_host_session_Session_after_exit:
+                memcpy(r8, r3, 104);
             }
             dfu_host_c_dfuse_holding_record_of(r17, r8);
             memcpy(a0, r17, 64);

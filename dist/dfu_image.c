@@ -81,17 +81,14 @@ static struct ptr_i64 dfu_formats_images_lines_bare(unsigned char *a0, uint64_t 
 static uint8_t dfu_formats_images_lines_is_blank_line(unsigned char *a0, uint64_t a1);
 static void dfu_formats_images_digits_bytes_at(unsigned char *a0, uint64_t a1, unsigned char *a2, uint64_t a3);
 static uint8_t dfu_formats_images_digits_hex_digit(uint8_t a0);
-static uint32_t dfu_formats_images_digits_sum_of(unsigned char *a0, size_t a1);
-static void dfu_formats_images_gathering_Gathering_add(unsigned char *a0, unsigned char *a1, uint64_t a2, uint64_t a3, unsigned char *a4, size_t a5, unsigned char *a6);
+static void dfu_formats_images_gathering_Gathering_add(unsigned char *a0, unsigned char *a1, uint64_t a2, uint64_t a3, unsigned char *a4, uint64_t a5, unsigned char *a6);
 static uint8_t std_alloc_vec_Vec_extend_from_slice(unsigned char *a0, unsigned char *a1, uint64_t a2, unsigned char *a3);
 static uint8_t std_alloc_vec_Vec_grow(unsigned char *a0, uint64_t a1, unsigned char *a2);
 static uint8_t std_alloc_vec_Vec_move_to(unsigned char *a0, uint64_t a1, unsigned char *a2);
 static void libc_heap_rattle_realloc(unsigned char *a0, unsigned char *a2, size_t a3, uint64_t a4, unsigned char *a6);
 static struct i8_ptr std_heap_GlobalAllocator_allocate(uint64_t a1, unsigned char *a3);
-static void core_slots_Slots_copy_in_i8_core_clone_U8Clone(unsigned char *a0, size_t a1, unsigned char *a2, uint64_t a3);
 static void dfu_formats_images_gathering_completed(unsigned char *a0, unsigned char *a1, size_t a2, unsigned char *a3, unsigned char *a4);
 static void std_alloc_vec_Vec_put_at(unsigned char *a0, uint64_t a1, unsigned char *a2);
-static void core_slots_raw_move_down_dfu_formats_images_element_Element(unsigned char *a0, unsigned char *a1, size_t a2);
 static void core_slots_raw_move_up_dfu_formats_images_element_Element(unsigned char *a0, unsigned char *a1, uint64_t a2);
 static void dfu_formats_images_ihex_based(unsigned char *a0, uint64_t a1, size_t a2, unsigned char *a3, unsigned char *a4, unsigned char *a5);
 static void dfu_formats_images_gathering_Gathering_finish(unsigned char *a0, unsigned char *a1, unsigned char *a2);
@@ -339,22 +336,8 @@ static uint8_t dfu_formats_images_digits_hex_digit(uint8_t a0) {
     return r1_0;
 }
 
-/* dfu_formats::images::digits::sum_of: crates/dfu_formats/src/images/digits.rt */
-static uint32_t dfu_formats_images_digits_sum_of(unsigned char *a0, size_t a1) {
-    size_t r4_0;
-    uint32_t r3_0;
-    r4_0 = 0;
-    r3_0 = 0;
-    while (r4_0 != a1) {
-        uint8_t r24 = a0[r4_0];
-        r4_0 = r4_0 + 1;
-        r3_0 = r3_0 + (uint32_t)r24;
-    }
-    return r3_0;
-}
-
 /* dfu_formats::images::gathering::Gathering::add: crates/dfu_formats/src/images/gathering.rt */
-static void dfu_formats_images_gathering_Gathering_add(unsigned char *a0, unsigned char *a1, uint64_t a2, uint64_t a3, unsigned char *a4, size_t a5, unsigned char *a6) {
+static void dfu_formats_images_gathering_Gathering_add(unsigned char *a0, unsigned char *a1, uint64_t a2, uint64_t a3, unsigned char *a4, uint64_t a5, unsigned char *a6) {
     _Alignas(8) unsigned char r24[32];
     _Alignas(8) unsigned char r2_2[24];
     _Alignas(8) unsigned char r4[24];
@@ -397,7 +380,7 @@ static void dfu_formats_images_gathering_Gathering_add(unsigned char *a0, unsign
         store64(a0 + 64, r1_6_0_copyload);
         return;
     }
-    if (((uint64_t)0x1000000U - r1_6_0_copyload) < (uint64_t)a5) {
+    if (((uint64_t)0x1000000U - r1_6_0_copyload) < a5) {
         store32(r11, r1_0_0_0_0_copyload);
         store32(r11 + 4, r1_0_0_5_0_copyload);
         store64(r11 + 8, r1_0_0_6_0_copyload);
@@ -411,7 +394,6 @@ static void dfu_formats_images_gathering_Gathering_add(unsigned char *a0, unsign
         store32(a0 + 8, 20);
         store32(a0 + 12, 0);
         store64(a0 + 16, a2);
-        memset(a0 + 24, 0, 48);
         return;
     }
     store32(r5, r1_0_0_0_0_copyload);
@@ -423,7 +405,7 @@ static void dfu_formats_images_gathering_Gathering_add(unsigned char *a0, unsign
     store64(r10_5_4_0_r7_sroa_idx, r1_0_8_0_copyload);
     r10_5_5_0_r7_sroa_idx = r7 + 16;
     store64(r10_5_5_0_r7_sroa_idx, r1_0_9_0_copyload);
-    r39 = r1_6_0_copyload + (uint64_t)a5;
+    r39 = r1_6_0_copyload + a5;
     if ((r1_0_8_0_copyload + r1_0_5_0_copyload) == a3) {
         uint8_t r55 = std_alloc_vec_Vec_extend_from_slice(r7, a4, a5, a6);
         if (!(r55 & 1)) {
@@ -604,21 +586,31 @@ dfu_formats_images_gathering_begun_exit:
 
 /* std_alloc::vec::Vec::extend_from_slice::<#6d41a9629075949b> */
 static uint8_t std_alloc_vec_Vec_extend_from_slice(unsigned char *a0, unsigned char *a1, uint64_t a2, unsigned char *a3) {
-    _Alignas(8) unsigned char r4[16];
+    unsigned char *r1, *r15, *r12;
+    uint64_t r38, r16, r0_0;
+    size_t r13_wide;
     uint8_t r0_0_0;
     uint8_t r23 = std_alloc_vec_Vec_grow(a0, a2, a3);
     if (!r23) r0_0_0 = 1;
     else {
-        unsigned char *r1 = a0 + 8;
+        r1 = a0 + 8;
         uint64_t r2 = load64(r1);
-        size_t r13_wide = load_size(a0);
-        unsigned char *r15 = a0 + 16;
-        uint64_t r16 = load64(r15);
-        memset(r1, 0, 16);
-        store_size(r4, r13_wide);
-        core_slots_Slots_copy_in_i8_core_clone_U8Clone(r4, (size_t)r2, a1, a2);
+        r38 = r2 + a2;
+        r13_wide = load_size(a0);
+        r15 = a0 + 16;
+        r16 = load64(r15);
+        r12 = (unsigned char *)(uintptr_t)r13_wide + (size_t)r2;
+        if (((uint64_t)(size_t)(uintptr_t)r12 - (uint64_t)(size_t)(uintptr_t)a1) >= a2) memmove(r12, a1, (size_t)a2);
+        else {
+            r0_0 = 0;
+            while (r0_0 != a2) {
+                uint8_t r26 = a1[(size_t)r0_0];
+                r12[(size_t)r0_0] = r26;
+                r0_0 = r0_0 + 1;
+            }
+        }
         store64(a0, r13_wide);
-        store64(r1, r2 + a2);
+        store64(r1, r38);
         store64(r15, r16);
         r0_0_0 = 0;
     }
@@ -736,25 +728,6 @@ static struct i8_ptr std_heap_GlobalAllocator_allocate(uint64_t a1, unsigned cha
     return r30;
 }
 
-/* core::slots::Slots::copy_in::<i8,20'core::clone::U8Clone{}> */
-static void core_slots_Slots_copy_in_i8_core_clone_U8Clone(unsigned char *a0, size_t a1, unsigned char *a2, uint64_t a3) {
-    unsigned char *r12;
-    uint64_t r0_0;
-    size_t r8_wide = load_size(a0);
-    r12 = (unsigned char *)(uintptr_t)r8_wide + a1;
-    if (((uint64_t)(size_t)(uintptr_t)r12 - (uint64_t)(size_t)(uintptr_t)a2) >= a3) {
-        memmove(r12, a2, (size_t)a3);
-        return;
-    }
-    r0_0 = 0;
-    for (;;) {
-        if (r0_0 == a3) return;
-        uint8_t r26 = a2[(size_t)r0_0];
-        r12[(size_t)r0_0] = r26;
-        r0_0 = r0_0 + 1;
-    }
-}
-
 /* dfu_formats::images::gathering::completed: crates/dfu_formats/src/images/gathering.rt */
 static void dfu_formats_images_gathering_completed(unsigned char *a0, unsigned char *a1, size_t a2, unsigned char *a3, unsigned char *a4) {
     _Alignas(8) unsigned char r1_3[32];
@@ -762,7 +735,7 @@ static void dfu_formats_images_gathering_completed(unsigned char *a0, unsigned c
     _Alignas(8) unsigned char r3[24];
     _Alignas(8) unsigned char r2[16];
     uint32_t r1_0_0_copyload, r1_4_0_copyload, r4, r14_4_0, r14_7_0;
-    uint64_t r1_5_0_copyload, r1_6_0_copyload, r2_3_0_copyload, r2_4_0_copyload, r1, r4_0, r3_0_lcssa, common_ret_op, r1_4, r14_8_0, r14_9_0;
+    uint64_t r1_5_0_copyload, r1_6_0_copyload, r2_3_0_copyload, r2_4_0_copyload, r1, r4_0, r3_0_lcssa, common_ret_op, r1_4, r14_8_0, r14_9_0, r14_9_0_sink;
     size_t r2_0_0_copyload, r11_0_026;
     unsigned char *r8_3_0_r3_sroa_idx, *r8_4_0_r3_sroa_idx, *r8_5_0_r3_sroa_idx, *r4_2, *r8_41_0_pn;
     r1_0_0_copyload = load32(a1);
@@ -781,99 +754,101 @@ static void dfu_formats_images_gathering_completed(unsigned char *a0, unsigned c
         store32(a0 + 8, r1_0_0_copyload);
         store32(a0 + 12, r1_4_0_copyload);
         store64(a0 + 16, r1_5_0_copyload);
-        store64(a0 + 24, r1_6_0_copyload);
-        return;
-    }
-    r4 = (uint32_t)a2;
-    store32(r3, r1_0_0_copyload);
-    r8_3_0_r3_sroa_idx = r3 + 4;
-    store32(r8_3_0_r3_sroa_idx, r1_4_0_copyload);
-    r8_4_0_r3_sroa_idx = r3 + 8;
-    store64(r8_4_0_r3_sroa_idx, r1_5_0_copyload);
-    r8_5_0_r3_sroa_idx = r3 + 16;
-    store64(r8_5_0_r3_sroa_idx, r1_6_0_copyload);
-    size_t r4_wide = load_size(r3);
-    r4_2 = (unsigned char *)(uintptr_t)r4_wide;
-    r4_0 = 0;
-    for (;;) {
-        if (r4_0 == r1_5_0_copyload) {
-            r3_0_lcssa = r1_5_0_copyload;
-            break;
-        }
-        uint32_t r1_2 = load32(r4_2 + (size_t)(r4_0 << 5));
-        if (r1_2 > r4) {
-            r3_0_lcssa = r4_0;
-            break;
-        }
-        r4_0 = r4_0 + 1;
-    }
-    store32(r1_3, r4);
-    store32(r1_3 + 4, 0);
-    store64(r1_3 + 8, r2_0_0_copyload);
-    store64(r1_3 + 16, r2_3_0_copyload);
-    store64(r1_3 + 24, r2_4_0_copyload);
-    if (r1_5_0_copyload < r1_6_0_copyload) {
-        store32(r8, r4);
-        store32(r8 + 4, 0);
-        store64(r8 + 8, r2_0_0_copyload);
-        store64(r8 + 16, r2_3_0_copyload);
-        store64(r8 + 24, r2_4_0_copyload);
-        std_alloc_vec_Vec_put_at(r3, r3_0_lcssa, r8);
+        r14_9_0_sink = r1_6_0_copyload;
     }
     else {
-        if (r1_6_0_copyload == r1_5_0_copyload) {
-            if (r1_5_0_copyload != 0xffffffffffffffffULL) {
-                uint64_t a2_a1 = umax64(r1_5_0_copyload, 3) + 1;
-                common_ret_op = (uint64_t)((r1_5_0_copyload < 0x4000000000000000ULL) ? umax64(a2_a1, r1_5_0_copyload << 1) : a2_a1);
-                if (common_ret_op < 0x400000000000000ULL) {
-                    if (r1_5_0_copyload == 0) {
-                        struct i8_ptr r21 = std_heap_GlobalAllocator_allocate(128, a4);
-                        if (r21.a != 0) goto arm_5;
-                        r8_41_0_pn = r21.b;
-                    }
-                    else {
-                        libc_heap_rattle_realloc(r2, r4_2, (size_t)(r1_5_0_copyload << 5), common_ret_op << 5, a4);
-                        uint8_t r18 = *r2;
-                        size_t r24_wide = load_size(r2 + 8);
-                        if (!(r18 & 1)) goto arm_5;
-                        r8_41_0_pn = (unsigned char *)(uintptr_t)r24_wide;
-                    }
-                    store64(r3, (size_t)(uintptr_t)r8_41_0_pn);
-                    store64(r8_5_0_r3_sroa_idx, common_ret_op);
-                    goto join_6;
-                }
+        r4 = (uint32_t)a2;
+        store32(r3, r1_0_0_copyload);
+        r8_3_0_r3_sroa_idx = r3 + 4;
+        store32(r8_3_0_r3_sroa_idx, r1_4_0_copyload);
+        r8_4_0_r3_sroa_idx = r3 + 8;
+        store64(r8_4_0_r3_sroa_idx, r1_5_0_copyload);
+        r8_5_0_r3_sroa_idx = r3 + 16;
+        store64(r8_5_0_r3_sroa_idx, r1_6_0_copyload);
+        size_t r4_wide = load_size(r3);
+        r4_2 = (unsigned char *)(uintptr_t)r4_wide;
+        r4_0 = 0;
+        for (;;) {
+            if (r4_0 == r1_5_0_copyload) {
+                r3_0_lcssa = r1_5_0_copyload;
+                break;
             }
-arm_5:
-            if (r2_4_0_copyload != 0) {
-                r1_4 = load64(a4 + 16);
-                if ((a4 + (size_t)r1_4) == (unsigned char *)(uintptr_t)r2_0_0_copyload) store64(a4, r1_4);
+            uint32_t r1_2 = load32(r4_2 + (size_t)(r4_0 << 5));
+            if (r1_2 > r4) {
+                r3_0_lcssa = r4_0;
+                break;
             }
-            std_alloc_vec_Vec_drop(r3, a4);
-            r11_0_026 = 1;
-            r14_4_0 = 0;
-            r14_7_0 = 0;
-            r14_8_0 = 0;
-            r14_9_0 = 0;
-            goto dfu_formats_images_gathering_placed_exit;
+            r4_0 = r4_0 + 1;
         }
+        store32(r1_3, r4);
+        store32(r1_3 + 4, 0);
+        store64(r1_3 + 8, r2_0_0_copyload);
+        store64(r1_3 + 16, r2_3_0_copyload);
+        store64(r1_3 + 24, r2_4_0_copyload);
+        if (r1_5_0_copyload < r1_6_0_copyload) {
+            store32(r8, r4);
+            store32(r8 + 4, 0);
+            store64(r8 + 8, r2_0_0_copyload);
+            store64(r8 + 16, r2_3_0_copyload);
+            store64(r8 + 24, r2_4_0_copyload);
+            std_alloc_vec_Vec_put_at(r3, r3_0_lcssa, r8);
+        }
+        else {
+            if (r1_6_0_copyload == r1_5_0_copyload) {
+                if (r1_5_0_copyload != 0xffffffffffffffffULL) {
+                    uint64_t a2_a1 = umax64(r1_5_0_copyload, 3) + 1;
+                    common_ret_op = (uint64_t)((r1_5_0_copyload < 0x4000000000000000ULL) ? umax64(a2_a1, r1_5_0_copyload << 1) : a2_a1);
+                    if (common_ret_op < 0x400000000000000ULL) {
+                        if (r1_5_0_copyload == 0) {
+                            struct i8_ptr r21 = std_heap_GlobalAllocator_allocate(128, a4);
+                            if (r21.a != 0) goto arm_5;
+                            r8_41_0_pn = r21.b;
+                        }
+                        else {
+                            libc_heap_rattle_realloc(r2, r4_2, (size_t)(r1_5_0_copyload << 5), common_ret_op << 5, a4);
+                            uint8_t r18 = *r2;
+                            size_t r24_wide = load_size(r2 + 8);
+                            if (!(r18 & 1)) goto arm_5;
+                            r8_41_0_pn = (unsigned char *)(uintptr_t)r24_wide;
+                        }
+                        store64(r3, (size_t)(uintptr_t)r8_41_0_pn);
+                        store64(r8_5_0_r3_sroa_idx, common_ret_op);
+                        goto join_6;
+                    }
+                }
+arm_5:
+                if (r2_4_0_copyload != 0) {
+                    r1_4 = load64(a4 + 16);
+                    if ((a4 + (size_t)r1_4) == (unsigned char *)(uintptr_t)r2_0_0_copyload) store64(a4, r1_4);
+                }
+                std_alloc_vec_Vec_drop(r3, a4);
+                r11_0_026 = 1;
+                r14_4_0 = 0;
+                r14_7_0 = 0;
+                r14_8_0 = 0;
+                r14_9_0 = 0;
+                goto dfu_formats_images_gathering_placed_exit;
+            }
 join_6:
-        std_alloc_vec_Vec_put_at(r3, r3_0_lcssa, r1_3);
-    }
-    uint32_t r15_0_0_copyload = load32(r3);
-    uint32_t r15_3_0_copyload = load32(r8_3_0_r3_sroa_idx);
-    uint64_t r15_4_0_copyload = load64(r8_4_0_r3_sroa_idx);
-    uint64_t r15_5_0_copyload = load64(r8_5_0_r3_sroa_idx);
-    r11_0_026 = 0;
-    r14_4_0 = r15_0_0_copyload;
-    r14_7_0 = r15_3_0_copyload;
-    r14_8_0 = r15_4_0_copyload;
-    r14_9_0 = r15_5_0_copyload;
+            std_alloc_vec_Vec_put_at(r3, r3_0_lcssa, r1_3);
+        }
+        uint32_t r15_0_0_copyload = load32(r3);
+        uint32_t r15_3_0_copyload = load32(r8_3_0_r3_sroa_idx);
+        uint64_t r15_4_0_copyload = load64(r8_4_0_r3_sroa_idx);
+        uint64_t r15_5_0_copyload = load64(r8_5_0_r3_sroa_idx);
+        r11_0_026 = 0;
+        r14_4_0 = r15_0_0_copyload;
+        r14_7_0 = r15_3_0_copyload;
+        r14_8_0 = r15_4_0_copyload;
+        r14_9_0 = r15_5_0_copyload;
 dfu_formats_images_gathering_placed_exit:
-    store_size(a0, r11_0_026);
-    store32(a0 + 8, r14_4_0);
-    store32(a0 + 12, r14_7_0);
-    store64(a0 + 16, r14_8_0);
-    store64(a0 + 24, r14_9_0);
+        store_size(a0, r11_0_026);
+        store32(a0 + 8, r14_4_0);
+        store32(a0 + 12, r14_7_0);
+        store64(a0 + 16, r14_8_0);
+        r14_9_0_sink = r14_9_0;
+    }
+    store64(a0 + 24, r14_9_0_sink);
     return;
 }
 
@@ -881,8 +856,8 @@ dfu_formats_images_gathering_placed_exit:
 static void std_alloc_vec_Vec_put_at(unsigned char *a0, uint64_t a1, unsigned char *a2) {
     _Alignas(8) unsigned char r0[32];
     unsigned char *r1, *r15, *r5, *v0, *r9;
-    uint64_t r2, r16, r17, r3_0, r20, r18_pre_phi;
-    size_t r13_wide;
+    uint64_t r2, r16, r17, r3_0, r20, r0_0_2, r18_pre_phi;
+    size_t r13_wide, r0_0;
     uint8_t r15_2;
     memcpy(r0, a2, 32);
     r1 = a0 + 8;
@@ -890,7 +865,6 @@ static void std_alloc_vec_Vec_put_at(unsigned char *a0, uint64_t a1, unsigned ch
     r13_wide = load_size(a0);
     r15 = a0 + 16;
     r16 = load64(r15);
-    memset(r1, 0, 16);
     r5 = (unsigned char *)(uintptr_t)r13_wide;
     if (a1 != 0xffffffffffffffffULL) {
         unsigned char *r9_2 = r5 + (size_t)(a1 << 5);
@@ -906,19 +880,32 @@ static void std_alloc_vec_Vec_put_at(unsigned char *a0, uint64_t a1, unsigned ch
             r9 = v0 - 32;
             r15_2 = r3_0 == 0;
             if (r20 <= 64) break;
-            if (r15_2) core_slots_raw_move_down_dfu_formats_images_element_Element(r9, v0, 64);
+            if (!r15_2) core_slots_raw_move_up_dfu_formats_images_element_Element(r9, v0, 64);
             else {
-                core_slots_raw_move_up_dfu_formats_images_element_Element(r9, v0, 64);
+                r0_0 = 0;
+                while (r0_0 != 64) {
+                    size_t r13 = r0_0 << 5;
+                    memcpy(v0 + r13, r9 + r13, 32);
+                    r0_0 = r0_0 + 1;
+                }
             }
             r3_0 = r3_0 + 64;
         }
-        if (r15_2) {
-            core_slots_raw_move_down_dfu_formats_images_element_Element(r9, v0, (size_t)r20);
+        if (!r15_2) {
+            core_slots_raw_move_up_dfu_formats_images_element_Element(r9, v0, r20);
             r18_pre_phi = r17;
         }
         else {
-            core_slots_raw_move_up_dfu_formats_images_element_Element(r9, v0, r20);
-            r18_pre_phi = r17;
+            r0_0_2 = 0;
+            for (;;) {
+                if (r0_0_2 == r20) {
+                    r18_pre_phi = r17;
+                    break;
+                }
+                size_t r13_2 = (size_t)(r0_0_2 << 5);
+                memcpy(v0 + r13_2, r9 + r13_2, 32);
+                r0_0_2 = r0_0_2 + 1;
+            }
         }
     }
     memcpy(r5 + (size_t)(a1 << 5), r0, 32);
@@ -926,18 +913,6 @@ static void std_alloc_vec_Vec_put_at(unsigned char *a0, uint64_t a1, unsigned ch
     store64(r1, r18_pre_phi);
     store64(r15, r16);
     return;
-}
-
-/* core::slots::raw::move_down::<37'dfu_formats::images::element::Element> */
-static void core_slots_raw_move_down_dfu_formats_images_element_Element(unsigned char *a0, unsigned char *a1, size_t a2) {
-    size_t r0_0;
-    r0_0 = 0;
-    for (;;) {
-        if (r0_0 == a2) return;
-        size_t r13 = r0_0 << 5;
-        memmove(a1 + r13, a0 + r13, 32);
-        r0_0 = r0_0 + 1;
-    }
 }
 
 /* core::slots::raw::move_up::<37'dfu_formats::images::element::Element> */
@@ -1082,7 +1057,7 @@ static void dfu_formats_images_gathering_Gathering_finish(unsigned char *a0, uns
     _Alignas(8) unsigned char r20[24];
     unsigned char *r26, *r4, *r26_2;
     size_t r6_0_0_copyload, r31, r0_0_0_0;
-    uint64_t r6_3_0_copyload, r6_4_0_copyload, r4_0, r3_0, r17_8_0, r17_9_0;
+    uint64_t r6_3_0_copyload, r6_4_0_copyload, r4_0, r3_0, r17_8_0, r17_9_0, sink;
     uint32_t r5_0_0_0_extract_trunc, r5_0_5_0_extract_trunc, r1, r17_4_0, r17_7_0;
     size_t r1_3_0_copyload = load_size(a1 + 24);
     memcpy(r10, a1, 24);
@@ -1098,49 +1073,51 @@ static void dfu_formats_images_gathering_Gathering_finish(unsigned char *a0, uns
         store32(a0 + 8, (uint32_t)r28);
         store32(a0 + 12, r7_3_4_copyload);
         store64(a0 + 16, r7_5_8_copyload);
-        store64(a0 + 24, 0);
-        return;
+        sink = 0;
     }
-    r6_0_0_copyload = load_size(r26);
-    r6_3_0_copyload = load64(r9 + 16);
-    r6_4_0_copyload = load64(r9 + 24);
-    r5_0_0_0_extract_trunc = (uint32_t)r6_0_0_copyload;
-    r5_0_5_0_extract_trunc = (uint32_t)(size_t)((uint64_t)r6_0_0_copyload >> 32);
-    r4 = (unsigned char *)(uintptr_t)r6_0_0_copyload;
-    r4_0 = 0;
-    r3_0 = 0;
-    for (;;) {
-        if (r4_0 == r6_3_0_copyload) {
-            r0_0_0_0 = 0;
-            r17_4_0 = r5_0_0_0_extract_trunc;
-            r17_7_0 = r5_0_5_0_extract_trunc;
-            r17_8_0 = r6_3_0_copyload;
-            r17_9_0 = r6_4_0_copyload;
-            goto join_7;
+    else {
+        r6_0_0_copyload = load_size(r26);
+        r6_3_0_copyload = load64(r9 + 16);
+        r6_4_0_copyload = load64(r9 + 24);
+        r5_0_0_0_extract_trunc = (uint32_t)r6_0_0_copyload;
+        r5_0_5_0_extract_trunc = (uint32_t)(size_t)((uint64_t)r6_0_0_copyload >> 32);
+        r4 = (unsigned char *)(uintptr_t)r6_0_0_copyload;
+        r4_0 = 0;
+        r3_0 = 0;
+        for (;;) {
+            if (r4_0 == r6_3_0_copyload) {
+                r0_0_0_0 = 0;
+                r17_4_0 = r5_0_0_0_extract_trunc;
+                r17_7_0 = r5_0_5_0_extract_trunc;
+                r17_8_0 = r6_3_0_copyload;
+                r17_9_0 = r6_4_0_copyload;
+                goto join_7;
+            }
+            r26_2 = r4 + (size_t)(r4_0 << 5);
+            r1 = load32(r26_2);
+            r31 = (size_t)r1;
+            if (r3_0 > (uint64_t)r31) break;
+            uint64_t r2 = load64(r26_2 + 16);
+            r4_0 = r4_0 + 1;
+            r3_0 = r2 + (uint64_t)r31;
         }
-        r26_2 = r4 + (size_t)(r4_0 << 5);
-        r1 = load32(r26_2);
-        r31 = (size_t)r1;
-        if (r3_0 > (uint64_t)r31) break;
-        uint64_t r2 = load64(r26_2 + 16);
-        r4_0 = r4_0 + 1;
-        r3_0 = r2 + (uint64_t)r31;
-    }
-    store_size(r20, r6_0_0_copyload);
-    store64(r20 + 8, r6_3_0_copyload);
-    store64(r20 + 16, r6_4_0_copyload);
-    std_alloc_vec_Vec_drop(r20, a2);
-    r0_0_0_0 = 1;
-    r17_4_0 = 22;
-    r17_7_0 = r1;
-    r17_8_0 = 0;
-    r17_9_0 = 0;
+        store_size(r20, r6_0_0_copyload);
+        store64(r20 + 8, r6_3_0_copyload);
+        store64(r20 + 16, r6_4_0_copyload);
+        std_alloc_vec_Vec_drop(r20, a2);
+        r0_0_0_0 = 1;
+        r17_4_0 = 22;
+        r17_7_0 = r1;
+        r17_8_0 = 0;
+        r17_9_0 = 0;
 join_7:
-    store_size(a0, r0_0_0_0);
-    store32(a0 + 8, r17_4_0);
-    store32(a0 + 12, r17_7_0);
-    store64(a0 + 16, r17_8_0);
-    store64(a0 + 24, r17_9_0);
+        store_size(a0, r0_0_0_0);
+        store32(a0 + 8, r17_4_0);
+        store32(a0 + 12, r17_7_0);
+        store64(a0 + 16, r17_8_0);
+        sink = r17_9_0;
+    }
+    store64(a0 + 24, sink);
     return;
 }
 
@@ -1197,37 +1174,36 @@ int32_t dfu_image_take(const uint8_t *file, size_t length, uint32_t format, uint
     unsigned char *const r0 = r19;
     unsigned char *const r11_2 = r19;
     unsigned char *const r4_6 = r19;
-    unsigned char *const r21_2 = r19;
-    unsigned char *const r5_5 = r19;
+    unsigned char *const r21_3 = r19;
     _Alignas(8) unsigned char r5_3[280];
     unsigned char *const r5_2 = r5_3;
     unsigned char *const r25_2 = r5_3;
-    unsigned char *const r21_3 = r5_3;
-    _Alignas(8) unsigned char r12_9[264];
-    unsigned char *const r12_7 = r12_9;
-    unsigned char *const r8_5 = r12_9;
-    unsigned char *const r8_4 = r12_9;
+    unsigned char *const r21_4 = r5_3;
+    _Alignas(8) unsigned char r11_8[256];
+    unsigned char *const r8_5 = r11_8;
+    unsigned char *const r8_4 = r11_8;
+    unsigned char *const r12_2 = r11_8;
+    unsigned char *const r23_3 = r11_8;
     _Alignas(8) unsigned char r12[96];
     unsigned char *const r11_4 = r12;
-    unsigned char *const r12_2 = r12;
+    unsigned char *const r9_2 = r12;
     unsigned char *const r7 = r12;
-    unsigned char *const r23_4 = r12;
     _Alignas(8) unsigned char r13_3[96];
-    unsigned char *const r9_2 = r13_3;
+    unsigned char *const r13_5 = r13_3;
     unsigned char *const r7_2 = r13_3;
     unsigned char *const r22_3 = r13_3;
     _Alignas(8) unsigned char r17[72];
-    unsigned char *const r13_5 = r17;
     unsigned char *const r0_2 = r17;
-    unsigned char *const r24 = r17;
+    unsigned char *const r8_3 = r17;
+    unsigned char *const r24_3 = r17;
     _Alignas(8) unsigned char r18[64];
-    unsigned char *const r8_3 = r18;
     unsigned char *const r26_2 = r18;
     unsigned char *const r26 = r18;
+    unsigned char *const r22_2 = r18;
     _Alignas(8) unsigned char r9[64];
     unsigned char *const r28_3 = r9;
     unsigned char *const r18_2 = r9;
-    unsigned char *const r22_2 = r9;
+    unsigned char *const r25 = r9;
     _Alignas(8) unsigned char r20_9[48];
     unsigned char *const r20_2 = r20_9;
     unsigned char *const r27 = r20_9;
@@ -1235,69 +1211,73 @@ int32_t dfu_image_take(const uint8_t *file, size_t length, uint32_t format, uint
     unsigned char *const r22_4 = r13_2;
     unsigned char *const r29_2 = r13_2;
     _Alignas(8) unsigned char r8[32];
-    unsigned char *const r31_2 = r8;
-    _Alignas(8) unsigned char r11_3[24];
-    unsigned char *const r29 = r11_3;
-    _Alignas(8) unsigned char r23_3[24];
-    unsigned char *const r20 = r23_3;
+    unsigned char *const r11_3 = r8;
+    _Alignas(8) unsigned char r23_4[24];
+    unsigned char *const r29 = r23_4;
+    _Alignas(8) unsigned char r20[24];
     _Alignas(8) unsigned char r22[24];
     _Alignas(8) unsigned char r8_2[24];
-    _Alignas(8) unsigned char r23_2[24];
-    _Alignas(8) unsigned char r25[24];
-    _Alignas(8) unsigned char r11[24];
+    _Alignas(8) unsigned char r21[24];
     _Alignas(8) unsigned char r23[24];
+    _Alignas(8) unsigned char r11[24];
+    _Alignas(8) unsigned char r23_2[24];
     _Alignas(8) unsigned char r30[24];
     _Alignas(8) unsigned char r31[24];
     _Alignas(8) unsigned char r32[24];
     _Alignas(2) unsigned char r20_15[6];
+    _Alignas(4) unsigned char r11_6[3];
     _Alignas(8) unsigned char r2[1];
-    unsigned char *r3, *r5, *r14, *r7_3_0_r13_sroa_idx, *r36, *r40, *r8_3_3_0_r40_sroa_idx, *r46_phi_trans, *r12_5_8_r46_sroa_idx_phi_trans, *r12_6_8_r46_sroa_idx_phi_trans, *r12_7_8_r46_sroa_idx, *r13_3_0_r5_sroa_idx;
-    unsigned char *r13_4_0_r5_sroa_idx, *r13_5_0_r5_sroa_idx, *r3_2, *r19_4_0_r8_sroa_idx, *r19_5_0_r8_sroa_idx, *r63, *r9_0_12_0_r63_sroa_idx, *r9_0_13_0_r63_sroa_idx, *r9_0_14_0_r63_sroa_idx, *r9_0_14_12_0_r9_0_14_0_r63_sroa_idx_sroa_idx, *r16_0_3_0_r63_sroa_idx, *r16_0_4_0_r63_sroa_idx;
-    unsigned char *r16_0_5_0_r63_sroa_idx, *r16_0_6_0_r63_sroa_idx, *r16_3_0_r63_sroa_idx, *r16_4_0_r63_sroa_idx, *r16_6_0_r63_sroa_idx, *r16_7_0_r63_sroa_idx, *r9_0_12_0_r13_sroa_idx, *r9_0_13_0_r13_sroa_idx, *r9_0_14_0_r13_sroa_idx, *r9_0_14_12_0_r9_0_14_0_r13_sroa_idx_sroa_idx, *r2_0_9_0_r13_sroa_idx, *r2_0_12_0_r13_sroa_idx;
-    unsigned char *r2_0_15_0_r13_sroa_idx, *r2_0_18_0_r13_sroa_idx, *r2_1110_0_r13_sroa_idx, *r2_12_0_r13_sroa_idx, *r9_0_12_0_r12_sroa_idx, *r9_0_13_0_r12_sroa_idx, *r9_0_14_0_r12_sroa_idx, *r9_0_14_12_0_r9_0_14_0_r12_sroa_idx_sroa_idx, *r2_0_9_0_r12_sroa_idx, *r2_0_12_0_r12_sroa_idx, *r2_0_15_0_r12_sroa_idx, *r2_0_18_0_r12_sroa_idx;
-    unsigned char *r2_1110_0_r12_sroa_idx, *r2_12_0_r12_sroa_idx, *r9_0_12_0_r22_sroa_idx, *r9_0_13_0_r22_sroa_idx, *r9_0_14_0_r22_sroa_idx, *r11_7_0_r54_sroa_idx, *r11_8_0_r54_sroa_idx, *r9_0_12_0_r18_sroa_idx, *r9_0_13_0_r18_sroa_idx, *r9_0_14_0_r18_sroa_idx, *r9_0_14_12_0_r9_0_14_0_r18_sroa_idx_sroa_idx, *r3_4_0_r18_sroa_idx;
-    unsigned char *r3_5_0_r18_sroa_idx, *r3_6_0_r18_sroa_idx, *r3_7_0_r18_sroa_idx, *r78, *r116, *r118, *r5_5_0_r78_sroa_idx, *r9_0_12_0_r29_sroa_idx, *r9_0_13_0_r29_sroa_idx, *r9_0_14_0_r29_sroa_idx, *r9_0_12_0_r20_sroa_idx, *r9_0_13_0_r20_sroa_idx;
-    unsigned char *r9_0_14_0_r20_sroa_idx, *r9_0_12_0_r25_sroa_idx, *r9_0_13_0_r25_sroa_idx, *r9_0_14_0_r25_sroa_idx, *r9_0_12_0_r23_sroa_idx, *r9_0_13_0_r23_sroa_idx, *r9_0_14_0_r23_sroa_idx, *r45, *r7_3_0_r13_sroa_idx_2, *r36_3, *r40_2, *r8_3_3_0_r40_sroa_idx_2;
-    unsigned char *r69, *r81, *r83, *r13_3_0_r5_sroa_idx_2, *r13_4_0_r5_sroa_idx_2, *r13_5_0_r5_sroa_idx_2, *r3_4, *r16_2, *r26_0_7_0_r31_sroa_idx, *r26_0_10_0_r31_sroa_idx, *r26_0_13_0_r31_sroa_idx, *r20_5_0_r21_sroa_idx;
-    unsigned char *r20_7_0_r21_sroa_idx, *r20_9_0_r21_sroa_idx, *r20_5_0_r23_sroa_idx, *r20_7_0_r23_sroa_idx, *r20_9_0_r23_sroa_idx, *r22_0_4_0_r12_sroa_idx, *r22_0_5_0_r12_sroa_idx, *r22_0_6_0_r12_sroa_idx, *r22_0_7_0_r12_sroa_idx, *r2_0_4_0_r12_sroa_idx, *r2_0_5_0_r12_sroa_idx, *r2_0_6_0_r12_sroa_idx;
-    unsigned char *r2_0_7_0_r12_sroa_idx, *r59, *r92, *r94, *r3_5_0_r59_sroa_idx, *r14_9_5_0_r3_5_0_r59_sroa_idx_sroa_idx, *r14_9_6_0_r3_5_0_r59_sroa_idx_sroa_idx, *r14_9_7_0_r3_5_0_r59_sroa_idx_sroa_idx, *r14_9_8_0_r3_5_0_r59_sroa_idx_sroa_idx, *r14_9_9_0_r3_5_0_r59_sroa_idx_sroa_idx, *r22_0_4_0_r22_sroa_idx, *r22_0_5_0_r22_sroa_idx;
-    unsigned char *r22_0_6_0_r22_sroa_idx, *r26_0_7_0_r29_sroa_idx, *r26_0_10_0_r29_sroa_idx, *r26_0_13_0_r29_sroa_idx, *r26_0_7_0_r27_sroa_idx, *r26_0_10_0_r27_sroa_idx, *r26_0_13_0_r27_sroa_idx, *r45_2, *r16_4, *r15_0_10_0_r24_sroa_idx, *r15_0_11_0_r24_sroa_idx, *r15_0_10_0_r21_sroa_idx;
-    unsigned char *r15_0_11_0_r21_sroa_idx, *r2_7_0_r21_sroa_idx, *r2_10_0_r21_sroa_idx, *r2_13_0_r21_sroa_idx, *r2_16_0_r21_sroa_idx, *r131, *r0_25_8_r131_sroa_idx, *r0_28_8_r131_sroa_idx, *r0_31_8_r131_sroa_idx, *r0_31_8_0_r0_31_8_r131_sroa_idx_sroa_idx, *r0_31_9_0_r0_31_8_r131_sroa_idx_sroa_idx, *r0_31_10_0_r0_31_8_r131_sroa_idx_sroa_idx;
-    unsigned char *r0_31_11_0_r0_31_8_r131_sroa_idx_sroa_idx, *r15_0_10_0_r26_sroa_idx, *r15_0_11_0_r26_sroa_idx, *r15_0_10_0_r22_sroa_idx, *r15_0_11_0_r22_sroa_idx, *r15_0_11_10_0_r15_0_11_0_r21_sroa_idx_sroa_idx, *r0_31_0_9_0_r0_31_8_r131_sroa_idx_sroa_idx, *r5_0_0_in, *r16_5, *r15_0_6_0_r25_sroa_idx, *r15_0_7_0_r25_sroa_idx, *r2_6_0_r25_sroa_idx;
-    unsigned char *r2_8_0_r25_sroa_idx, *r2_10_0_r25_sroa_idx, *r2_12_0_r25_sroa_idx, *r135, *r14_12_8_r135_sroa_idx, *r14_1222_8_r135_sroa_idx, *r14_13_8_r135_sroa_idx, *r14_14_8_r135_sroa_idx, *r14_14_6_0_r14_14_8_r135_sroa_idx_sroa_idx, *r14_14_7_0_r14_14_8_r135_sroa_idx_sroa_idx, *r14_14_8_0_r14_14_8_r135_sroa_idx_sroa_idx, *r14_14_9_0_r14_14_8_r135_sroa_idx_sroa_idx;
-    unsigned char *r15_0_7_6_0_r15_0_7_0_r25_sroa_idx_sroa_idx, *r14_14_0_6_0_r14_14_8_r135_sroa_idx_sroa_idx, *r5_0_0_in_2, *r16_6, *r4_5, *r19_3_0_r4_sroa_idx, *r19_4_0_r4_sroa_idx, *r19_5_0_r4_sroa_idx, *r40_3, *r3_5, *r5_4, *r4_7;
-    unsigned char *r4_8;
-    uint32_t r2_4_01, r4_0_0_0, r4_0_6_0, r12_3_8_copyload_pre, r12_5_8_copyload_pre, v3, r20_4_0, r20_7_0, r15_10_0159, r15_5_6_0_0158_in_in, r15_6_0, r12_3_8_copyload;
-    uint32_t r12_5_8_copyload, r0_9_0_2, r0_17_0_2, r0_17_0, r0_9_0, r6_5_0_0, r6_10_0, r0_3_5_0_copyload, r0_3_0_0_copyload, r2_4_01_2, r4_0_0_0_2, r4_0_6_0_2;
-    uint32_t r18_10_1, r18_19_1, r18_10_2, r18_19_2, r18_10_0, r18_19_0, r15_10_0164, r15_5_6_0_0163_in_in, r15_5_0, r7_7_0, r7_4_0, r0_9_0_4;
-    uint32_t r0_17_0_4, r0_17_0_3, r0_9_0_3, r6_5_0_0_2, r6_10_0_2, r0_3_5_0_copyload_2, r0_3_0_0_copyload_2, r2_4_01_3, r4_0_2, r4_0_0_0_3, r4_0_5_0, r14_7;
-    uint32_t r14_10, r4_0_3, r0_25_0, r0_13_0, r0_13_0_2, r14_6_0_0, r14_12_0108, r14_6_0_0107, r0_9_8_copyload14, r0_5_8_copyload12, r2_4_01_4, r4_0_6_0_3;
-    uint32_t r14_1222_0118, r14_1222_0100, r5_10_2, r5_19_2, r2_4_0_in, r5_10_0, r5_19_0, r1_24, r6_8_0, r6_10_0_3, switch_offset, r21_0_0;
-    uint32_t common_ret_op;
+    unsigned char *r32_sink53_gep, *r32_sink53_gep525, *r32_sink53_gep527, *r32_sink53_gep531, *r3, *r5, *r14, *r7_3_0_r13_sroa_idx, *r36, *r40, *r8_3_3_0_r40_sroa_idx, *r46_phi_trans;
+    unsigned char *r11_641_8_r46_sroa_idx_phi_trans, *r11_7_8_r46_sroa_idx_phi_trans, *r11_6_8_r46_sroa_idx, *r11_8_8_r46_sroa_idx, *r9_0_12_0_r21_sroa_idx, *r9_0_13_0_r21_sroa_idx, *r9_0_14_0_r21_sroa_idx, *r12_3_0_r5_sroa_idx, *r12_4_0_r5_sroa_idx, *r12_5_0_r5_sroa_idx, *r12_6_0_r5_sroa_idx, *r3_2;
+    unsigned char *r113, *r122, *r17_4_0_r8_sroa_idx, *r17_5_0_r8_sroa_idx, *r63, *r9_0_12_0_r63_sroa_idx, *r9_0_13_0_r63_sroa_idx, *r9_0_14_0_r63_sroa_idx, *r9_0_14_12_0_r9_0_14_0_r63_sroa_idx_sroa_idx, *r16_0_3_0_r63_sroa_idx, *r16_0_4_0_r63_sroa_idx, *r16_0_5_0_r63_sroa_idx;
+    unsigned char *r16_0_6_0_r63_sroa_idx, *r16_3_0_r63_sroa_idx, *r16_4_0_r63_sroa_idx, *r16_6_0_r63_sroa_idx, *r16_7_0_r63_sroa_idx, *r9_0_12_0_r13_sroa_idx, *r9_0_13_0_r13_sroa_idx, *r9_0_14_0_r13_sroa_idx, *r9_0_14_12_0_r9_0_14_0_r13_sroa_idx_sroa_idx, *r2_0_9_0_r13_sroa_idx, *r2_0_12_0_r13_sroa_idx, *r2_0_15_0_r13_sroa_idx;
+    unsigned char *r2_0_18_0_r13_sroa_idx, *r2_1110_0_r13_sroa_idx, *r2_12_0_r13_sroa_idx, *r9_0_12_0_r12_sroa_idx, *r9_0_13_0_r12_sroa_idx, *r9_0_14_0_r12_sroa_idx, *r9_0_14_12_0_r9_0_14_0_r12_sroa_idx_sroa_idx, *r2_0_9_0_r12_sroa_idx, *r2_0_12_0_r12_sroa_idx, *r2_0_15_0_r12_sroa_idx, *r2_0_18_0_r12_sroa_idx, *r2_1110_0_r12_sroa_idx;
+    unsigned char *r2_12_0_r12_sroa_idx, *r9_0_12_0_r22_sroa_idx, *r9_0_13_0_r22_sroa_idx, *r9_0_14_0_r22_sroa_idx, *r11_7_0_r54_sroa_idx, *r11_8_0_r54_sroa_idx, *r9_0_12_0_r18_sroa_idx, *r9_0_13_0_r18_sroa_idx, *r9_0_14_0_r18_sroa_idx, *r9_0_14_12_0_r9_0_14_0_r18_sroa_idx_sroa_idx, *r3_4_0_r18_sroa_idx, *r3_5_0_r18_sroa_idx;
+    unsigned char *r3_6_0_r18_sroa_idx, *r3_7_0_r18_sroa_idx, *r78, *r116, *r118, *r5_5_0_r78_sroa_idx, *r9_0_12_0_r29_sroa_idx, *r9_0_13_0_r29_sroa_idx, *r9_0_14_0_r29_sroa_idx, *r9_0_12_0_r20_sroa_idx, *r9_0_13_0_r20_sroa_idx, *r9_0_14_0_r20_sroa_idx;
+    unsigned char *r9_0_12_0_r23_sroa_idx, *r9_0_13_0_r23_sroa_idx, *r9_0_14_0_r23_sroa_idx, *r45, *r7_3_0_r13_sroa_idx_2, *r36_3, *r40_2, *r8_3_3_0_r40_sroa_idx_2, *r69, *r81, *r83, *r12_3_0_r5_sroa_idx_2;
+    unsigned char *r12_4_0_r5_sroa_idx_2, *r12_5_0_r5_sroa_idx_2, *r3_4, *r16_2, *r24_0_7_0_r29_sroa_idx, *r24_0_10_0_r29_sroa_idx, *r24_0_13_0_r29_sroa_idx, *r20_5_0_r21_sroa_idx, *r20_7_0_r21_sroa_idx, *r20_9_0_r21_sroa_idx, *r20_5_0_r23_sroa_idx, *r20_7_0_r23_sroa_idx;
+    unsigned char *r20_9_0_r23_sroa_idx, *r20_0_4_0_r12_sroa_idx, *r20_0_5_0_r12_sroa_idx, *r20_0_6_0_r12_sroa_idx, *r20_0_7_0_r12_sroa_idx, *r2_0_4_0_r12_sroa_idx, *r2_0_5_0_r12_sroa_idx, *r2_0_6_0_r12_sroa_idx, *r2_0_7_0_r12_sroa_idx, *r59, *r92, *r94;
+    unsigned char *r3_5_0_r59_sroa_idx, *r14_9_5_0_r3_5_0_r59_sroa_idx_sroa_idx, *r14_9_6_0_r3_5_0_r59_sroa_idx_sroa_idx, *r14_9_7_0_r3_5_0_r59_sroa_idx_sroa_idx, *r14_9_8_0_r3_5_0_r59_sroa_idx_sroa_idx, *r14_9_9_0_r3_5_0_r59_sroa_idx_sroa_idx, *r20_0_4_0_r22_sroa_idx, *r20_0_5_0_r22_sroa_idx, *r20_0_6_0_r22_sroa_idx, *r24_0_7_0_r27_sroa_idx, *r24_0_10_0_r27_sroa_idx, *r24_0_13_0_r27_sroa_idx;
+    unsigned char *r24_0_7_0_r25_sroa_idx, *r24_0_10_0_r25_sroa_idx, *r24_0_13_0_r25_sroa_idx, *r45_2, *r16_4, *r15_0_10_0_r24_sroa_idx, *r15_0_11_0_r24_sroa_idx, *r15_0_10_0_r21_sroa_idx, *r15_0_11_0_r21_sroa_idx, *r2_7_0_r21_sroa_idx, *r2_10_0_r21_sroa_idx, *r2_13_0_r21_sroa_idx;
+    unsigned char *r2_16_0_r21_sroa_idx, *r131, *r0_25_8_r131_sroa_idx, *r0_28_8_r131_sroa_idx, *r0_31_8_r131_sroa_idx, *r0_31_8_0_r0_31_8_r131_sroa_idx_sroa_idx, *r0_31_9_0_r0_31_8_r131_sroa_idx_sroa_idx, *r0_31_10_0_r0_31_8_r131_sroa_idx_sroa_idx, *r0_31_11_0_r0_31_8_r131_sroa_idx_sroa_idx, *r15_0_10_0_r26_sroa_idx, *r15_0_11_0_r26_sroa_idx, *r15_0_10_0_r22_sroa_idx;
+    unsigned char *r15_0_11_0_r22_sroa_idx, *r15_0_11_10_0_r15_0_11_0_r21_sroa_idx_sroa_idx, *r0_31_0_9_0_r0_31_8_r131_sroa_idx_sroa_idx, *r5_0_0_in, *r16_5, *r15_0_6_0_r25_sroa_idx, *r15_0_7_0_r25_sroa_idx, *r2_6_0_r25_sroa_idx, *r2_8_0_r25_sroa_idx, *r2_10_0_r25_sroa_idx, *r2_12_0_r25_sroa_idx, *r135;
+    unsigned char *r14_12_8_r135_sroa_idx, *r14_1222_8_r135_sroa_idx, *r14_13_8_r135_sroa_idx, *r14_14_8_r135_sroa_idx, *r14_14_6_0_r14_14_8_r135_sroa_idx_sroa_idx, *r14_14_7_0_r14_14_8_r135_sroa_idx_sroa_idx, *r14_14_8_0_r14_14_8_r135_sroa_idx_sroa_idx, *r14_14_9_0_r14_14_8_r135_sroa_idx_sroa_idx, *r15_0_7_6_0_r15_0_7_0_r25_sroa_idx_sroa_idx, *r14_14_0_6_0_r14_14_8_r135_sroa_idx_sroa_idx, *r5_0_0_in_2, *r16_6;
+    unsigned char *r4_5, *r19_3_0_r4_sroa_idx, *r19_4_0_r4_sroa_idx, *r19_5_0_r4_sroa_idx, *r40_3, *r3_5, *r5_4, *r4_7, *r4_8, *r32_sink53_phi, *r32_sink53_phi526, *r32_sink53;
+    uint32_t r2_4_01, r4_0_0_0, r4_0_6_0, r11_641_8_copyload42, r3_0, r20_4_0, r20_7_0, r15_10_0159, r15_5_6_0_0158_in_in, r13_6_0_0, r32_2, r0_9_0_2;
+    uint32_t r0_17_0_2, r0_17_0, r0_9_0, r6_5_0_0, r6_10_0, r0_3_5_0_copyload, r0_3_0_0_copyload, r2_4_01_2, r4_0_0_0_2, r4_0_6_0_2, r3_0_2, r16_10_1;
+    uint32_t r16_19_1, r16_10_2, r16_19_2, r16_10_0, r16_19_0, r15_10_0158, r15_5_6_0_0157_in_in, r13_5_0_0, r7_7_0, r7_4_0, r0_9_0_4, r0_17_0_4;
+    uint32_t r0_17_0_3, r0_9_0_3, r6_5_0_0_2, r6_10_0_2, r0_3_5_0_copyload_2, r0_3_0_0_copyload_2, r2_4_01_3, r4_0_4, r4_0_0_0_3, r4_0_5_0, r14_7, r14_10;
+    uint32_t r4_0_5, r0_25_0, r0_13_0, r0_13_0_3, r0_13_0_2, r14_6_0_0, r14_6_0_0107_2, r14_12_0108, r14_6_0_0107, r0_9_8_copyload14, r0_5_8_copyload12, r2_4_01_4;
+    uint32_t r4_0_6_0_3, r14_1222_0118, r14_1222_0100, r5_10_2, r5_19_2, r2_4_0_in, r5_10_0, r5_19_0, r1_24, r6_8_0, r6_10_0_3, r21_0_0_2;
+    uint32_t switch_offset, r21_0_0, common_ret_op;
     size_t wide_1543, r4_0_8_9_0, r4_6_0, r4_810_0, r6_0_0, r8_3_0_0_copyload, r9_22_90, r50, r20_95_0, r20_12_0, r15_43_1169, r15_34_1167;
-    size_t r15_26_1163, r4_0_8_9_0_2, r6_0_0_2, r8_3_0_0_copyload_2, r1_0, r71, r4_0, r137, r18_41_1, r18_41_2, r18_41_0, r15_26_1168;
-    size_t r529, r4_12_0, r6_0, r4_0_0_0_4, r87, r93, r0_31_8_1245, r52, r67, r4_13_0, r14_13_8_copyload29, r4_0_0_0_5;
-    size_t r35_2, r63_2, r69_2, r14_14_6_0113, r7_0_0_0_insert108, r6_0_0_3, r44_3, r21_12_0;
-    uint64_t r4_0_8_0_0, r4_0_8_6_0, r4_0_8_13_0, r4_0_8_17_0, r4_0_8_20_0, r4_0_7_0, r5_0, r6_4_0, r8_3_3_0_copyload, r46, r12_6_8_copyload_pre, r4_2;
-    uint64_t r38, r1, r20_8_0, r1_2, r1_3, r15_32_1166, r15_30_1165, r15_28_1164, r15_24_1162, r15_20_1161, r15_15_0160, r1_4;
-    uint64_t r1_5, r1_6, r12_6_8_copyload, r1_7, r0_21_0_2, r0_21_0, r6_14_0, r0_3_7_0_copyload, r0_3_6_0_copyload, r4_0_8_0_0_2, r4_0_8_6_0_2, r4_0_8_13_0_2;
-    uint64_t r4_0_8_17_0_2, r4_0_8_20_0_2, r4_0_7_0_2, r4_810_0_2, r5_0_2, r6_4_0_2, r8_3_3_0_copyload_2, r46_2, r5_0_0_copyload_2, r4_3, r3_0, r1_8;
-    uint64_t r18_26_1, r18_33_1, r18_39_1, r18_43_1, r18_45_1, r18_47_1, r18_58_1, r1_9, r1_10, r18_26_2, r18_33_2, r18_39_2;
-    uint64_t r18_43_2, r18_45_2, r18_47_2, r18_58_2, r18_26_0, r18_33_0, r18_39_0, r18_43_0, r18_45_0, r18_47_0, r18_58_0, r15_43_1174;
-    uint64_t r15_32_1171, r15_30_1170, r15_28_1169, r15_24_1167, r15_20_1166, r15_15_0165, r1_11, r1_12, r1_13, r1_14, r7_9_0, r1_15;
-    uint64_t r0_22_0_2, r0_22_0, r6_14_0_2, r0_3_7_0_copyload_2, r0_3_6_0_copyload_2, r14_22_0_0_0, r14_22_0_6_0, r4_7_0_2, r4_14_0, r4_16_0, r4_17_0, r0_28_0;
-    uint64_t r0_31_11_1248, r0_31_10_1247, r0_31_9_1246, r0_31_0_9_1244, r0_31_0_0_1243, r1_16, r1_17, r1_18, r1_19, r1_20, r1_21, r14_17_0109;
-    uint64_t r0_11_8_copyload18, r0_10_8_copyload16, r4_11_0_0, r4_11_5_0, r4_8_0, r4_15_0, r4_17_0_2, r4_18_0, r14_14_0_0_0, r14_14_0_6_0, r14_13_0119, r14_14_9_0116;
-    uint64_t r14_14_8_0115, r14_14_7_0114, r1_22, r1_23, r14_13_0101, r5_21_2, r5_22_2, r5_21_0, r5_22_0, r6_5_0, r7_0, r8_0;
-    uint64_t r46_3, r79, r6, r119, r29_4, r0_0, r6_2, r8_14_28, r1_26, r1_27, r1_28, r1_29;
-    uint64_t r1_30, r1_31, r21_71_0;
+    size_t r15_26_1163, r4_0_8_9_0_2, r6_0_0_2, r8_3_0_0_copyload_2, r1_0, r71, r4_0_3, r16_44_1, r16_44_2, r16_44_0, r15_26_1162, r529;
+    size_t r4_12_0, r6_0, r4_0_0_0_4, r87, r93, r0_31_8_1245, r52, r67, r4_13_0, r14_13_8_copyload29, r4_0_0_0_5, r35;
+    size_t r63_2, r69_2, r14_14_6_0113, r7_0_0_0_insert109, r6_0_0_3, r44_3, r21_12_0_2, r21_12_0;
+    uint64_t r4_0_8_0_0, r4_0_8_6_0, r4_0_8_13_0, r4_0_8_17_0, r4_0_8_20_0, r4_0_7_0, r5_0, r6_4_0, r8_3_3_0_copyload, r46, r11_7_8_copyload43, r4_2;
+    uint64_t r4_0, r38, r1, r20_8_0, r1_2, r1_3, r15_32_1166, r15_30_1165, r15_28_1164, r15_24_1162, r15_20_1161, r15_15_0160;
+    uint64_t r1_4, r1_5, r1_6, r1_7, r0_21_0_2, r0_21_0, r6_14_0, r0_3_7_0_copyload, r0_3_6_0_copyload, r4_0_8_0_0_2, r4_0_8_6_0_2, r4_0_8_13_0_2;
+    uint64_t r4_0_8_17_0_2, r4_0_8_20_0_2, r4_0_7_0_2, r4_810_0_2, r5_0_2, r6_4_0_2, r8_3_3_0_copyload_2, r46_2, r5_0_0_copyload_2, r4_3, r4_0_2, r3_0_3;
+    uint64_t r137, r1_8, r16_27_1, r16_35_1, r16_42_1, r16_46_1, r16_48_1, r16_50_1, r16_61_1, r1_9, r1_10, r16_27_2;
+    uint64_t r16_35_2, r16_42_2, r16_46_2, r16_48_2, r16_50_2, r16_61_2, r16_27_0, r16_35_0, r16_42_0, r16_46_0, r16_48_0, r16_50_0;
+    uint64_t r16_61_0, r15_43_1168, r15_32_1165, r15_30_1164, r15_28_1163, r15_24_1161, r15_20_1160, r15_15_0159, r1_11, r1_12, r1_13, r1_14;
+    uint64_t r7_9_0, r1_15, r0_22_0_2, r0_22_0, r6_14_0_2, r0_3_7_0_copyload_2, r0_3_6_0_copyload_2, r14_22_0_0_0, r14_22_0_6_0, r4_7_0_2, r4_14_0, r4_16_0;
+    uint64_t r4_17_0, r0_28_0, r0_31_11_1248, r0_31_10_1247, r0_31_9_1246, r0_31_0_9_1244, r0_31_0_0_1243, r1_sink_2, r1_sink, r14_17_0109, r0_11_8_copyload18, r0_10_8_copyload16;
+    uint64_t r4_11_0_0, r4_11_5_0, r4_8_0, r4_15_0, r4_17_0_2, r4_18_0, r14_14_0_0_0, r14_14_0_6_0, r14_13_0119, r14_14_9_0116, r14_14_8_0115, r14_14_7_0114;
+    uint64_t r1_22, r1_23, r14_13_0101, r5_21_2, r5_22_2, r5_21_0, r5_22_0, r6_5_0, r7_0, r8_0, r46_3, r79;
+    uint64_t r6, r119, r29_4, r0_0, r6_2, r8_14_28, r1_26, r1_27, r1_28, r1_29, r1_30, r1_31;
+    uint64_t r21_71_0_2, r21_71_0;
     uint64_t r4_12_0_0, r15_52_1172;
-    uint8_t r4_7_0, r4_9_0, r4_11_0, r37, v2, v5, r77, r20_10_0, r20_13_0, r20_14_0, r15_49_1171, r15_46_1170;
-    uint8_t r15_37_1168, r36_2, r37_2, r49, v10, switch_tableidx, r58, r18_0_0_1, r18_0_0_2, r18_0_0_0, r36_4, r28;
-    uint8_t r4_0_0_0_0, r14_6_0117, r14_6_0, r14_6_099, r28_2, r5_0_0_2, r5_0_0_0, r2_4_0, spec_select;
-    uint8_t r4_9_0_off0, r4_11_0_off0, r18_61_2_off0, r18_64_2_off0, r18_61_0_off0, r18_64_0_off0, r15_49_1176_off0, r15_46_1175_off0, r4_4;
+    uint8_t r4_7_0, r4_9_0, r4_11_0, r37, r11_3_8_copyload40, r107, r115, r77, r20_10_0, r20_13_0, r20_14_0, r15_49_1171;
+    uint8_t r15_46_1170, r15_37_1168, r36_2, r37_2, r49, v6, switch_tableidx, r58, r16_0_0_1, r16_0_0_2, r16_0_0_0, r36_4;
+    uint8_t r28, r4_0_0_0_0, r14_6_0117, r14_6_0, r14_6_099, r28_2, r5_0_0_2, r5_0_0_0, r2_4_0, spec_select;
+    uint8_t r43, r4_9_0_off0, r4_11_0_off0, r16_64_2_off0, r16_67_2_off0, r16_64_0_off0, r16_67_0_off0, r15_49_1170_off0, r15_46_1169_off0, r4_4;
     uint32_t r4_0_0_5_0_0, r14_12_0_0112;
     uint64_t r1_7_0_0;
+    r32_sink53_gep = r32 + 8;
+    r32_sink53_gep525 = r30 + 8;
+    r32_sink53_gep527 = r32 + 16;
+    r32_sink53_gep531 = r30 + 16;
     if (a8 < 3) common_ret_op = 0xffffff99U;
     else {
         store64(a7, 24);
@@ -1309,30 +1289,31 @@ int32_t dfu_image_take(const uint8_t *file, size_t length, uint32_t format, uint
         switch (a2) {
         case 1: {
             r2_4_01 = umin32(a3, 256);
-            memset(r30, 0, 24);
-            memset(r31, 0, 24);
-            memset(r32, 0, 24);
             memset(r8, 0, 32);
-            memset(r9, 0, 64);
             struct ptr_i64 r13 = dfu_formats_images_text_unmarked(r5, a1);
-            memset(r13_2, 0, 40);
-            memset(r23, 0, 24);
             size_t wide_1086 = (size_t)(uintptr_t)r2;
             r7_3_0_r13_sroa_idx = r13_2 + 8;
             r36 = r13_2 + 16;
             r40 = r13_2 + 24;
             r8_3_3_0_r40_sroa_idx = r13_2 + 32;
             r46_phi_trans = r4 + 8;
-            r12_5_8_r46_sroa_idx_phi_trans = r4 + 12;
-            r12_6_8_r46_sroa_idx_phi_trans = r4 + 16;
-            r12_7_8_r46_sroa_idx = r4 + 24;
-            r13_3_0_r5_sroa_idx = r5_2 + 4;
-            r13_4_0_r5_sroa_idx = r5_2 + 8;
-            r13_5_0_r5_sroa_idx = r5_2 + 16;
+            r11_641_8_r46_sroa_idx_phi_trans = r4 + 12;
+            r11_7_8_r46_sroa_idx_phi_trans = r4 + 16;
+            r11_6_8_r46_sroa_idx = r4 + 9;
+            r11_8_8_r46_sroa_idx = r4 + 24;
+            r9_0_12_0_r21_sroa_idx = r21 + 4;
+            r9_0_13_0_r21_sroa_idx = r21 + 8;
+            r9_0_14_0_r21_sroa_idx = r21 + 16;
+            r12_3_0_r5_sroa_idx = r5_2 + 1;
+            r12_4_0_r5_sroa_idx = r5_2 + 4;
+            r12_5_0_r5_sroa_idx = r5_2 + 8;
+            r12_6_0_r5_sroa_idx = r5_2 + 16;
             r3_2 = r5_2 + 264;
-            wide_1543 = (size_t)(uintptr_t)r13_3_0_r5_sroa_idx;
-            r19_4_0_r8_sroa_idx = r8_2 + 8;
-            r19_5_0_r8_sroa_idx = r8_2 + 16;
+            wide_1543 = (size_t)(uintptr_t)r12_4_0_r5_sroa_idx;
+            r113 = r5_2 + 2;
+            r122 = r5_2 + 3;
+            r17_4_0_r8_sroa_idx = r8_2 + 8;
+            r17_5_0_r8_sroa_idx = r8_2 + 16;
             r63 = r3_3 + 8;
             r9_0_12_0_r63_sroa_idx = r3_3 + 12;
             r9_0_13_0_r63_sroa_idx = r3_3 + 16;
@@ -1389,12 +1370,9 @@ int32_t dfu_image_take(const uint8_t *file, size_t length, uint32_t format, uint
             r9_0_12_0_r20_sroa_idx = r20 + 4;
             r9_0_13_0_r20_sroa_idx = r20 + 8;
             r9_0_14_0_r20_sroa_idx = r20 + 16;
-            r9_0_12_0_r25_sroa_idx = r25 + 4;
-            r9_0_13_0_r25_sroa_idx = r25 + 8;
-            r9_0_14_0_r25_sroa_idx = r25 + 16;
-            r9_0_12_0_r23_sroa_idx = r23_2 + 4;
-            r9_0_13_0_r23_sroa_idx = r23_2 + 8;
-            r9_0_14_0_r23_sroa_idx = r23_2 + 16;
+            r9_0_12_0_r23_sroa_idx = r23 + 4;
+            r9_0_13_0_r23_sroa_idx = r23 + 8;
+            r9_0_14_0_r23_sroa_idx = r23 + 16;
             r4_0_8_0_0 = 0;
             r4_0_8_6_0 = 0;
             r4_0_8_9_0 = wide_1086;
@@ -1423,7 +1401,6 @@ int32_t dfu_image_take(const uint8_t *file, size_t length, uint32_t format, uint
                 struct ptr_i64 r44 = dfu_formats_images_lines_bare((unsigned char *)(uintptr_t)r7_0_0_copyload, r7_3_0_copyload);
                 r45 = r44.a;
                 r46 = r44.b;
-                memset(r11, 0, 24);
                 uint8_t r16 = dfu_formats_images_lines_is_blank_line(r45, r46);
                 if (r16) {
                     r15_52_1172 = r4_12_0_0;
@@ -1445,56 +1422,70 @@ int32_t dfu_image_take(const uint8_t *file, size_t length, uint32_t format, uint
                 else {
                     if (r4_11_0 & 1) break;
                     r9_22_90 = (((size_t)r4_11_0 << 8) | (size_t)r4_9_0) | ((size_t)r4_12_0_0 << 16);
-                    memset(r23_2, 0, 24);
-                    memset(r25, 0, 24);
                     memset(r4, 0, 280);
-                    if (r46 == 0) goto dfu_formats_images_ihex_spelled_exit_thread;
-                    uint8_t r21 = *r45;
-                    if (r21 != 58) goto dfu_formats_images_ihex_spelled_exit_thread;
-                    dfu_formats_images_digits_bytes_at(r4, r5_0, r45 + 1, r46 - 1);
-                    uint8_t r43_pre = *r4;
-                    r12_3_8_copyload_pre = load32(r46_phi_trans);
-                    r12_5_8_copyload_pre = load32(r12_5_8_r46_sroa_idx_phi_trans);
-                    r12_6_8_copyload_pre = load64(r12_6_8_r46_sroa_idx_phi_trans);
-                    memcpy(r12_7, r12_7_8_r46_sroa_idx, 256);
-                    if (r43_pre != 0) {
-                        r12_3_8_copyload = r12_3_8_copyload_pre;
-                        r12_5_8_copyload = r12_5_8_copyload_pre;
-                        r12_6_8_copyload = r12_6_8_copyload_pre;
-                        goto arm_2;
+                    if (r46 != 0) {
+                        uint8_t r21_2 = *r45;
+                        if (r21_2 == 58) {
+                            dfu_formats_images_digits_bytes_at(r4, r5_0, r45 + 1, r46 - 1);
+                            uint8_t r43_pre = *r4;
+                            uint8_t r11_3_8_copyload40_pre = *r46_phi_trans;
+                            uint32_t r11_641_8_copyload42_pre = load32(r11_641_8_r46_sroa_idx_phi_trans);
+                            uint64_t r11_7_8_copyload43_pre = load64(r11_7_8_r46_sroa_idx_phi_trans);
+                            r11_7_8_copyload43 = r11_7_8_copyload43_pre;
+                            r11_641_8_copyload42 = r11_641_8_copyload42_pre;
+                            r11_3_8_copyload40 = r11_3_8_copyload40_pre;
+                            r43 = r43_pre == 0;
+                            goto dfu_formats_images_ihex_spelled_exit;
+                        }
                     }
-                    store32(r5_2, r12_3_8_copyload_pre);
-                    store32(r13_3_0_r5_sroa_idx, r12_5_8_copyload_pre);
-                    store64(r13_4_0_r5_sroa_idx, r12_6_8_copyload_pre);
-                    memcpy(r13_5_0_r5_sroa_idx, r12_7, 256);
+                    store32(r46_phi_trans, 1);
+                    r11_7_8_copyload43 = r5_0;
+                    r11_641_8_copyload42 = 0;
+                    r11_3_8_copyload40 = 1;
+                    r43 = 0;
+dfu_formats_images_ihex_spelled_exit:
+                    memcpy(r11_6, r11_6_8_r46_sroa_idx, 3);
+                    memcpy(r11_8, r11_8_8_r46_sroa_idx, 256);
+                    if (!r43) goto arm_2;
+                    *r5_2 = r11_3_8_copyload40;
+                    memcpy(r12_3_0_r5_sroa_idx, r11_6, 3);
+                    store32(r12_4_0_r5_sroa_idx, r11_641_8_copyload42);
+                    store64(r12_5_0_r5_sroa_idx, r11_7_8_copyload43);
+                    memcpy(r12_6_0_r5_sroa_idx, r11_8, 256);
                     r4_2 = load64(r3_2);
-                    v2 = (uint8_t)r12_3_8_copyload_pre;
-                    v3 = r12_3_8_copyload_pre >> 16;
-                    v5 = (uint8_t)(r12_3_8_copyload_pre >> 24);
                     if (r4_2 == 0) {
-                        r15_6_0 = 3;
+                        r13_6_0_0 = 3;
                         goto arm_6;
                     }
-                    r50 = (size_t)(r12_3_8_copyload_pre & 255);
+                    r50 = (size_t)r11_3_8_copyload40;
                     if (r4_2 != (uint64_t)(r50 + 5)) {
-                        r15_6_0 = 3;
+                        r13_6_0_0 = 3;
                         goto arm_6;
                     }
-                    uint32_t r76 = dfu_formats_images_digits_sum_of(r5_2, (size_t)r4_2);
-                    if ((r76 & 255) != 0) {
-                        r15_6_0 = 4;
+                    r4_0 = 0;
+                    r3_0 = 0;
+                    while (r4_0 != r4_2) {
+                        uint8_t r24 = r5_2[(size_t)r4_0];
+                        r4_0 = r4_0 + 1;
+                        r3_0 = r3_0 + (uint32_t)r24;
+                    }
+                    if ((r3_0 & 255) != 0) {
+                        r13_6_0_0 = 4;
                         goto arm_6;
                     }
-                    store_size(r19_4_0_r8_sroa_idx, wide_1543);
-                    store_size(r19_5_0_r8_sroa_idx, r50);
+                    r107 = *r12_3_0_r5_sroa_idx;
+                    r115 = *r113;
+                    uint8_t r124 = *r122;
+                    store_size(r17_4_0_r8_sroa_idx, wide_1543);
+                    store_size(r17_5_0_r8_sroa_idx, r50);
                     memset(r3_3, 0, 104);
-                    switch (v5) {
+                    switch (r124) {
                     case 0: {
+                        size_t r13_6_0_0_2 = ((size_t)r107 << 8) | (size_t)r115;
                         memset(r20_9, 0, 48);
                         memset(r20_15, 0, 6);
-                        size_t r35 = (size_t)((v3 & 255) | (r12_3_8_copyload_pre & 0xff00U));
-                        r38 = (uint64_t)r4_6_0 + (uint64_t)r35;
-                        if (((r4_7_0 & 1) ? ((r35 + r50) > 0x10000U) : 0) ? 1 : ((r38 + (uint64_t)r50) > 0x100000000ULL)) {
+                        r38 = (uint64_t)r13_6_0_0_2 + (uint64_t)r4_6_0;
+                        if (((r4_7_0 & 1) ? ((r13_6_0_0_2 + r50) > 0x10000U) : 0) ? 1 : ((r38 + (uint64_t)r50) > 0x100000000ULL)) {
                             store32(r29, r4_0_0_0);
                             store32(r9_0_12_0_r29_sroa_idx, r4_0_6_0);
                             store64(r9_0_13_0_r29_sroa_idx, r4_0_7_0);
@@ -1508,7 +1499,6 @@ int32_t dfu_image_take(const uint8_t *file, size_t length, uint32_t format, uint
                             store32(r63, 7);
                             store32(r9_0_12_0_r63_sroa_idx, 0);
                             store64(r9_0_13_0_r63_sroa_idx, r5_0);
-                            memset(r9_0_14_0_r63_sroa_idx, 0, 80);
                         }
                         else {
                             store32(r18, r4_0_0_0);
@@ -1520,13 +1510,13 @@ int32_t dfu_image_take(const uint8_t *file, size_t length, uint32_t format, uint
                             store64(r3_5_0_r18_sroa_idx, r4_0_8_13_0);
                             store64(r3_6_0_r18_sroa_idx, r4_0_8_17_0);
                             store64(r3_7_0_r18_sroa_idx, r4_0_8_20_0);
-                            dfu_formats_images_gathering_Gathering_add(r17, r18, r5_0, r38, r13_3_0_r5_sroa_idx, r50, a7);
+                            dfu_formats_images_gathering_Gathering_add(r17, r18, r5_0, r38, r12_4_0_r5_sroa_idx, r50, a7);
                             r77 = *r17;
                             if (r77 != 0) {
-                                uint8_t r113 = *r78;
+                                uint8_t r113_2 = *r78;
                                 uint32_t r6_3_4_copyload = load32(r116);
                                 uint64_t r6_5_8_copyload = load64(r118);
-                                r20_4_0 = (uint32_t)r113;
+                                r20_4_0 = (uint32_t)r113_2;
                                 r20_7_0 = r6_3_4_copyload;
                                 r20_8_0 = r6_5_8_copyload;
                                 r20_95_0 = 0;
@@ -1565,7 +1555,7 @@ int32_t dfu_image_take(const uint8_t *file, size_t length, uint32_t format, uint
                         goto dfu_formats_images_lines_line_read_exit;
                     }
                     case 1:
-                        if (v2 == 0) {
+                        if (r11_3_8_copyload40 == 0) {
                             store32(r63, r4_0_0_0);
                             store32(r9_0_12_0_r63_sroa_idx, r4_0_6_0);
                             store64(r9_0_13_0_r63_sroa_idx, r4_0_7_0);
@@ -1614,7 +1604,7 @@ int32_t dfu_image_take(const uint8_t *file, size_t length, uint32_t format, uint
                         goto dfu_formats_images_lines_line_read_exit;
                     case 3:
                     case 5:
-                        if (v2 == 4) {
+                        if (r11_3_8_copyload40 == 4) {
                             store32(r63, r4_0_0_0);
                             store32(r9_0_12_0_r63_sroa_idx, r4_0_6_0);
                             store64(r9_0_13_0_r63_sroa_idx, r4_0_7_0);
@@ -1660,9 +1650,9 @@ int32_t dfu_image_take(const uint8_t *file, size_t length, uint32_t format, uint
                     }
 dfu_formats_images_lines_line_read_exit:;
                     uint8_t r82 = *r3_3;
-                    uint32_t r0_7_8_copyload80 = load32(r63);
-                    uint32_t r0_13_8_copyload83 = load32(r9_0_12_0_r63_sroa_idx);
-                    uint64_t r0_15_8_copyload86 = load64(r9_0_13_0_r63_sroa_idx);
+                    uint32_t r0_7_8_copyload57 = load32(r63);
+                    uint32_t r0_13_8_copyload60 = load32(r9_0_12_0_r63_sroa_idx);
+                    uint64_t r0_15_8_copyload63 = load64(r9_0_13_0_r63_sroa_idx);
                     uint64_t r0_17_0_0_0_copyload = load64(r9_0_14_0_r63_sroa_idx);
                     uint64_t r0_17_0_5_0_copyload = load64(r9_0_14_12_0_r9_0_14_0_r63_sroa_idx_sroa_idx);
                     size_t r0_17_5_0_copyload = load_size(r16_0_3_0_r63_sroa_idx);
@@ -1676,9 +1666,9 @@ dfu_formats_images_lines_line_read_exit:;
                     uint8_t r0_17_14_0_copyload = *r11_7_0_r54_sroa_idx;
                     uint64_t r0_17_15_0_copyload = load48a2(r11_8_0_r54_sroa_idx);
                     if (r82 != 0) {
-                        r0_21_0 = r0_15_8_copyload86;
-                        r0_17_0 = r0_13_8_copyload83;
-                        r0_9_0 = r0_7_8_copyload80;
+                        r0_21_0 = r0_15_8_copyload63;
+                        r0_17_0 = r0_13_8_copyload60;
+                        r0_9_0 = r0_7_8_copyload57;
                         goto arm_4_loopexit;
                     }
                     r15_52_1172 = r0_17_15_0_copyload;
@@ -1693,9 +1683,9 @@ dfu_formats_images_lines_line_read_exit:;
                     r15_26_1163 = r0_17_5_0_copyload;
                     r15_24_1162 = r0_17_0_5_0_copyload;
                     r15_20_1161 = r0_17_0_0_0_copyload;
-                    r15_15_0160 = r0_15_8_copyload86;
-                    r15_10_0159 = r0_13_8_copyload83;
-                    r15_5_6_0_0158_in_in = r0_7_8_copyload80;
+                    r15_15_0160 = r0_15_8_copyload63;
+                    r15_10_0159 = r0_13_8_copyload60;
+                    r15_5_6_0_0158_in_in = r0_7_8_copyload57;
                 }
                 if (r37 != 1) goto arm_8;
                 r4_0_8_0_0 = r15_20_1161;
@@ -1753,11 +1743,11 @@ arm_8:
                 r36_2 = r36_pre;
                 goto dfu_formats_images_ihex_read_exit;
             }
-            store32(r23, r15_5_6_0_0158_in_in);
-            store32(r23 + 4, r15_10_0159);
-            store64(r23 + 8, r15_15_0160);
-            store64(r23 + 16, r15_20_1161);
-            std_alloc_vec_Vec_drop(r23, a7);
+            store32(r23_2, r15_5_6_0_0158_in_in);
+            store32(r23_2 + 4, r15_10_0159);
+            store64(r23_2 + 8, r15_15_0160);
+            store64(r23_2 + 16, r15_20_1161);
+            std_alloc_vec_Vec_drop(r23_2, a7);
             if (r15_30_1165 == 0) {
                 r6_5_0_0 = 9;
                 r6_10_0 = 0;
@@ -1777,56 +1767,53 @@ arm_8:
             r6_14_0 = 0;
             goto arm_2_2;
 arm_6:
-            store32(r25, r4_0_0_0);
-            store32(r9_0_12_0_r25_sroa_idx, r4_0_6_0);
-            store64(r9_0_13_0_r25_sroa_idx, r4_0_7_0);
-            store64(r9_0_14_0_r25_sroa_idx, r4_0_8_0_0);
-            std_alloc_vec_Vec_drop(r25, a7);
+            store32(r23, r4_0_0_0);
+            store32(r9_0_12_0_r23_sroa_idx, r4_0_6_0);
+            store64(r9_0_13_0_r23_sroa_idx, r4_0_7_0);
+            store64(r9_0_14_0_r23_sroa_idx, r4_0_8_0_0);
+            std_alloc_vec_Vec_drop(r23, a7);
             if (r4_0_8_17_0 == 0) {
-                r0_9_0_2 = r15_6_0;
+                r0_9_0_2 = r13_6_0_0;
                 r0_17_0_2 = 0;
                 r0_21_0_2 = r5_0;
                 goto dfu_formats_images_lines_line_read_exit_thread222;
             }
             r1_6 = load64(r3);
             if ((unsigned char *)((uintptr_t)a7 + (uintptr_t)(size_t)r1_6) != (unsigned char *)(uintptr_t)r4_0_8_9_0) {
-                r0_9_0_2 = r15_6_0;
+                r0_9_0_2 = r13_6_0_0;
                 r0_17_0_2 = 0;
                 r0_21_0_2 = r5_0;
                 goto dfu_formats_images_lines_line_read_exit_thread222;
             }
             store64(a7, r1_6);
-            r0_9_0_2 = r15_6_0;
+            r0_9_0_2 = r13_6_0_0;
             r0_17_0_2 = 0;
             r0_21_0_2 = r5_0;
             goto dfu_formats_images_lines_line_read_exit_thread222;
-dfu_formats_images_ihex_spelled_exit_thread:
-            r12_3_8_copyload = 1;
-            r12_5_8_copyload = 0;
-            r12_6_8_copyload = r5_0;
 arm_2:
-            store32(r23_2, r4_0_0_0);
-            store32(r9_0_12_0_r23_sroa_idx, r4_0_6_0);
-            store64(r9_0_13_0_r23_sroa_idx, r4_0_7_0);
-            store64(r9_0_14_0_r23_sroa_idx, r4_0_8_0_0);
-            std_alloc_vec_Vec_drop(r23_2, a7);
+            r32_2 = (uint32_t)r11_3_8_copyload40;
+            store32(r21, r4_0_0_0);
+            store32(r9_0_12_0_r21_sroa_idx, r4_0_6_0);
+            store64(r9_0_13_0_r21_sroa_idx, r4_0_7_0);
+            store64(r9_0_14_0_r21_sroa_idx, r4_0_8_0_0);
+            std_alloc_vec_Vec_drop(r21, a7);
             if (r4_0_8_17_0 == 0) {
-                r0_9_0_2 = r12_3_8_copyload;
-                r0_17_0_2 = r12_5_8_copyload;
-                r0_21_0_2 = r12_6_8_copyload;
+                r0_9_0_2 = r32_2;
+                r0_17_0_2 = r11_641_8_copyload42;
+                r0_21_0_2 = r11_7_8_copyload43;
             }
             else {
                 r1_7 = load64(r3);
                 if ((unsigned char *)((uintptr_t)a7 + (uintptr_t)(size_t)r1_7) != (unsigned char *)(uintptr_t)r4_0_8_9_0) {
-                    r0_9_0_2 = r12_3_8_copyload;
-                    r0_17_0_2 = r12_5_8_copyload;
-                    r0_21_0_2 = r12_6_8_copyload;
+                    r0_9_0_2 = r32_2;
+                    r0_17_0_2 = r11_641_8_copyload42;
+                    r0_21_0_2 = r11_7_8_copyload43;
                 }
                 else {
                     store64(a7, r1_7);
-                    r0_9_0_2 = r12_3_8_copyload;
-                    r0_17_0_2 = r12_5_8_copyload;
-                    r0_21_0_2 = r12_6_8_copyload;
+                    r0_9_0_2 = r32_2;
+                    r0_17_0_2 = r11_641_8_copyload42;
+                    r0_21_0_2 = r11_7_8_copyload43;
                 }
             }
 dfu_formats_images_lines_line_read_exit_thread222:
@@ -1854,14 +1841,7 @@ dfu_formats_images_ihex_read_exit:
         }
         case 2: {
             r2_4_01_2 = umin32(a3, 256);
-            memset(r30, 0, 24);
-            memset(r31, 0, 24);
-            memset(r32, 0, 24);
-            memset(r8_3, 0, 32);
-            memset(r9_2, 0, 64);
             struct ptr_i64 r13_4 = dfu_formats_images_text_unmarked(r5, a1);
-            memset(r13_5, 0, 40);
-            memset(r23_3, 0, 24);
             size_t wide_1086_2 = (size_t)(uintptr_t)r2;
             r7_3_0_r13_sroa_idx_2 = r13_5 + 8;
             r36_3 = r13_5 + 16;
@@ -1870,24 +1850,24 @@ dfu_formats_images_ihex_read_exit:
             r69 = r19 + 8;
             r81 = r19 + 12;
             r83 = r19 + 16;
-            r13_3_0_r5_sroa_idx_2 = r5_3 + 4;
-            r13_4_0_r5_sroa_idx_2 = r5_3 + 8;
-            r13_5_0_r5_sroa_idx_2 = r5_3 + 16;
+            r12_3_0_r5_sroa_idx_2 = r5_3 + 4;
+            r12_4_0_r5_sroa_idx_2 = r5_3 + 8;
+            r12_5_0_r5_sroa_idx_2 = r5_3 + 16;
             r3_4 = r5_3 + 272;
             r16_2 = r5_3 + 9;
-            r26_0_7_0_r31_sroa_idx = r31_2 + 4;
-            r26_0_10_0_r31_sroa_idx = r31_2 + 8;
-            r26_0_13_0_r31_sroa_idx = r31_2 + 16;
-            r20_5_0_r21_sroa_idx = r21_2 + 4;
-            r20_7_0_r21_sroa_idx = r21_2 + 8;
-            r20_9_0_r21_sroa_idx = r21_2 + 16;
-            r20_5_0_r23_sroa_idx = r23_4 + 4;
-            r20_7_0_r23_sroa_idx = r23_4 + 8;
-            r20_9_0_r23_sroa_idx = r23_4 + 16;
-            r22_0_4_0_r12_sroa_idx = r12_2 + 4;
-            r22_0_5_0_r12_sroa_idx = r12_2 + 8;
-            r22_0_6_0_r12_sroa_idx = r12_2 + 16;
-            r22_0_7_0_r12_sroa_idx = r12_2 + 24;
+            r24_0_7_0_r29_sroa_idx = r29_2 + 4;
+            r24_0_10_0_r29_sroa_idx = r29_2 + 8;
+            r24_0_13_0_r29_sroa_idx = r29_2 + 16;
+            r20_5_0_r21_sroa_idx = r21_3 + 4;
+            r20_7_0_r21_sroa_idx = r21_3 + 8;
+            r20_9_0_r21_sroa_idx = r21_3 + 16;
+            r20_5_0_r23_sroa_idx = r23_3 + 4;
+            r20_7_0_r23_sroa_idx = r23_3 + 8;
+            r20_9_0_r23_sroa_idx = r23_3 + 16;
+            r20_0_4_0_r12_sroa_idx = r12_2 + 4;
+            r20_0_5_0_r12_sroa_idx = r12_2 + 8;
+            r20_0_6_0_r12_sroa_idx = r12_2 + 16;
+            r20_0_7_0_r12_sroa_idx = r12_2 + 24;
             r2_0_4_0_r12_sroa_idx = r12_2 + 32;
             r2_0_5_0_r12_sroa_idx = r12_2 + 40;
             r2_0_6_0_r12_sroa_idx = r12_2 + 48;
@@ -1901,15 +1881,15 @@ dfu_formats_images_ihex_read_exit:
             r14_9_7_0_r3_5_0_r59_sroa_idx_sroa_idx = r11_2 + 48;
             r14_9_8_0_r3_5_0_r59_sroa_idx_sroa_idx = r11_2 + 56;
             r14_9_9_0_r3_5_0_r59_sroa_idx_sroa_idx = r11_2 + 64;
-            r22_0_4_0_r22_sroa_idx = r22_2 + 4;
-            r22_0_5_0_r22_sroa_idx = r22_2 + 8;
-            r22_0_6_0_r22_sroa_idx = r22_2 + 16;
-            r26_0_7_0_r29_sroa_idx = r29_2 + 4;
-            r26_0_10_0_r29_sroa_idx = r29_2 + 8;
-            r26_0_13_0_r29_sroa_idx = r29_2 + 16;
-            r26_0_7_0_r27_sroa_idx = r27 + 4;
-            r26_0_10_0_r27_sroa_idx = r27 + 8;
-            r26_0_13_0_r27_sroa_idx = r27 + 16;
+            r20_0_4_0_r22_sroa_idx = r22_2 + 4;
+            r20_0_5_0_r22_sroa_idx = r22_2 + 8;
+            r20_0_6_0_r22_sroa_idx = r22_2 + 16;
+            r24_0_7_0_r27_sroa_idx = r27 + 4;
+            r24_0_10_0_r27_sroa_idx = r27 + 8;
+            r24_0_13_0_r27_sroa_idx = r27 + 16;
+            r24_0_7_0_r25_sroa_idx = r25 + 4;
+            r24_0_10_0_r25_sroa_idx = r25 + 8;
+            r24_0_13_0_r25_sroa_idx = r25 + 16;
             r4_0_8_0_0_2 = 0;
             r4_0_8_6_0_2 = 0;
             r4_0_8_9_0_2 = wide_1086_2;
@@ -1937,37 +1917,50 @@ dfu_formats_images_ihex_read_exit:
                 r46_2 = r44_2.b;
                 uint8_t r16_3 = dfu_formats_images_lines_is_blank_line(r45_2, r46_2);
                 if (r16_3) {
-                    r15_49_1176_off0 = r4_11_0_off0;
-                    r15_46_1175_off0 = r4_9_0_off0;
-                    r15_43_1174 = r4_810_0_2;
-                    r15_32_1171 = r4_0_8_20_0_2;
-                    r15_30_1170 = r4_0_8_17_0_2;
-                    r15_28_1169 = r4_0_8_13_0_2;
-                    r15_26_1168 = r4_0_8_9_0_2;
-                    r15_24_1167 = r4_0_8_6_0_2;
-                    r15_20_1166 = r4_0_8_0_0_2;
-                    r15_15_0165 = r4_0_7_0_2;
-                    r15_10_0164 = r4_0_6_0_2;
-                    r15_5_6_0_0163_in_in = r4_0_0_0_2;
+                    r15_49_1170_off0 = r4_11_0_off0;
+                    r15_46_1169_off0 = r4_9_0_off0;
+                    r15_43_1168 = r4_810_0_2;
+                    r15_32_1165 = r4_0_8_20_0_2;
+                    r15_30_1164 = r4_0_8_17_0_2;
+                    r15_28_1163 = r4_0_8_13_0_2;
+                    r15_26_1162 = r4_0_8_9_0_2;
+                    r15_24_1161 = r4_0_8_6_0_2;
+                    r15_20_1160 = r4_0_8_0_0_2;
+                    r15_15_0159 = r4_0_7_0_2;
+                    r15_10_0158 = r4_0_6_0_2;
+                    r15_5_6_0_0157_in_in = r4_0_0_0_2;
                 }
                 else {
                     if (r4_11_0_off0) break;
-                    memset(r19, 0, 280);
-                    if (r46_2 < 2) goto dfu_formats_images_srec_line_spelled_exit_thread;
+                    if (r46_2 < 2) {
+                        r7_9_0 = r5_0_2;
+                        r7_7_0 = 0;
+                        r7_4_0 = 1;
+                        goto arm_2_3;
+                    }
                     uint8_t r34 = *r45_2;
-                    if (r34 != 83) goto dfu_formats_images_srec_line_spelled_exit_thread;
+                    if (r34 != 83) {
+                        r7_9_0 = r5_0_2;
+                        r7_7_0 = 0;
+                        r7_4_0 = 1;
+                        goto arm_2_3;
+                    }
                     r49 = r45_2[1];
-                    v10 = (uint8_t)(r49 + 208);
-                    if (v10 >= 10) goto dfu_formats_images_srec_line_spelled_exit_thread;
+                    v6 = (uint8_t)(r49 + 208);
+                    if (v6 >= 10) {
+                        r7_9_0 = r5_0_2;
+                        r7_7_0 = 0;
+                        r7_4_0 = 1;
+                        goto arm_2_3;
+                    }
                     dfu_formats_images_digits_bytes_at(r19, r5_0_2, r45_2 + 2, r46_2 - 2);
                     uint8_t r68 = *r19;
                     if (r68 != 0) goto dfu_formats_images_srec_line_spelled_exit;
                     r5_0_0_copyload_2 = load64(r69);
-                    memcpy(r12_9, r83, 264);
-                    store32(r5_3, (uint32_t)v10);
-                    store32(r13_3_0_r5_sroa_idx_2, 0);
-                    store64(r13_4_0_r5_sroa_idx_2, r5_0_0_copyload_2);
-                    memcpy(r13_5_0_r5_sroa_idx_2, r12_9, 264);
+                    memcpy(r12_5_0_r5_sroa_idx_2, r83, 264);
+                    store32(r5_3, (uint32_t)v6);
+                    store32(r12_3_0_r5_sroa_idx_2, 0);
+                    store64(r12_4_0_r5_sroa_idx_2, r5_0_0_copyload_2);
                     r4_3 = load64(r3_4);
                     switch_tableidx = (uint8_t)(r49 + 206);
                     if (switch_tableidx >= 7) r1_0 = 2;
@@ -1976,127 +1969,133 @@ dfu_formats_images_ihex_read_exit:
                         r1_0 = switch_load;
                     }
                     if (r4_3 == 0) {
-                        r15_5_0 = 3;
+                        r13_5_0_0 = 3;
                         goto arm_6_2;
                     }
                     if (r4_3 != (uint64_t)(((size_t)r5_0_0_copyload_2 & 255) + 1)) {
-                        r15_5_0 = 3;
+                        r13_5_0_0 = 3;
                         goto arm_6_2;
                     }
                     r71 = r1_0 + 2;
                     if (r4_3 < (uint64_t)r71) {
-                        r15_5_0 = 3;
+                        r13_5_0_0 = 3;
                         goto arm_6_2;
                     }
-                    uint32_t r96 = dfu_formats_images_digits_sum_of(r13_4_0_r5_sroa_idx_2, (size_t)r4_3);
-                    if ((r96 & 255) != 255) {
-                        r15_5_0 = 4;
+                    r4_0_2 = 0;
+                    r3_0_2 = 0;
+                    while (r4_0_2 != r4_3) {
+                        uint8_t r24_2 = r12_4_0_r5_sroa_idx_2[(size_t)r4_0_2];
+                        r4_0_2 = r4_0_2 + 1;
+                        r3_0_2 = r3_0_2 + (uint32_t)r24_2;
+                    }
+                    if ((r3_0_2 & 255) != 255) {
+                        r13_5_0_0 = 4;
                         goto arm_6_2;
                     }
-                    r4_0 = 0;
-                    r3_0 = 0;
-                    while (r4_0 != r1_0) {
-                        uint8_t r27_2 = r16_2[r4_0];
-                        r4_0 = r4_0 + 1;
-                        r3_0 = (r3_0 << 8) | (uint64_t)(size_t)r27_2;
+                    r4_0_3 = 0;
+                    r3_0_3 = 0;
+                    while (r4_0_3 != r1_0) {
+                        uint8_t r27_2 = r16_2[r4_0_3];
+                        r4_0_3 = r4_0_3 + 1;
+                        r3_0_3 = (r3_0_3 << 8) | (uint64_t)(size_t)r27_2;
                     }
-                    r16_4 = (r13_4_0_r5_sroa_idx_2 + r1_0) + 1;
-                    r137 = (size_t)r4_3 - r71;
+                    r16_4 = (r12_4_0_r5_sroa_idx_2 + r1_0) + 1;
+                    r137 = r4_3 - (uint64_t)r71;
                     switch (r49) {
                     case 48:
-                        r15_49_1176_off0 = 0;
-                        r15_46_1175_off0 = r4_9_0_off0;
-                        r15_43_1174 = r4_810_0_2;
-                        r15_32_1171 = r4_0_8_20_0_2;
-                        r15_30_1170 = r4_0_8_17_0_2;
-                        r15_28_1169 = r4_0_8_13_0_2;
-                        r15_26_1168 = r4_0_8_9_0_2;
-                        r15_24_1167 = r4_0_8_6_0_2;
-                        r15_20_1166 = r4_0_8_0_0_2;
-                        r15_15_0165 = r4_0_7_0_2;
-                        r15_10_0164 = r4_0_6_0_2;
-                        r15_5_6_0_0163_in_in = r4_0_0_0_2;
+                        r15_49_1170_off0 = 0;
+                        r15_46_1169_off0 = r4_9_0_off0;
+                        r15_43_1168 = r4_810_0_2;
+                        r15_32_1165 = r4_0_8_20_0_2;
+                        r15_30_1164 = r4_0_8_17_0_2;
+                        r15_28_1163 = r4_0_8_13_0_2;
+                        r15_26_1162 = r4_0_8_9_0_2;
+                        r15_24_1161 = r4_0_8_6_0_2;
+                        r15_20_1160 = r4_0_8_0_0_2;
+                        r15_15_0159 = r4_0_7_0_2;
+                        r15_10_0158 = r4_0_6_0_2;
+                        r15_5_6_0_0157_in_in = r4_0_0_0_2;
                         break;
                     case 52: goto arm_9;
                     default:
-                        if (v10 < 4) {
-                            if ((r3_0 + (uint64_t)r137) > 0x100000000ULL) {
+                        if (v6 < 4) {
+                            if ((r3_0_3 + r137) > 0x100000000ULL) {
                                 store32(r22_2, r4_0_0_0_2);
-                                store32(r22_0_4_0_r22_sroa_idx, r4_0_6_0_2);
-                                store64(r22_0_5_0_r22_sroa_idx, r4_0_7_0_2);
-                                store64(r22_0_6_0_r22_sroa_idx, r4_0_8_0_0_2);
+                                store32(r20_0_4_0_r22_sroa_idx, r4_0_6_0_2);
+                                store64(r20_0_5_0_r22_sroa_idx, r4_0_7_0_2);
+                                store64(r20_0_6_0_r22_sroa_idx, r4_0_8_0_0_2);
                                 std_alloc_vec_Vec_drop(r22_2, a7);
                                 if (r4_0_8_17_0_2 == 0) {
-                                    r18_0_0_1 = 1;
-                                    r18_10_1 = 7;
-                                    r18_19_1 = 0;
-                                    r18_26_1 = r5_0_2;
-                                    r18_33_1 = 0;
-                                    r18_39_1 = 0;
-                                    r18_41_1 = 0;
-                                    r18_43_1 = 0;
-                                    r18_45_1 = 0;
-                                    r18_47_1 = 0;
-                                    r18_58_1 = 0;
+                                    r16_0_0_1 = 1;
+                                    r16_10_1 = 7;
+                                    r16_19_1 = 0;
+                                    r16_27_1 = r5_0_2;
+                                    r16_35_1 = 0;
+                                    r16_42_1 = 0;
+                                    r16_44_1 = 0;
+                                    r16_46_1 = 0;
+                                    r16_48_1 = 0;
+                                    r16_50_1 = 0;
+                                    r16_61_1 = 0;
                                 }
                                 else {
                                     r1_8 = load64(r3);
                                     if ((unsigned char *)((uintptr_t)a7 + (uintptr_t)(size_t)r1_8) != (unsigned char *)(uintptr_t)r4_0_8_9_0_2) {
-                                        r18_0_0_1 = 1;
-                                        r18_10_1 = 7;
-                                        r18_19_1 = 0;
-                                        r18_26_1 = r5_0_2;
-                                        r18_33_1 = 0;
-                                        r18_39_1 = 0;
-                                        r18_41_1 = 0;
-                                        r18_43_1 = 0;
-                                        r18_45_1 = 0;
-                                        r18_47_1 = 0;
-                                        r18_58_1 = 0;
+                                        r16_0_0_1 = 1;
+                                        r16_10_1 = 7;
+                                        r16_19_1 = 0;
+                                        r16_27_1 = r5_0_2;
+                                        r16_35_1 = 0;
+                                        r16_42_1 = 0;
+                                        r16_44_1 = 0;
+                                        r16_46_1 = 0;
+                                        r16_48_1 = 0;
+                                        r16_50_1 = 0;
+                                        r16_61_1 = 0;
                                     }
                                     else {
                                         store64(a7, r1_8);
-                                        r18_0_0_1 = 1;
-                                        r18_10_1 = 7;
-                                        r18_19_1 = 0;
-                                        r18_26_1 = r5_0_2;
-                                        r18_33_1 = 0;
-                                        r18_39_1 = 0;
-                                        r18_41_1 = 0;
-                                        r18_43_1 = 0;
-                                        r18_45_1 = 0;
-                                        r18_47_1 = 0;
-                                        r18_58_1 = 0;
+                                        r16_0_0_1 = 1;
+                                        r16_10_1 = 7;
+                                        r16_19_1 = 0;
+                                        r16_27_1 = r5_0_2;
+                                        r16_35_1 = 0;
+                                        r16_42_1 = 0;
+                                        r16_44_1 = 0;
+                                        r16_46_1 = 0;
+                                        r16_48_1 = 0;
+                                        r16_50_1 = 0;
+                                        r16_61_1 = 0;
                                     }
                                 }
                             }
                             else {
                                 store32(r12_2, r4_0_0_0_2);
-                                store32(r22_0_4_0_r12_sroa_idx, r4_0_6_0_2);
-                                store64(r22_0_5_0_r12_sroa_idx, r4_0_7_0_2);
-                                store64(r22_0_6_0_r12_sroa_idx, r4_0_8_0_0_2);
-                                store64(r22_0_7_0_r12_sroa_idx, r4_0_8_6_0_2);
+                                store32(r20_0_4_0_r12_sroa_idx, r4_0_6_0_2);
+                                store64(r20_0_5_0_r12_sroa_idx, r4_0_7_0_2);
+                                store64(r20_0_6_0_r12_sroa_idx, r4_0_8_0_0_2);
+                                store64(r20_0_7_0_r12_sroa_idx, r4_0_8_6_0_2);
                                 store_size(r2_0_4_0_r12_sroa_idx, r4_0_8_9_0_2);
                                 store64(r2_0_5_0_r12_sroa_idx, r4_0_8_13_0_2);
                                 store64(r2_0_6_0_r12_sroa_idx, r4_0_8_17_0_2);
                                 store64(r2_0_7_0_r12_sroa_idx, r4_0_8_20_0_2);
-                                dfu_formats_images_gathering_Gathering_add(r11_2, r12_2, r5_0_2, r3_0, r16_4, r137, a7);
+                                dfu_formats_images_gathering_Gathering_add(r11_2, r12_2, r5_0_2, r3_0_3, r16_4, r137, a7);
                                 r58 = *r11_2;
                                 if (r58 != 0) {
                                     uint8_t r89 = *r59;
                                     uint32_t r4_3_4_copyload = load32(r92);
                                     uint64_t r4_5_8_copyload = load64(r94);
-                                    r18_0_0_1 = r58;
-                                    r18_10_1 = (uint32_t)r89;
-                                    r18_19_1 = r4_3_4_copyload;
-                                    r18_26_1 = r4_5_8_copyload;
-                                    r18_33_1 = 0;
-                                    r18_39_1 = 0;
-                                    r18_41_1 = 0;
-                                    r18_43_1 = 0;
-                                    r18_45_1 = 0;
-                                    r18_47_1 = 0;
-                                    r18_58_1 = 0;
+                                    r16_0_0_1 = r58;
+                                    r16_10_1 = (uint32_t)r89;
+                                    r16_19_1 = r4_3_4_copyload;
+                                    r16_27_1 = r4_5_8_copyload;
+                                    r16_35_1 = 0;
+                                    r16_42_1 = 0;
+                                    r16_44_1 = 0;
+                                    r16_46_1 = 0;
+                                    r16_48_1 = 0;
+                                    r16_50_1 = 0;
+                                    r16_61_1 = 0;
                                 }
                                 else {
                                     uint32_t r3_0_0_copyload = load32(r59);
@@ -2108,228 +2107,228 @@ dfu_formats_images_ihex_read_exit:
                                     uint64_t r14_9_7_0_copyload = load64(r14_9_7_0_r3_5_0_r59_sroa_idx_sroa_idx);
                                     uint64_t r14_9_8_0_copyload = load64(r14_9_8_0_r3_5_0_r59_sroa_idx_sroa_idx);
                                     uint64_t r14_9_9_0_copyload = load64(r14_9_9_0_r3_5_0_r59_sroa_idx_sroa_idx);
-                                    r18_0_0_1 = 0;
-                                    r18_10_1 = r3_0_0_copyload;
-                                    r18_19_1 = r3_3_0_copyload;
-                                    r18_26_1 = r3_4_0_copyload;
-                                    r18_33_1 = r14_9_0_0_copyload;
-                                    r18_39_1 = r14_9_5_0_copyload;
-                                    r18_41_1 = r14_9_6_0_copyload;
-                                    r18_43_1 = r14_9_7_0_copyload;
-                                    r18_45_1 = r14_9_8_0_copyload;
-                                    r18_47_1 = r14_9_9_0_copyload;
-                                    r18_58_1 = r4_810_0_2 + 1;
+                                    r16_0_0_1 = 0;
+                                    r16_10_1 = r3_0_0_copyload;
+                                    r16_19_1 = r3_3_0_copyload;
+                                    r16_27_1 = r3_4_0_copyload;
+                                    r16_35_1 = r14_9_0_0_copyload;
+                                    r16_42_1 = r14_9_5_0_copyload;
+                                    r16_44_1 = r14_9_6_0_copyload;
+                                    r16_46_1 = r14_9_7_0_copyload;
+                                    r16_48_1 = r14_9_8_0_copyload;
+                                    r16_50_1 = r14_9_9_0_copyload;
+                                    r16_61_1 = r4_810_0_2 + 1;
                                 }
                             }
-                            r18_0_0_0 = r18_0_0_1;
-                            r18_10_0 = r18_10_1;
-                            r18_19_0 = r18_19_1;
-                            r18_26_0 = r18_26_1;
-                            r18_33_0 = r18_33_1;
-                            r18_39_0 = r18_39_1;
-                            r18_41_0 = r18_41_1;
-                            r18_43_0 = r18_43_1;
-                            r18_45_0 = r18_45_1;
-                            r18_47_0 = r18_47_1;
-                            r18_58_0 = r18_58_1;
-                            r18_61_0_off0 = 0;
-                            r18_64_0_off0 = 0;
+                            r16_0_0_0 = r16_0_0_1;
+                            r16_10_0 = r16_10_1;
+                            r16_19_0 = r16_19_1;
+                            r16_27_0 = r16_27_1;
+                            r16_35_0 = r16_35_1;
+                            r16_42_0 = r16_42_1;
+                            r16_44_0 = r16_44_1;
+                            r16_46_0 = r16_46_1;
+                            r16_48_0 = r16_48_1;
+                            r16_50_0 = r16_50_1;
+                            r16_61_0 = r16_61_1;
+                            r16_64_0_off0 = 0;
+                            r16_67_0_off0 = 0;
                         }
                         else {
                             if (r4_3 != (uint64_t)r71) {
-                                store32(r21_2, r4_0_0_0_2);
+                                store32(r21_3, r4_0_0_0_2);
                                 store32(r20_5_0_r21_sroa_idx, r4_0_6_0_2);
                                 store64(r20_7_0_r21_sroa_idx, r4_0_7_0_2);
                                 store64(r20_9_0_r21_sroa_idx, r4_0_8_0_0_2);
-                                std_alloc_vec_Vec_drop(r21_2, a7);
+                                std_alloc_vec_Vec_drop(r21_3, a7);
                                 if (r4_0_8_17_0_2 == 0) {
-                                    r18_0_0_2 = 1;
-                                    r18_10_2 = 3;
-                                    r18_19_2 = 0;
-                                    r18_26_2 = r5_0_2;
-                                    r18_33_2 = 0;
-                                    r18_39_2 = 0;
-                                    r18_41_2 = 0;
-                                    r18_43_2 = 0;
-                                    r18_45_2 = 0;
-                                    r18_47_2 = 0;
-                                    r18_58_2 = 0;
-                                    r18_61_2_off0 = 0;
-                                    r18_64_2_off0 = 0;
+                                    r16_0_0_2 = 1;
+                                    r16_10_2 = 3;
+                                    r16_19_2 = 0;
+                                    r16_27_2 = r5_0_2;
+                                    r16_35_2 = 0;
+                                    r16_42_2 = 0;
+                                    r16_44_2 = 0;
+                                    r16_46_2 = 0;
+                                    r16_48_2 = 0;
+                                    r16_50_2 = 0;
+                                    r16_61_2 = 0;
+                                    r16_64_2_off0 = 0;
+                                    r16_67_2_off0 = 0;
                                 }
                                 else {
                                     r1_10 = load64(r3);
                                     if ((unsigned char *)((uintptr_t)a7 + (uintptr_t)(size_t)r1_10) != (unsigned char *)(uintptr_t)r4_0_8_9_0_2) {
-                                        r18_0_0_2 = 1;
-                                        r18_10_2 = 3;
-                                        r18_19_2 = 0;
-                                        r18_26_2 = r5_0_2;
-                                        r18_33_2 = 0;
-                                        r18_39_2 = 0;
-                                        r18_41_2 = 0;
-                                        r18_43_2 = 0;
-                                        r18_45_2 = 0;
-                                        r18_47_2 = 0;
-                                        r18_58_2 = 0;
-                                        r18_61_2_off0 = 0;
-                                        r18_64_2_off0 = 0;
+                                        r16_0_0_2 = 1;
+                                        r16_10_2 = 3;
+                                        r16_19_2 = 0;
+                                        r16_27_2 = r5_0_2;
+                                        r16_35_2 = 0;
+                                        r16_42_2 = 0;
+                                        r16_44_2 = 0;
+                                        r16_46_2 = 0;
+                                        r16_48_2 = 0;
+                                        r16_50_2 = 0;
+                                        r16_61_2 = 0;
+                                        r16_64_2_off0 = 0;
+                                        r16_67_2_off0 = 0;
                                     }
                                     else {
                                         store64(a7, r1_10);
-                                        r18_0_0_2 = 1;
-                                        r18_10_2 = 3;
-                                        r18_19_2 = 0;
-                                        r18_26_2 = r5_0_2;
-                                        r18_33_2 = 0;
-                                        r18_39_2 = 0;
-                                        r18_41_2 = 0;
-                                        r18_43_2 = 0;
-                                        r18_45_2 = 0;
-                                        r18_47_2 = 0;
-                                        r18_58_2 = 0;
-                                        r18_61_2_off0 = 0;
-                                        r18_64_2_off0 = 0;
+                                        r16_0_0_2 = 1;
+                                        r16_10_2 = 3;
+                                        r16_19_2 = 0;
+                                        r16_27_2 = r5_0_2;
+                                        r16_35_2 = 0;
+                                        r16_42_2 = 0;
+                                        r16_44_2 = 0;
+                                        r16_46_2 = 0;
+                                        r16_48_2 = 0;
+                                        r16_50_2 = 0;
+                                        r16_61_2 = 0;
+                                        r16_64_2_off0 = 0;
+                                        r16_67_2_off0 = 0;
                                     }
                                 }
                             }
                             else {
-                                if (v10 > 6) {
-                                    r18_0_0_2 = 0;
-                                    r18_10_2 = r4_0_0_0_2;
-                                    r18_19_2 = r4_0_6_0_2;
-                                    r18_26_2 = r4_0_7_0_2;
-                                    r18_33_2 = r4_0_8_0_0_2;
-                                    r18_39_2 = r4_0_8_6_0_2;
-                                    r18_41_2 = r4_0_8_9_0_2;
-                                    r18_43_2 = r4_0_8_13_0_2;
-                                    r18_45_2 = r4_0_8_17_0_2;
-                                    r18_47_2 = r4_0_8_20_0_2;
-                                    r18_58_2 = r4_810_0_2;
-                                    r18_61_2_off0 = 1;
-                                    r18_64_2_off0 = 1;
+                                if (v6 > 6) {
+                                    r16_0_0_2 = 0;
+                                    r16_10_2 = r4_0_0_0_2;
+                                    r16_19_2 = r4_0_6_0_2;
+                                    r16_27_2 = r4_0_7_0_2;
+                                    r16_35_2 = r4_0_8_0_0_2;
+                                    r16_42_2 = r4_0_8_6_0_2;
+                                    r16_44_2 = r4_0_8_9_0_2;
+                                    r16_46_2 = r4_0_8_13_0_2;
+                                    r16_48_2 = r4_0_8_17_0_2;
+                                    r16_50_2 = r4_0_8_20_0_2;
+                                    r16_61_2 = r4_810_0_2;
+                                    r16_64_2_off0 = 1;
+                                    r16_67_2_off0 = 1;
                                 }
                                 else {
-                                    if (r3_0 == r4_810_0_2) {
-                                        r18_0_0_2 = 0;
-                                        r18_10_2 = r4_0_0_0_2;
-                                        r18_19_2 = r4_0_6_0_2;
-                                        r18_26_2 = r4_0_7_0_2;
-                                        r18_33_2 = r4_0_8_0_0_2;
-                                        r18_39_2 = r4_0_8_6_0_2;
-                                        r18_41_2 = r4_0_8_9_0_2;
-                                        r18_43_2 = r4_0_8_13_0_2;
-                                        r18_45_2 = r4_0_8_17_0_2;
-                                        r18_47_2 = r4_0_8_20_0_2;
-                                        r18_58_2 = r4_810_0_2;
-                                        r18_61_2_off0 = 1;
-                                        r18_64_2_off0 = 0;
+                                    if (r3_0_3 == r4_810_0_2) {
+                                        r16_0_0_2 = 0;
+                                        r16_10_2 = r4_0_0_0_2;
+                                        r16_19_2 = r4_0_6_0_2;
+                                        r16_27_2 = r4_0_7_0_2;
+                                        r16_35_2 = r4_0_8_0_0_2;
+                                        r16_42_2 = r4_0_8_6_0_2;
+                                        r16_44_2 = r4_0_8_9_0_2;
+                                        r16_46_2 = r4_0_8_13_0_2;
+                                        r16_48_2 = r4_0_8_17_0_2;
+                                        r16_50_2 = r4_0_8_20_0_2;
+                                        r16_61_2 = r4_810_0_2;
+                                        r16_64_2_off0 = 1;
+                                        r16_67_2_off0 = 0;
                                     }
                                     else {
-                                        store32(r23_4, r4_0_0_0_2);
+                                        store32(r23_3, r4_0_0_0_2);
                                         store32(r20_5_0_r23_sroa_idx, r4_0_6_0_2);
                                         store64(r20_7_0_r23_sroa_idx, r4_0_7_0_2);
                                         store64(r20_9_0_r23_sroa_idx, r4_0_8_0_0_2);
-                                        std_alloc_vec_Vec_drop(r23_4, a7);
+                                        std_alloc_vec_Vec_drop(r23_3, a7);
                                         if (r4_0_8_17_0_2 == 0) {
-                                            r18_0_0_2 = 1;
-                                            r18_10_2 = 6;
-                                            r18_19_2 = 0;
-                                            r18_26_2 = r5_0_2;
-                                            r18_33_2 = 0;
-                                            r18_39_2 = 0;
-                                            r18_41_2 = 0;
-                                            r18_43_2 = 0;
-                                            r18_45_2 = 0;
-                                            r18_47_2 = 0;
-                                            r18_58_2 = 0;
-                                            r18_61_2_off0 = 0;
-                                            r18_64_2_off0 = 0;
+                                            r16_0_0_2 = 1;
+                                            r16_10_2 = 6;
+                                            r16_19_2 = 0;
+                                            r16_27_2 = r5_0_2;
+                                            r16_35_2 = 0;
+                                            r16_42_2 = 0;
+                                            r16_44_2 = 0;
+                                            r16_46_2 = 0;
+                                            r16_48_2 = 0;
+                                            r16_50_2 = 0;
+                                            r16_61_2 = 0;
+                                            r16_64_2_off0 = 0;
+                                            r16_67_2_off0 = 0;
                                         }
                                         else {
                                             r1_9 = load64(r3);
                                             if ((unsigned char *)((uintptr_t)a7 + (uintptr_t)(size_t)r1_9) != (unsigned char *)(uintptr_t)r4_0_8_9_0_2) {
-                                                r18_0_0_2 = 1;
-                                                r18_10_2 = 6;
-                                                r18_19_2 = 0;
-                                                r18_26_2 = r5_0_2;
-                                                r18_33_2 = 0;
-                                                r18_39_2 = 0;
-                                                r18_41_2 = 0;
-                                                r18_43_2 = 0;
-                                                r18_45_2 = 0;
-                                                r18_47_2 = 0;
-                                                r18_58_2 = 0;
-                                                r18_61_2_off0 = 0;
-                                                r18_64_2_off0 = 0;
+                                                r16_0_0_2 = 1;
+                                                r16_10_2 = 6;
+                                                r16_19_2 = 0;
+                                                r16_27_2 = r5_0_2;
+                                                r16_35_2 = 0;
+                                                r16_42_2 = 0;
+                                                r16_44_2 = 0;
+                                                r16_46_2 = 0;
+                                                r16_48_2 = 0;
+                                                r16_50_2 = 0;
+                                                r16_61_2 = 0;
+                                                r16_64_2_off0 = 0;
+                                                r16_67_2_off0 = 0;
                                             }
                                             else {
                                                 store64(a7, r1_9);
-                                                r18_0_0_2 = 1;
-                                                r18_10_2 = 6;
-                                                r18_19_2 = 0;
-                                                r18_26_2 = r5_0_2;
-                                                r18_33_2 = 0;
-                                                r18_39_2 = 0;
-                                                r18_41_2 = 0;
-                                                r18_43_2 = 0;
-                                                r18_45_2 = 0;
-                                                r18_47_2 = 0;
-                                                r18_58_2 = 0;
-                                                r18_61_2_off0 = 0;
-                                                r18_64_2_off0 = 0;
+                                                r16_0_0_2 = 1;
+                                                r16_10_2 = 6;
+                                                r16_19_2 = 0;
+                                                r16_27_2 = r5_0_2;
+                                                r16_35_2 = 0;
+                                                r16_42_2 = 0;
+                                                r16_44_2 = 0;
+                                                r16_46_2 = 0;
+                                                r16_48_2 = 0;
+                                                r16_50_2 = 0;
+                                                r16_61_2 = 0;
+                                                r16_64_2_off0 = 0;
+                                                r16_67_2_off0 = 0;
                                             }
                                         }
                                     }
                                 }
                             }
-                            r18_0_0_0 = r18_0_0_2;
-                            r18_10_0 = r18_10_2;
-                            r18_19_0 = r18_19_2;
-                            r18_26_0 = r18_26_2;
-                            r18_33_0 = r18_33_2;
-                            r18_39_0 = r18_39_2;
-                            r18_41_0 = r18_41_2;
-                            r18_43_0 = r18_43_2;
-                            r18_45_0 = r18_45_2;
-                            r18_47_0 = r18_47_2;
-                            r18_58_0 = r18_58_2;
-                            r18_61_0_off0 = r18_61_2_off0;
-                            r18_64_0_off0 = r18_64_2_off0;
+                            r16_0_0_0 = r16_0_0_2;
+                            r16_10_0 = r16_10_2;
+                            r16_19_0 = r16_19_2;
+                            r16_27_0 = r16_27_2;
+                            r16_35_0 = r16_35_2;
+                            r16_42_0 = r16_42_2;
+                            r16_44_0 = r16_44_2;
+                            r16_46_0 = r16_46_2;
+                            r16_48_0 = r16_48_2;
+                            r16_50_0 = r16_50_2;
+                            r16_61_0 = r16_61_2;
+                            r16_64_0_off0 = r16_64_2_off0;
+                            r16_67_0_off0 = r16_67_2_off0;
                         }
-                        if (r18_0_0_0 != 0) {
-                            r0_22_0 = r18_26_0;
-                            r0_17_0_3 = r18_19_0;
-                            r0_9_0_3 = r18_10_0;
+                        if (r16_0_0_0 != 0) {
+                            r0_22_0 = r16_27_0;
+                            r0_17_0_3 = r16_19_0;
+                            r0_9_0_3 = r16_10_0;
                             goto arm_4_loopexit_2;
                         }
-                        r15_49_1176_off0 = r18_64_0_off0;
-                        r15_46_1175_off0 = r18_61_0_off0;
-                        r15_43_1174 = r18_58_0;
-                        r15_32_1171 = r18_47_0;
-                        r15_30_1170 = r18_45_0;
-                        r15_28_1169 = r18_43_0;
-                        r15_26_1168 = r18_41_0;
-                        r15_24_1167 = r18_39_0;
-                        r15_20_1166 = r18_33_0;
-                        r15_15_0165 = r18_26_0;
-                        r15_10_0164 = r18_19_0;
-                        r15_5_6_0_0163_in_in = r18_10_0;
+                        r15_49_1170_off0 = r16_67_0_off0;
+                        r15_46_1169_off0 = r16_64_0_off0;
+                        r15_43_1168 = r16_61_0;
+                        r15_32_1165 = r16_50_0;
+                        r15_30_1164 = r16_48_0;
+                        r15_28_1163 = r16_46_0;
+                        r15_26_1162 = r16_44_0;
+                        r15_24_1161 = r16_42_0;
+                        r15_20_1160 = r16_35_0;
+                        r15_15_0159 = r16_27_0;
+                        r15_10_0158 = r16_19_0;
+                        r15_5_6_0_0157_in_in = r16_10_0;
                         break;
                     }
                 }
                 if (r37_2 != 1) goto arm_8_2;
-                r4_0_8_0_0_2 = r15_20_1166;
-                r4_0_8_6_0_2 = r15_24_1167;
-                r4_0_8_9_0_2 = r15_26_1168;
-                r4_0_8_13_0_2 = r15_28_1169;
-                r4_0_8_17_0_2 = r15_30_1170;
-                r4_0_8_20_0_2 = r15_32_1171;
-                r4_0_0_0_2 = r15_5_6_0_0163_in_in;
-                r4_0_6_0_2 = r15_10_0164;
-                r4_0_7_0_2 = r15_15_0165;
-                r4_810_0_2 = r15_43_1174;
-                r4_9_0_off0 = r15_46_1175_off0;
-                r4_11_0_off0 = r15_49_1176_off0;
+                r4_0_8_0_0_2 = r15_20_1160;
+                r4_0_8_6_0_2 = r15_24_1161;
+                r4_0_8_9_0_2 = r15_26_1162;
+                r4_0_8_13_0_2 = r15_28_1163;
+                r4_0_8_17_0_2 = r15_30_1164;
+                r4_0_8_20_0_2 = r15_32_1165;
+                r4_0_0_0_2 = r15_5_6_0_0157_in_in;
+                r4_0_6_0_2 = r15_10_0158;
+                r4_0_7_0_2 = r15_15_0159;
+                r4_810_0_2 = r15_43_1168;
+                r4_9_0_off0 = r15_46_1169_off0;
+                r4_11_0_off0 = r15_49_1170_off0;
                 r5_0_2 = r5_0_2 + 1;
                 r6_0_0_2 = r8_3_0_0_copyload_2;
                 r6_4_0_2 = r8_3_3_0_copyload_2;
@@ -2346,17 +2345,17 @@ dfu_formats_images_ihex_read_exit:
             r6_5_0_0_2 = 8;
             r6_10_0_2 = 0;
             r6_14_0_2 = r5_0_2;
-            goto arm_2_3;
+            goto arm_2_4;
 arm_8_2:
-            if (r15_46_1175_off0) {
-                store32(r9_2, r15_5_6_0_0163_in_in);
-                store32(r9_2 + 4, r15_10_0164);
-                store64(r9_2 + 8, r15_15_0165);
-                store64(r9_2 + 16, r15_20_1166);
-                store_size(r9_2 + 24, (size_t)r15_24_1167);
-                store_size(r9_2 + 32, r15_26_1168);
-                store64(r9_2 + 40, r15_28_1169);
-                store64(r9_2 + 48, r15_30_1170);
+            if (r15_46_1169_off0) {
+                store32(r9_2, r15_5_6_0_0157_in_in);
+                store32(r9_2 + 4, r15_10_0158);
+                store64(r9_2 + 8, r15_15_0159);
+                store64(r9_2 + 16, r15_20_1160);
+                store_size(r9_2 + 24, (size_t)r15_24_1161);
+                store_size(r9_2 + 32, r15_26_1162);
+                store64(r9_2 + 40, r15_28_1163);
+                store64(r9_2 + 48, r15_30_1164);
                 dfu_formats_images_gathering_Gathering_finish(r8_3, r9_2, a7);
                 uint8_t r36_pre_2 = *r8_3;
                 uint32_t r0_3_0_0_copyload_pre_2 = load32(r8_3 + 8);
@@ -2370,35 +2369,35 @@ arm_8_2:
                 r36_4 = r36_pre_2;
                 goto dfu_formats_images_srec_read_exit;
             }
-            store32(r23_3, r15_5_6_0_0163_in_in);
-            store32(r23_3 + 4, r15_10_0164);
-            store64(r23_3 + 8, r15_15_0165);
-            store64(r23_3 + 16, r15_20_1166);
-            std_alloc_vec_Vec_drop(r23_3, a7);
-            if (r15_30_1170 == 0) {
+            store32(r23_4, r15_5_6_0_0157_in_in);
+            store32(r23_4 + 4, r15_10_0158);
+            store64(r23_4 + 8, r15_15_0159);
+            store64(r23_4 + 16, r15_20_1160);
+            std_alloc_vec_Vec_drop(r23_4, a7);
+            if (r15_30_1164 == 0) {
                 r6_5_0_0_2 = 9;
                 r6_10_0_2 = 0;
                 r6_14_0_2 = 0;
-                goto arm_2_3;
+                goto arm_2_4;
             }
             r1_12 = load64(r3);
-            if ((unsigned char *)((uintptr_t)a7 + (uintptr_t)(size_t)r1_12) != (unsigned char *)(uintptr_t)r15_26_1168) {
+            if ((unsigned char *)((uintptr_t)a7 + (uintptr_t)(size_t)r1_12) != (unsigned char *)(uintptr_t)r15_26_1162) {
                 r6_5_0_0_2 = 9;
                 r6_10_0_2 = 0;
                 r6_14_0_2 = 0;
-                goto arm_2_3;
+                goto arm_2_4;
             }
             store64(a7, r1_12);
             r6_5_0_0_2 = 9;
             r6_10_0_2 = 0;
             r6_14_0_2 = 0;
-            goto arm_2_3;
+            goto arm_2_4;
 arm_9:
-            store32(r31_2, r4_0_0_0_2);
-            store32(r26_0_7_0_r31_sroa_idx, r4_0_6_0_2);
-            store64(r26_0_10_0_r31_sroa_idx, r4_0_7_0_2);
-            store64(r26_0_13_0_r31_sroa_idx, r4_0_8_0_0_2);
-            std_alloc_vec_Vec_drop(r31_2, a7);
+            store32(r29_2, r4_0_0_0_2);
+            store32(r24_0_7_0_r29_sroa_idx, r4_0_6_0_2);
+            store64(r24_0_10_0_r29_sroa_idx, r4_0_7_0_2);
+            store64(r24_0_13_0_r29_sroa_idx, r4_0_8_0_0_2);
+            std_alloc_vec_Vec_drop(r29_2, a7);
             if (r4_0_8_17_0_2 != 0) {
                 r1_13 = load64(r3);
                 if ((unsigned char *)((uintptr_t)a7 + (uintptr_t)(size_t)r1_13) == (unsigned char *)(uintptr_t)r4_0_8_9_0_2) store64(a7, r1_13);
@@ -2408,26 +2407,26 @@ arm_9:
             r0_9_0_3 = 5;
             goto arm_4_loopexit_2;
 arm_6_2:
-            store32(r29_2, r4_0_0_0_2);
-            store32(r26_0_7_0_r29_sroa_idx, r4_0_6_0_2);
-            store64(r26_0_10_0_r29_sroa_idx, r4_0_7_0_2);
-            store64(r26_0_13_0_r29_sroa_idx, r4_0_8_0_0_2);
-            std_alloc_vec_Vec_drop(r29_2, a7);
+            store32(r27, r4_0_0_0_2);
+            store32(r24_0_7_0_r27_sroa_idx, r4_0_6_0_2);
+            store64(r24_0_10_0_r27_sroa_idx, r4_0_7_0_2);
+            store64(r24_0_13_0_r27_sroa_idx, r4_0_8_0_0_2);
+            std_alloc_vec_Vec_drop(r27, a7);
             if (r4_0_8_17_0_2 == 0) {
-                r0_9_0_4 = r15_5_0;
+                r0_9_0_4 = r13_5_0_0;
                 r0_17_0_4 = 0;
                 r0_22_0_2 = r5_0_2;
                 goto dfu_formats_images_lines_line_read_exit_thread;
             }
             r1_14 = load64(r3);
             if ((unsigned char *)((uintptr_t)a7 + (uintptr_t)(size_t)r1_14) != (unsigned char *)(uintptr_t)r4_0_8_9_0_2) {
-                r0_9_0_4 = r15_5_0;
+                r0_9_0_4 = r13_5_0_0;
                 r0_17_0_4 = 0;
                 r0_22_0_2 = r5_0_2;
                 goto dfu_formats_images_lines_line_read_exit_thread;
             }
             store64(a7, r1_14);
-            r0_9_0_4 = r15_5_0;
+            r0_9_0_4 = r13_5_0_0;
             r0_17_0_4 = 0;
             r0_22_0_2 = r5_0_2;
             goto dfu_formats_images_lines_line_read_exit_thread;
@@ -2438,17 +2437,12 @@ dfu_formats_images_srec_line_spelled_exit:;
             r7_9_0 = r6_5_8_copyload_2;
             r7_7_0 = r6_3_4_copyload_2;
             r7_4_0 = (uint32_t)r78_2;
-            goto arm_2_critedge;
-dfu_formats_images_srec_line_spelled_exit_thread:
-            r7_9_0 = r5_0_2;
-            r7_7_0 = 0;
-            r7_4_0 = 1;
-arm_2_critedge:
-            store32(r27, r4_0_0_0_2);
-            store32(r26_0_7_0_r27_sroa_idx, r4_0_6_0_2);
-            store64(r26_0_10_0_r27_sroa_idx, r4_0_7_0_2);
-            store64(r26_0_13_0_r27_sroa_idx, r4_0_8_0_0_2);
-            std_alloc_vec_Vec_drop(r27, a7);
+arm_2_3:
+            store32(r25, r4_0_0_0_2);
+            store32(r24_0_7_0_r25_sroa_idx, r4_0_6_0_2);
+            store64(r24_0_10_0_r25_sroa_idx, r4_0_7_0_2);
+            store64(r24_0_13_0_r25_sroa_idx, r4_0_8_0_0_2);
+            std_alloc_vec_Vec_drop(r25, a7);
             if (r4_0_8_17_0_2 == 0) {
                 r0_9_0_4 = r7_4_0;
                 r0_17_0_4 = r7_7_0;
@@ -2476,7 +2470,7 @@ arm_4_loopexit_2:
             r6_5_0_0_2 = r0_9_0_3 & 255;
             r6_10_0_2 = r0_17_0_3;
             r6_14_0_2 = r0_22_0;
-arm_2_3:
+arm_2_4:
             r0_3_7_0_copyload_2 = 0;
             r0_3_6_0_copyload_2 = r6_14_0_2;
             r0_3_5_0_copyload_2 = r6_10_0_2;
@@ -2493,9 +2487,6 @@ dfu_formats_images_srec_read_exit:
         }
         case 3: {
             r2_4_01_3 = umin32(a3, 256);
-            memset(r30, 0, 24);
-            memset(r31, 0, 24);
-            memset(r32, 0, 24);
             if (!((a1 != 0) & ((a1 & 511) == 0))) {
                 r21_0_0 = 0xffffff8fU;
                 r21_71_0 = 0;
@@ -2504,22 +2495,20 @@ dfu_formats_images_srec_read_exit:
             }
             r529 = a1 >> 9;
             uint32_t r14_2 = load32u(r5 + 8);
-            if ((r14_2 & 8192) == 0) r4_0_2 = 0;
+            if ((r14_2 & 8192) == 0) r4_0_4 = 0;
             else {
                 uint32_t r14_3 = load32u(r5 + 28);
-                r4_0_2 = r14_3;
+                r4_0_4 = r14_3;
             }
-            memset(r7, 0, 32);
-            memset(r8_4, 0, 64);
             size_t wide_1086_3 = (size_t)(uintptr_t)r2;
-            r15_0_10_0_r24_sroa_idx = r24 + 8;
-            r15_0_11_0_r24_sroa_idx = r24 + 16;
-            r15_0_10_0_r21_sroa_idx = r21_3 + 8;
-            r15_0_11_0_r21_sroa_idx = r21_3 + 16;
-            r2_7_0_r21_sroa_idx = r21_3 + 32;
-            r2_10_0_r21_sroa_idx = r21_3 + 40;
-            r2_13_0_r21_sroa_idx = r21_3 + 48;
-            r2_16_0_r21_sroa_idx = r21_3 + 56;
+            r15_0_10_0_r24_sroa_idx = r24_3 + 8;
+            r15_0_11_0_r24_sroa_idx = r24_3 + 16;
+            r15_0_10_0_r21_sroa_idx = r21_4 + 8;
+            r15_0_11_0_r21_sroa_idx = r21_4 + 16;
+            r2_7_0_r21_sroa_idx = r21_4 + 32;
+            r2_10_0_r21_sroa_idx = r21_4 + 40;
+            r2_13_0_r21_sroa_idx = r21_4 + 48;
+            r2_16_0_r21_sroa_idx = r21_4 + 56;
             r131 = r0 + 8;
             r0_25_8_r131_sroa_idx = r0 + 12;
             r0_28_8_r131_sroa_idx = r0 + 16;
@@ -2532,7 +2521,7 @@ dfu_formats_images_srec_read_exit:
             r15_0_11_0_r26_sroa_idx = r26 + 16;
             r15_0_10_0_r22_sroa_idx = r22_3 + 8;
             r15_0_11_0_r22_sroa_idx = r22_3 + 16;
-            r15_0_11_10_0_r15_0_11_0_r21_sroa_idx_sroa_idx = r21_3 + 24;
+            r15_0_11_10_0_r15_0_11_0_r21_sroa_idx_sroa_idx = r21_4 + 24;
             r0_31_0_9_0_r0_31_8_r131_sroa_idx_sroa_idx = r0 + 32;
             r14_22_0_0_0 = 0;
             r14_22_0_6_0 = 0;
@@ -2560,7 +2549,6 @@ dfu_formats_images_srec_read_exit:
                 if (r6_0 != (size_t)r14_8) goto join_11;
                 uint32_t r14_9 = load32u(r5_0_0_in + 24);
                 if (r529 != (size_t)r14_9) goto join_11;
-                memset(r0, 0, 72);
                 r14_10 = load32u(r5_0_0_in + 8);
                 if ((r14_10 & 1) != 0) {
                     r0_28_0 = r4_7_0_2;
@@ -2575,17 +2563,17 @@ dfu_formats_images_srec_read_exit:
                 }
                 else {
                     if ((r14_10 & 4096) != 0) goto then_4_2;
-                    if ((r14_10 & 8192) == 0) r4_0_3 = 0;
+                    if ((r14_10 & 8192) == 0) r4_0_5 = 0;
                     else {
                         uint32_t r14_11 = load32u(r5_0_0_in + 28);
-                        r4_0_3 = r14_11;
+                        r4_0_5 = r14_11;
                     }
-                    if (r4_0_3 != r4_0_2) goto then_7;
+                    if (r4_0_5 != r4_0_4) goto then_7;
                     uint32_t r14_12 = load32u(r5_0_0_in + 12);
                     r87 = (size_t)r14_12;
                     r93 = (size_t)r14_7;
                     if (((uint64_t)r87 + (uint64_t)r93) > 0x100000000ULL) goto then_10;
-                    store64(r21_3, r4_0_0_0_4);
+                    store64(r21_4, r4_0_0_0_4);
                     store64(r15_0_10_0_r21_sroa_idx, r4_7_0_2);
                     store64(r15_0_11_0_r21_sroa_idx, r14_22_0_0_0);
                     store64(r15_0_11_10_0_r15_0_11_0_r21_sroa_idx_sroa_idx, r14_22_0_6_0);
@@ -2593,7 +2581,7 @@ dfu_formats_images_srec_read_exit:
                     store64(r2_10_0_r21_sroa_idx, r4_14_0);
                     store64(r2_13_0_r21_sroa_idx, r4_16_0);
                     store64(r2_16_0_r21_sroa_idx, r4_17_0);
-                    dfu_formats_images_gathering_Gathering_add(r0, r21_3, r6_0, r87, r5_0_0_in + 32, r93, a7);
+                    dfu_formats_images_gathering_Gathering_add(r0, r21_4, r6_0, r87, r5_0_0_in + 32, r93, a7);
                     uint8_t r128 = *r0;
                     uint32_t r0_13_8_copyload56 = load32(r131);
                     uint32_t r0_25_8_copyload64 = load32(r0_25_8_r131_sroa_idx);
@@ -2608,7 +2596,7 @@ dfu_formats_images_srec_read_exit:
                         r14_17_0109 = r0_28_8_copyload72;
                         r14_12_0108 = r0_25_8_copyload64;
                         r14_6_0_0107 = r0_13_8_copyload56;
-                        goto arm_2_4;
+                        goto arm_2_5;
                     }
                     r0_28_0 = r0_28_8_copyload72;
                     r0_25_0 = r0_25_8_copyload64;
@@ -2658,17 +2646,17 @@ then_4:
             store64(r20_2 + 16, r14_22_0_0_0);
             std_alloc_vec_Vec_drop(r20_2, a7);
             if (r4_16_0 == 0) {
-                r14_6_0_0 = 12;
-                goto dfu_formats_images_uf2_BlocksByPart_part_read_exit_thread;
+                r14_6_0_0107_2 = 12;
+                goto arm_2_gvnsink_split;
             }
-            r1_16 = load64(r3);
+            uint64_t r1_16 = load64(r3);
             if ((unsigned char *)((uintptr_t)a7 + (uintptr_t)(size_t)r1_16) != (unsigned char *)(uintptr_t)r4_12_0) {
-                r14_6_0_0 = 12;
-                goto dfu_formats_images_uf2_BlocksByPart_part_read_exit_thread;
+                r14_6_0_0107_2 = 12;
+                goto arm_2_gvnsink_split;
             }
-            store64(a7, r1_16);
+            r1_sink = r1_16;
             r14_6_0_0 = 12;
-            goto dfu_formats_images_uf2_BlocksByPart_part_read_exit_thread;
+            goto dfu_formats_images_uf2_BlocksByPart_part_read_exit_thread_gvnsink_split;
 then_10:
             store_size(r26, r4_0_0_0_4);
             store64(r15_0_10_0_r26_sroa_idx, r4_7_0_2);
@@ -2678,86 +2666,94 @@ then_10:
                 r0_13_0_2 = 19;
                 goto dfu_formats_images_uf2_BlocksByPart_part_read_exit_thread218;
             }
-            r1_17 = load64(r3);
+            uint64_t r1_17 = load64(r3);
             if ((unsigned char *)((uintptr_t)a7 + (uintptr_t)(size_t)r1_17) != (unsigned char *)(uintptr_t)r4_12_0) {
                 r0_13_0_2 = 19;
                 goto dfu_formats_images_uf2_BlocksByPart_part_read_exit_thread218;
             }
-            store64(a7, r1_17);
-            r0_13_0_2 = 19;
-            goto dfu_formats_images_uf2_BlocksByPart_part_read_exit_thread218;
+            r1_sink_2 = r1_17;
+            r0_13_0_3 = 19;
+            goto dfu_formats_images_uf2_BlocksByPart_part_read_exit_thread218_gvnsink_split;
 then_7:
-            store_size(r24, r4_0_0_0_4);
+            store_size(r24_3, r4_0_0_0_4);
             store64(r15_0_10_0_r24_sroa_idx, r4_7_0_2);
             store64(r15_0_11_0_r24_sroa_idx, r14_22_0_0_0);
-            std_alloc_vec_Vec_drop(r24, a7);
+            std_alloc_vec_Vec_drop(r24_3, a7);
             if (r4_16_0 == 0) {
                 r0_13_0_2 = 15;
                 goto dfu_formats_images_uf2_BlocksByPart_part_read_exit_thread218;
             }
-            r1_18 = load64(r3);
+            uint64_t r1_18 = load64(r3);
             if ((unsigned char *)((uintptr_t)a7 + (uintptr_t)(size_t)r1_18) != (unsigned char *)(uintptr_t)r4_12_0) {
                 r0_13_0_2 = 15;
                 goto dfu_formats_images_uf2_BlocksByPart_part_read_exit_thread218;
             }
-            store64(a7, r1_18);
-            r0_13_0_2 = 15;
-            goto dfu_formats_images_uf2_BlocksByPart_part_read_exit_thread218;
+            r1_sink_2 = r1_18;
+            r0_13_0_3 = 15;
+            goto dfu_formats_images_uf2_BlocksByPart_part_read_exit_thread218_gvnsink_split;
 then_4_2:
             store_size(r22_3, r4_0_0_0_4);
             store64(r15_0_10_0_r22_sroa_idx, r4_7_0_2);
             store64(r15_0_11_0_r22_sroa_idx, r14_22_0_0_0);
             std_alloc_vec_Vec_drop(r22_3, a7);
-            if (r4_16_0 == 0) r0_13_0_2 = 14;
-            else {
-                r1_19 = load64(r3);
-                if ((unsigned char *)((uintptr_t)a7 + (uintptr_t)(size_t)r1_19) != (unsigned char *)(uintptr_t)r4_12_0) r0_13_0_2 = 14;
-                else {
-                    store64(a7, r1_19);
-                    r0_13_0_2 = 14;
-                }
+            if (r4_16_0 == 0) {
+                r0_13_0_2 = 14;
+                goto dfu_formats_images_uf2_BlocksByPart_part_read_exit_thread218;
             }
+            uint64_t r1_19 = load64(r3);
+            if ((unsigned char *)((uintptr_t)a7 + (uintptr_t)(size_t)r1_19) != (unsigned char *)(uintptr_t)r4_12_0) {
+                r0_13_0_2 = 14;
+                goto dfu_formats_images_uf2_BlocksByPart_part_read_exit_thread218;
+            }
+            r1_sink_2 = r1_19;
+            r0_13_0_3 = 14;
+dfu_formats_images_uf2_BlocksByPart_part_read_exit_thread218_gvnsink_split:
+            store64(a7, r1_sink_2);
+            r0_13_0_2 = r0_13_0_3;
 dfu_formats_images_uf2_BlocksByPart_part_read_exit_thread218:
-            r14_17_0109 = r6_0;
-            r14_12_0108 = 0;
-            r14_6_0_0107 = r0_13_0_2;
-            goto arm_2_4;
+            r14_6_0_0107_2 = r0_13_0_2;
+            goto arm_2_gvnsink_split;
 join_11:
             store_size(r22_4, r4_0_0_0_4);
             store64(r22_4 + 8, r4_7_0_2);
             store64(r22_4 + 16, r14_22_0_0_0);
             std_alloc_vec_Vec_drop(r22_4, a7);
             if (r4_16_0 == 0) {
-                r14_6_0_0 = 13;
-                goto dfu_formats_images_uf2_BlocksByPart_part_read_exit_thread;
+                r14_6_0_0107_2 = 13;
+                goto arm_2_gvnsink_split;
             }
-            r1_20 = load64(r3);
+            uint64_t r1_20 = load64(r3);
             if ((unsigned char *)((uintptr_t)a7 + (uintptr_t)(size_t)r1_20) != (unsigned char *)(uintptr_t)r4_12_0) {
-                r14_6_0_0 = 13;
-                goto dfu_formats_images_uf2_BlocksByPart_part_read_exit_thread;
+                r14_6_0_0107_2 = 13;
+                goto arm_2_gvnsink_split;
             }
-            store64(a7, r1_20);
+            r1_sink = r1_20;
             r14_6_0_0 = 13;
-            goto dfu_formats_images_uf2_BlocksByPart_part_read_exit_thread;
+            goto dfu_formats_images_uf2_BlocksByPart_part_read_exit_thread_gvnsink_split;
 then_1:
             store_size(r18_2, r4_0_0_0_4);
             store64(r18_2 + 8, r4_7_0_2);
             store64(r18_2 + 16, r14_22_0_0_0);
             std_alloc_vec_Vec_drop(r18_2, a7);
-            if (r4_16_0 == 0) r14_6_0_0 = 11;
-            else {
-                r1_21 = load64(r3);
-                if ((unsigned char *)((uintptr_t)a7 + (uintptr_t)(size_t)r1_21) != (unsigned char *)(uintptr_t)r4_12_0) r14_6_0_0 = 11;
-                else {
-                    store64(a7, r1_21);
-                    r14_6_0_0 = 11;
-                }
+            if (r4_16_0 == 0) {
+                r14_6_0_0107_2 = 11;
+                goto arm_2_gvnsink_split;
             }
-dfu_formats_images_uf2_BlocksByPart_part_read_exit_thread:
+            uint64_t r1_21 = load64(r3);
+            if ((unsigned char *)((uintptr_t)a7 + (uintptr_t)(size_t)r1_21) != (unsigned char *)(uintptr_t)r4_12_0) {
+                r14_6_0_0107_2 = 11;
+                goto arm_2_gvnsink_split;
+            }
+            r1_sink = r1_21;
+            r14_6_0_0 = 11;
+dfu_formats_images_uf2_BlocksByPart_part_read_exit_thread_gvnsink_split:
+            store64(a7, r1_sink);
+            r14_6_0_0107_2 = r14_6_0_0;
+arm_2_gvnsink_split:
             r14_17_0109 = r6_0;
             r14_12_0108 = 0;
-            r14_6_0_0107 = r14_6_0_0;
-arm_2_4:
+            r14_6_0_0107 = r14_6_0_0107_2;
+arm_2_5:
             r0_11_8_copyload18 = 0;
             r0_10_8_copyload16 = r14_17_0109;
             r0_9_8_copyload14 = r14_12_0108;
@@ -2774,10 +2770,6 @@ dfu_formats_images_parts_elements_by_part_exit:
         }
         case 4:
             r2_4_01_4 = umin32(a3, 256);
-            memset(r30, 0, 24);
-            memset(r31, 0, 24);
-            memset(r32, 0, 24);
-            memset(r0_2, 0, 32);
             if (a1 <= 51) {
                 r5_0_0_2 = 1;
                 r5_10_2 = 16;
@@ -2834,15 +2826,15 @@ dfu_formats_images_parts_elements_by_part_exit:
                                     memset(r11_4 + 40, 0, 24);
                                     dfu_formats_images_gathering_Gathering_finish(r0_2, r11_4, a7);
                                     uint8_t r58_2 = *r0_2;
-                                    uint32_t r5_10_8_copyload206 = load32(r0_2 + 8);
-                                    uint32_t r5_19_8_copyload212 = load32(r0_2 + 12);
-                                    uint64_t r5_21_8_copyload218 = load64(r0_2 + 16);
-                                    uint64_t r5_22_8_copyload224 = load64(r0_2 + 24);
+                                    uint32_t r5_10_8_copyload210 = load32(r0_2 + 8);
+                                    uint32_t r5_19_8_copyload216 = load32(r0_2 + 12);
+                                    uint64_t r5_21_8_copyload222 = load64(r0_2 + 16);
+                                    uint64_t r5_22_8_copyload228 = load64(r0_2 + 24);
                                     r5_0_0_2 = r58_2;
-                                    r5_10_2 = r5_10_8_copyload206;
-                                    r5_19_2 = r5_19_8_copyload212;
-                                    r5_21_2 = r5_21_8_copyload218;
-                                    r5_22_2 = r5_22_8_copyload224;
+                                    r5_10_2 = r5_10_8_copyload210;
+                                    r5_19_2 = r5_19_8_copyload216;
+                                    r5_21_2 = r5_21_8_copyload222;
+                                    r5_22_2 = r5_22_8_copyload228;
                                 }
                                 else {
                                     uint32_t r14_15 = load32u(r5 + 28);
@@ -2900,7 +2892,7 @@ dfu_formats_images_parts_elements_by_part_exit:
                                                 r16_6 = r5_0_0_in_2 + 32;
                                                 r4_0_0_0_5 = ((size_t)((uint64_t)(size_t)r4_0_6_0_3 << 32) | (size_t)r4_0_0_0_0) | ((size_t)r4_0_0_5_0_0 << 8);
                                                 uint32_t r14_17 = load32u(r5_0_0_in_2 + 16);
-                                                r35_2 = (size_t)r14_17;
+                                                r35 = (size_t)r14_17;
                                                 uint32_t r14_18 = load32u(r5_0_0_in_2);
                                                 if ((r14_17 == 0) | (r14_18 != 1)) {
                                                     r14_14_0_0_0 = r4_11_0_0;
@@ -2919,8 +2911,8 @@ dfu_formats_images_parts_elements_by_part_exit:
                                                     r63_2 = (size_t)r14_19;
                                                     uint32_t r14_20 = load32u(r5_0_0_in_2 + 12);
                                                     r69_2 = (size_t)r14_20;
-                                                    if ((uint64_t)a1 < ((uint64_t)r63_2 + (uint64_t)r35_2)) goto then_11;
-                                                    if (((uint64_t)r69_2 + (uint64_t)r35_2) > 0x100000000ULL) goto then_14;
+                                                    if ((uint64_t)a1 < ((uint64_t)r63_2 + (uint64_t)r35)) goto then_11;
+                                                    if (((uint64_t)r69_2 + (uint64_t)r35) > 0x100000000ULL) goto then_14;
                                                     store64(r25_2, r4_0_0_0_5);
                                                     store64(r15_0_6_0_r25_sroa_idx, r4_8_0);
                                                     store64(r15_0_7_0_r25_sroa_idx, r4_11_0_0);
@@ -2929,7 +2921,7 @@ dfu_formats_images_parts_elements_by_part_exit:
                                                     store64(r2_8_0_r25_sroa_idx, r4_15_0);
                                                     store64(r2_10_0_r25_sroa_idx, r4_17_0_2);
                                                     store64(r2_12_0_r25_sroa_idx, r4_18_0);
-                                                    dfu_formats_images_gathering_Gathering_add(r0_3, r25_2, r14_13_8_copyload29, r69_2, r5 + r63_2, r35_2, a7);
+                                                    dfu_formats_images_gathering_Gathering_add(r0_3, r25_2, r14_13_8_copyload29, r69_2, r5 + r63_2, r35, a7);
                                                     uint8_t r132 = *r0_3;
                                                     uint8_t r14_6_8_copyload18 = *r135;
                                                     uint32_t r14_12_0_0_copyload = load24u(r14_12_8_r135_sroa_idx);
@@ -2945,7 +2937,7 @@ dfu_formats_images_parts_elements_by_part_exit:
                                                         r14_13_0101 = r14_13_8_copyload27;
                                                         r14_1222_0100 = r14_1222_8_copyload23;
                                                         r14_6_099 = r14_6_8_copyload18;
-                                                        goto arm_2_5;
+                                                        goto arm_2_6;
                                                     }
                                                     r14_14_0_0_0 = r14_14_0_0_0_copyload;
                                                     r14_14_0_6_0 = r14_14_0_6_0_copyload;
@@ -3018,7 +3010,7 @@ dfu_formats_images_elf_SegmentsByPart_part_read_exit_thread:
                                             r14_13_0101 = r14_13_8_copyload29;
                                             r14_1222_0100 = 0;
                                             r14_6_099 = r14_6_0;
-arm_2_5:
+arm_2_6:
                                             store32(r7_2 + 8, (uint32_t)r14_6_099);
                                             store32(r7_2 + 12, r14_1222_0100);
                                             store64(r7_2 + 16, r14_13_0101);
@@ -3026,15 +3018,15 @@ arm_2_5:
 dfu_formats_images_parts_elements_by_part_exit_2:;
                                             unsigned char *r34_2 = r0_2 + 8;
                                             memcpy(r34_2, r7_2 + 8, 24);
-                                            uint32_t r5_10_8_copyload205 = load32(r34_2);
-                                            uint32_t r5_19_8_copyload211 = load32(r0_2 + 12);
-                                            uint64_t r5_21_8_copyload217 = load64(r0_2 + 16);
-                                            uint64_t r5_22_8_copyload223 = load64(r0_2 + 24);
+                                            uint32_t r5_10_8_copyload209 = load32(r34_2);
+                                            uint32_t r5_19_8_copyload215 = load32(r0_2 + 12);
+                                            uint64_t r5_21_8_copyload221 = load64(r0_2 + 16);
+                                            uint64_t r5_22_8_copyload227 = load64(r0_2 + 24);
                                             r5_0_0_2 = r28_2;
-                                            r5_10_2 = r5_10_8_copyload205;
-                                            r5_19_2 = r5_19_8_copyload211;
-                                            r5_21_2 = r5_21_8_copyload217;
-                                            r5_22_2 = r5_22_8_copyload223;
+                                            r5_10_2 = r5_10_8_copyload209;
+                                            r5_19_2 = r5_19_8_copyload215;
+                                            r5_21_2 = r5_21_8_copyload221;
+                                            r5_22_2 = r5_22_8_copyload227;
                                         }
                                     }
                                 }
@@ -3098,18 +3090,17 @@ dfu_formats_images_parts_elements_by_part_exit_2:;
             }
         }
         else {
-            r7_0_0_0_insert108 = (size_t)((uint64_t)(size_t)r5_19_0 << 32) | (size_t)r5_10_0;
+            r7_0_0_0_insert109 = (size_t)((uint64_t)(size_t)r5_19_0 << 32) | (size_t)r5_10_0;
             if (r5_21_0 == 0) {
-                store_size(r30, r7_0_0_0_insert108);
-                store64(r30 + 8, 0);
-                store64(r30 + 16, r5_22_0);
-                std_alloc_vec_Vec_drop(r30, a7);
-                r21_0_0 = 0xffffff82U;
-                r21_71_0 = 0;
-                r21_12_0 = 0;
+                r32_sink53_phi = r32_sink53_gep525;
+                r32_sink53_phi526 = r32_sink53_gep531;
+                r32_sink53 = r30;
+                r21_0_0_2 = 0xffffff82U;
+                r21_71_0_2 = 0;
+                r21_12_0_2 = 0;
             }
             else {
-                r4_5 = (unsigned char *)(uintptr_t)r7_0_0_0_insert108;
+                r4_5 = (unsigned char *)(uintptr_t)r7_0_0_0_insert109;
                 r1_24 = load32(r4_5);
                 r19_3_0_r4_sroa_idx = r4_6 + 8;
                 r19_4_0_r4_sroa_idx = r4_6 + 16;
@@ -3177,7 +3168,7 @@ dfu_formats_images_parts_elements_by_part_exit_2:;
                     r7_0 = r2_3 + (uint64_t)(size_t)r6_3;
                     r8_0 = r8_0 + 1;
                 }
-                store_size(r31, r7_0_0_0_insert108);
+                store_size(r31, r7_0_0_0_insert109);
                 store64(r31 + 8, r5_21_0);
                 store64(r31 + 16, r5_22_0);
                 std_alloc_vec_Vec_drop(r31, a7);
@@ -3202,8 +3193,7 @@ dfu_formats_images_parts_elements_by_part_exit_2:;
                     goto common_ret;
                 }
                 r4_8 = (unsigned char *)(uintptr_t)(((size_t)r1_7_0_0 << 8) | (r6_0_0_3 & 255));
-                store_size(r5_5, (size_t)(uintptr_t)r14);
-                core_slots_Slots_copy_in_i8_core_clone_U8Clone(r5_5, 0, r4_8, r6_5_0);
+                memmove(r14, r4_8, (size_t)r6_5_0);
                 if (r8_14_28 == 0) {
                     common_ret_op = 0;
                     goto common_ret;
@@ -3222,14 +3212,13 @@ join_14:;
                     r1_28 = load64(r3);
                     if ((unsigned char *)((uintptr_t)a7 + (uintptr_t)(size_t)r1_28) == (unsigned char *)(uintptr_t)r6_0_0_3) store64(a7, r1_28);
                 }
-                store_size(r32, r7_0_0_0_insert108);
-                store64(r32 + 8, r5_21_0);
-                store64(r32 + 16, r5_22_0);
-                std_alloc_vec_Vec_drop(r32, a7);
-                r21_0_0 = 0xffffff80U;
-                r21_71_0 = 0;
-                r21_12_0 = 0;
-                goto dfu_image_c_refusals_image_refusal_exit;
+                r32_sink53_phi = r32_sink53_gep;
+                r32_sink53_phi526 = r32_sink53_gep527;
+                r32_sink53 = r32;
+                r21_0_0_2 = 0xffffff80U;
+                r21_71_0_2 = 0;
+                r21_12_0_2 = 0;
+                goto dfu_image_c_refusals_image_refusal_exit_gvnsink_split;
 arm_21:;
                 uint64_t r38_386_0_copyload = load64(r19_4_0_r4_sroa_idx);
                 if (r38_386_0_copyload != 0) {
@@ -3237,14 +3226,13 @@ arm_21:;
                     r1_29 = load64(r3);
                     if ((unsigned char *)((uintptr_t)a7 + (uintptr_t)(size_t)r1_29) == (unsigned char *)(uintptr_t)r38_0_0_copyload) store64(a7, r1_29);
                 }
-                store_size(r32, r7_0_0_0_insert108);
-                store64(r32 + 8, r5_21_0);
-                store64(r32 + 16, r5_22_0);
-                std_alloc_vec_Vec_drop(r32, a7);
-                r21_0_0 = 0xffffff99U;
-                r21_71_0 = 0;
-                r21_12_0 = 0;
-                goto dfu_image_c_refusals_image_refusal_exit;
+                r32_sink53_phi = r32_sink53_gep;
+                r32_sink53_phi526 = r32_sink53_gep527;
+                r32_sink53 = r32;
+                r21_0_0_2 = 0xffffff99U;
+                r21_71_0_2 = 0;
+                r21_12_0_2 = 0;
+                goto dfu_image_c_refusals_image_refusal_exit_gvnsink_split;
 arm_25:;
                 uint64_t r39_385_0_copyload = load64(r19_4_0_r4_sroa_idx);
                 if (r39_385_0_copyload != 0) {
@@ -3252,28 +3240,34 @@ arm_25:;
                     r1_30 = load64(r3);
                     if ((unsigned char *)((uintptr_t)a7 + (uintptr_t)(size_t)r1_30) == (unsigned char *)(uintptr_t)r39_0_0_copyload) store64(a7, r1_30);
                 }
-                store_size(r32, r7_0_0_0_insert108);
-                store64(r32 + 8, r5_21_0);
-                store64(r32 + 16, r5_22_0);
-                std_alloc_vec_Vec_drop(r32, a7);
-                r21_0_0 = 0xffffff99U;
-                r21_71_0 = 0;
-                r21_12_0 = 0;
-                goto dfu_image_c_refusals_image_refusal_exit;
+                r32_sink53_phi = r32_sink53_gep;
+                r32_sink53_phi526 = r32_sink53_gep527;
+                r32_sink53 = r32;
+                r21_0_0_2 = 0xffffff99U;
+                r21_71_0_2 = 0;
+                r21_12_0_2 = 0;
+                goto dfu_image_c_refusals_image_refusal_exit_gvnsink_split;
 then_5:;
                 uint64_t r36_388_0_copyload = load64(r19_4_0_r4_sroa_idx);
                 if (r36_388_0_copyload != 0) {
                     r1_31 = load64(r3);
                     if ((unsigned char *)((uintptr_t)a7 + (uintptr_t)(size_t)r1_31) == (unsigned char *)(uintptr_t)r6_0_0_3) store64(a7, r1_31);
                 }
-                store_size(r32, r7_0_0_0_insert108);
-                store64(r32 + 8, r5_21_0);
-                store64(r32 + 16, r5_22_0);
-                std_alloc_vec_Vec_drop(r32, a7);
-                r21_0_0 = 0xffffff81U;
-                r21_71_0 = r7_0;
-                r21_12_0 = r44_3;
+                r32_sink53_phi = r32_sink53_gep;
+                r32_sink53_phi526 = r32_sink53_gep527;
+                r32_sink53 = r32;
+                r21_0_0_2 = 0xffffff81U;
+                r21_71_0_2 = r7_0;
+                r21_12_0_2 = r44_3;
             }
+dfu_image_c_refusals_image_refusal_exit_gvnsink_split:
+            store_size(r32_sink53, r7_0_0_0_insert109);
+            store64(r32_sink53_phi, r5_21_0);
+            store64(r32_sink53_phi526, r5_22_0);
+            std_alloc_vec_Vec_drop(r32_sink53, a7);
+            r21_0_0 = r21_0_0_2;
+            r21_71_0 = r21_71_0_2;
+            r21_12_0 = r21_12_0_2;
         }
 dfu_image_c_refusals_image_refusal_exit:
         store64(a6, 0);

@@ -8,6 +8,7 @@
 
 /// The body of a `name`: `variant_name!(self, Type: Variant, ..)` is the text of the variant that `self` is, as it is
 /// written, and `variant_name!(self, Type: Variant "text", ..)` the text beside it.
+#[cfg(feature = "host")]
 macro_rules! variant_name {
     ($value:expr, $type:ident: $($variant:ident $(($field:tt))?),+) => {
         match $value {
@@ -21,6 +22,7 @@ macro_rules! variant_name {
     };
 }
 
+#[cfg(feature = "host")]
 pub(crate) use variant_name;
 
 // The body of a `from_byte`: the variant beside the number that the byte is, or else the fault.

@@ -10,7 +10,7 @@ use crate::slots::Unit;
 /// the memory of the block that is not written, and that of the bytes put that are held back, fewer than a unit has.
 #[derive(Clone, Copy, Debug, PartialEq, Eq)]
 pub struct Asking {
-    /// What it is set up with.
+    /// Settings of the device.
     pub config: Config,
     /// The unit in which the flash is written.
     pub unit: Unit,
@@ -18,14 +18,14 @@ pub struct Asking {
     pub sector: Sector,
     /// Its state, with what it keeps there.
     pub mode: DeviceState,
-    /// How many bytes at the front of its memory are the block that is not written.
+    /// Length of the block that is not written, at the front of its memory.
     pub block_len: usize,
-    /// How many bytes at the front of their memory are held back.
+    /// Number of bytes that are held back, at the front of their memory.
     pub held_len: usize,
-    /// Where the puts end in the spare slot.
+    /// Place at which the puts end in the spare slot.
     pub put_end: u32,
-    /// What is noted of the active image.
+    /// Notes of the active image.
     pub noted: Noted,
-    /// What is left to be written of a row, if anything.
+    /// Writes that are left of a row, if any are.
     pub work: Option<PendingWrites>,
 }

@@ -1,19 +1,19 @@
 // Of crates/dfu_asks/src/blank.rt, whose contracts are taken away.
 
-//! Whether the flash reads as if it was never written, so that a program can tell a new board from a damaged one.
+//! Look at a flash that may never have been written, by which a program can tell a new board from a damaged one.
 
 use crate::asks::Mapped;
 use crate::asks::gates::gate_room;
 use crate::slots::is_sized;
 
-// Whether so many bytes from there on are FFh.
+// Returns whether so many bytes from there on are FFh.
 fn is_erased(flash: &[u8], at: usize, len: usize) -> bool {
     flash[at..at + len].iter().all(|byte| *byte == 0xff)
 }
 
 impl<'m> Mapped<'m> {
-    /// Whether the flash reads as if it was never written: true if every byte that the gates and the headers of both slots take up is FFh,
-    /// and then there is no active image; false if one is not. What the data of the slots holds does not matter.
+    /// Returns whether the flash reads as if it was never written: true if every byte that the gates and the headers of both slots take up
+    /// is FFh, and then there is no active image; false if one is not. The data of the slots does not matter.
     ///
     /// None exactly if the flash has not as many bytes as two slots can have.
     pub fn is_blank(&self) -> Option<bool> {

@@ -41,7 +41,7 @@ impl Asking {
         Ok((medium, view))
     }
 
-    // What a setup with its body comes to: the rules before the table, then the table.
+    // Returns the answer to a setup with its body: the rules before the table, then the table.
     fn respond(
         &mut self,
         block: &mut [u8],

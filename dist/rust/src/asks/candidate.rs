@@ -1,6 +1,6 @@
 // Of crates/dfu_asks/src/candidate.rt, whose contracts are taken away.
 
-//! Where a received image that is not in place yet is in the flash of a device that asks.
+//! Place of a received image that is not in place yet, in the flash of a device that asks.
 
 use crate::asks::noted::look;
 use crate::asks::{Asking, Mapped, Refusal};
@@ -8,8 +8,8 @@ use crate::device::Candidate;
 use crate::slots::data_at;
 
 impl Asking {
-    /// Where the received image is, as `Device::candidate`. The bytes after those in the flash are the `held_len` ones that are held
-    /// back.
+    /// Returns the place of the received image, as `Device::candidate`. The bytes after those in the flash are the `held_len` ones that are
+    /// held back.
     ///
     /// # Errors
     ///

@@ -1,13 +1,13 @@
 // Of crates/dfu_asks/src/carry.rt, whose contracts are taken away.
 
-//! What is decided is carried out, or is begun.
+//! Decisions that are carried out, or are begun.
 
 use crate::asks::noted::View;
 use crate::asks::{Asking, Mapped, Reply};
 use crate::device::{Answer, Decision, DeviceState, status_in};
 use crate::slots::read_data;
 
-// How many bytes of a status are asked for.
+// Returns the bytes of a status that are asked for.
 fn wanted(asked: Option<u16>) -> u16 {
     match asked {
         Some(len) => len,

@@ -10,17 +10,17 @@ use crate::slots::{OPEN_GATE, Source};
 /// A search for the next piece of a series of writes, and the piece once it is found.
 #[derive(Clone, Copy, Debug, PartialEq, Eq)]
 pub(crate) struct Cut<'a> {
-    /// What the writes are made of.
+    /// Inputs of the writes.
     pub(crate) stock: WriteInputs<'a>,
-    /// How many bytes are carried out of the writes that were not looked at yet.
+    /// Bytes that are carried out of the writes that were not looked at yet.
     pub(crate) rest: usize,
     /// The header, if one is written.
     pub(crate) front: [u8; 16],
     /// The piece that is found.
     pub(crate) piece: FlashOp,
-    /// What its bytes are, if it programs.
+    /// Source of its bytes, if it programs.
     pub(crate) source: Source,
-    /// How many bytes of that come before it.
+    /// Bytes of the source that come before it.
     pub(crate) from: usize,
 }
 
@@ -47,9 +47,9 @@ struct Runs<'a> {
     front: &'a [u8],
     /// Those after it.
     back: &'a [u8],
-    /// How many come then.
+    /// Number of bytes that come then.
     rest: usize,
-    /// What each of these is.
+    /// Value of each of these.
     pad: u8,
 }
 
@@ -99,7 +99,7 @@ fn runs_of<'a>(cut: &'a Cut<'_>, gate: &'a [u8; 1]) -> Runs<'a> {
     runs_in(front, back, cut.from, len)
 }
 
-// Whether two slices have the same bytes: that is less code than `==`.
+// Returns whether two slices have the same bytes: that is less code than `==`.
 fn are_same(one: &[u8], other: &[u8]) -> bool {
     for i in 0..one.len() {
         if one[i] != other[i] {
@@ -109,7 +109,7 @@ fn are_same(one: &[u8], other: &[u8]) -> bool {
     true
 }
 
-// Whether each byte of a slice is this one.
+// Returns whether each byte of a slice is this one.
 fn are_all(bytes: &[u8], byte: u8) -> bool {
     for i in 0..bytes.len() {
         if bytes[i] != byte {
@@ -120,7 +120,7 @@ fn are_all(bytes: &[u8], byte: u8) -> bool {
 }
 
 impl Runs<'_> {
-    /// Whether these are its bytes.
+    /// Returns whether these are its bytes.
     pub(crate) fn are(self, bytes: &[u8]) -> bool {
         let middle = self.front.len();
         let end = middle + self.back.len();
@@ -145,7 +145,7 @@ pub(crate) fn fill(cut: &Cut<'_>, out: &mut [u8; MAX_PROGRAM]) {
     out[end..len].fill(runs.pad);
 }
 
-/// Whether the bytes of a piece are on the flash; after an erase they are FFh.
+/// Returns whether the bytes of a piece are on the flash; after an erase they are FFh.
 pub(crate) fn stands(flash: &[u8], cut: &Cut<'_>) -> bool {
     let piece = cut.piece;
     if piece.at + piece.len as u64 > flash.len() as u64 {
@@ -161,7 +161,7 @@ impl Asking {
         &held[..self.held_len.min(held.len())]
     }
 
-    /// What the writes of a job are made of.
+    /// Returns the inputs of the writes of a job.
     pub(crate) fn stock<'a>(&self, block: &'a [u8], held: &'a [u8]) -> WriteInputs<'a> {
         WriteInputs {
             unit: self.unit,
@@ -172,7 +172,7 @@ impl Asking {
         }
     }
 
-    /// How many bytes the next piece of this work has, and whether they are on this flash; or 0 if no piece is left.
+    /// Returns the bytes of the next piece of this work, and whether they are on this flash; or 0 if no piece is left.
     pub(crate) fn look_at(
         &self,
         work: &PendingWrites,

@@ -1,13 +1,13 @@
 // Of crates/dfu_asks/src/finish.rt, whose contracts are taken away.
 
-//! How a device goes on with what is left to be written of a row, and what becomes of it at the end of the row.
+//! Next steps of a device with the writes that are left of a row, and its state at the end of the row.
 
 use crate::asks::{Asking, Noted, Reply, Sector};
 use crate::device::{Answer, Config, DeviceState};
 use crate::slots::{Unit, WriteFault};
 use crate::wire::Code;
 
-// Whether a block is written in a mode.
+// Returns whether a block is written in a mode.
 fn is_block(mode: DeviceState) -> bool {
     match mode {
         DeviceState::DownloadSync { .. } | DeviceState::DownloadBusy { .. } => true,
@@ -80,7 +80,7 @@ fn note(noted: &mut Noted, mode: DeviceState, flash: &[u8], unit: Unit, sector: 
 }
 
 impl Asking {
-    // How many bytes are held back after a row whose writes worked, and where the puts end. These bytes are kept in their memory.
+    // Returns how many bytes are held back after a row whose writes worked, and where the puts end. These bytes are kept in their memory.
     fn rest_after(&self, block: &[u8], held: &mut [u8]) -> (usize, u32) {
         if !is_block(self.mode) {
             return (0, 0);

@@ -12,7 +12,7 @@ use crate::suffix::Crc;
 // No image has more bytes.
 const MOST_IMAGE: usize = 0x100_0000;
 
-// How many bytes of the image are written at a time.
+// Bytes of the image that are written at a time.
 const PART: usize = 4096;
 
 // The register over an image.
@@ -87,7 +87,7 @@ impl Formatting {
         })
     }
 
-    // Whether a piece is left of the part that is being carried out. Then the next one is found.
+    // Returns whether a piece is left of the part that is being carried out. Then the next one is found.
     fn due(&self, flash: &[u8], cut: &mut Cut<'_>) -> bool {
         if flash.len() > 0xffff_ffff || cut.stock.block.len() > MOST_IMAGE {
             return false;

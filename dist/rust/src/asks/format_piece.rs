@@ -8,13 +8,13 @@ use crate::asks::pending_writes::WriteInputs;
 use crate::asks::{FormatStep, Formatting};
 use crate::slots::{Sequence, Unit, VERSION, make_header};
 
-/// How many bytes an image of so many has, filled up to whole units.
+/// Returns the bytes of an image of so many, filled up to whole units.
 pub(crate) fn filled_len(unit: Unit, len: usize) -> usize {
     let size = unit.size() as usize;
     len + (size - len % size) % size
 }
 
-/// What the writes of a format are made of: the image takes the place of the block.
+/// Returns the inputs of the writes of a format: the image takes the place of the block.
 pub(crate) fn stock_for<'a>(formatting: &Formatting, image: &'a [u8]) -> WriteInputs<'a> {
     WriteInputs {
         unit: formatting.unit,
@@ -25,7 +25,7 @@ pub(crate) fn stock_for<'a>(formatting: &Formatting, image: &'a [u8]) -> WriteIn
     }
 }
 
-// Whether the next piece is one of the header, or of the gate that is opened after it.
+// Returns whether the next piece is one of the header, or of the gate that is opened after it.
 fn open_piece(index: usize, register: u32, cut: &mut Cut<'_>) -> bool {
     cut.front = make_header(VERSION, 0, cut.stock.block.len() as u32, register);
     let sequence = Sequence::Commit {
@@ -36,7 +36,8 @@ fn open_piece(index: usize, register: u32, cut: &mut Cut<'_>) -> bool {
     numbered_piece(sequence, index, cut)
 }
 
-/// Whether a piece is left of the part of a format that is being carried out. Then the next one is found. The flash has so many bytes.
+/// Returns whether a piece is left of the part of a format that is being carried out. Then the next one is found. The flash has so many
+/// bytes.
 pub(crate) fn part_piece(formatting: &Formatting, size: usize, cut: &mut Cut<'_>) -> bool {
     match formatting.phase {
         FormatStep::CloseSecond => sequence_piece(

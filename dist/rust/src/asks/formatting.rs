@@ -15,13 +15,13 @@ pub struct Formatting {
     pub sector: Sector,
     /// The register over the image.
     pub register: u32,
-    /// How far it has come.
+    /// Progress of the format.
     pub phase: FormatStep,
-    /// How many bytes of that part's writes are carried out.
+    /// Bytes of that part's writes that are carried out.
     pub done: u32,
 }
 
-/// How far a format has come: which of its parts is being carried out.
+/// Progress of a format: which of its parts is being carried out.
 #[derive(Clone, Copy, Debug, PartialEq, Eq)]
 pub enum FormatStep {
     /// The gate of the second slot is closed.
@@ -41,7 +41,7 @@ pub enum FormatStep {
     Ended,
 }
 
-/// What comes of a piece of a format that was carried out, or was not.
+/// Result of a piece of a format that was carried out, or was not.
 #[derive(Clone, Copy, Debug, PartialEq, Eq)]
 pub enum FormatProgress {
     /// More writes are due: `next`, carry it out, `took`, until `took` answers otherwise.

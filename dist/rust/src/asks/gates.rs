@@ -1,12 +1,12 @@
 // Of crates/dfu_asks/src/gates.rt, whose contracts are taken away.
 
-//! How many bytes the gate of a slot has, by how the flash is written.
+//! Bytes of the gate of a slot, by how the flash is written.
 
 use crate::asks::Sector;
 use crate::slots::Unit;
 
-/// How many bytes the gate of a slot has for itself, and its header as many, in flash that is written in this unit and these sectors: the
-/// largest of 16, the unit and the sector.
+/// Returns the bytes that the gate of a slot has for itself, and its header as many, in flash that is written in this unit and these
+/// sectors: the largest of 16, the unit and the sector.
 pub(crate) fn gate_room(unit: Unit, sector: Sector) -> u32 {
     unit.size().max(16).max(sector.size())
 }

@@ -1,28 +1,28 @@
 // Of crates/dfu_asks/src/image.rt, whose contracts are taken away.
 
-//! Where the active image is, which a program is to run.
+//! Place of the active image, which a program is to run.
 
 use crate::asks::gates::gate_room;
 use crate::asks::{Asking, Noted, Sector};
 use crate::slots::{Unit, length_in};
 
-/// Where an image is in the flash.
+/// Place of an image in the flash.
 #[derive(Clone, Copy, Debug, PartialEq, Eq)]
 pub struct ImagePlace {
-    /// Where its first byte is.
+    /// Place of its first byte.
     pub at: u32,
-    /// How many bytes it has, 0 to 16,777,216.
+    /// Length of the image in bytes, 0 to 16,777,216.
     pub len: u32,
 }
 
-// Where a slot begins in flash of so many bytes.
+// Returns the place at which a slot begins in flash of so many bytes.
 fn slot_at(second: bool, size: usize) -> usize {
     if second { size / 2 } else { 0 }
 }
 
 impl ImagePlace {
-    /// Where the active image is in this flash, which is written in this unit and erased in these sectors: after the gate and the header of
-    /// its slot, within the flash. It reads the image of each open slot, and needs no device.
+    /// Returns the place of the active image in this flash, which is written in this unit and erased in these sectors: after the gate and
+    /// the header of its slot, within the flash. It reads the image of each open slot, and needs no device.
     ///
     /// None exactly if the flash has no active image, or 2^32 bytes or more.
     pub fn find(flash: &[u8], unit: Unit, sector: Sector) -> Option<ImagePlace> {
@@ -36,7 +36,7 @@ impl ImagePlace {
 }
 
 impl Asking {
-    /// Where the active image is in this flash, as `ImagePlace::find`; whatever the device noted of it.
+    /// Returns the place of the active image in this flash, as `ImagePlace::find`; whatever the device noted of it.
     ///
     /// None exactly if the flash has no active image, or 2^32 bytes or more.
     pub fn image(&self, flash: &[u8]) -> Option<ImagePlace> {

@@ -6,7 +6,7 @@ use crate::asks::{Asking, Refusal};
 use crate::device::{Config, DeviceState};
 use crate::wire::{Code, Setup};
 
-// Where a device goes from this mode by a body that is longer than a block may be.
+// Returns the mode of a device after a body in this mode that is longer than a block may be.
 fn after_long(mode: DeviceState) -> DeviceState {
     match mode {
         DeviceState::AppIdle | DeviceState::AppDetach { .. } => DeviceState::AppIdle,
@@ -18,7 +18,7 @@ fn after_long(mode: DeviceState) -> DeviceState {
     }
 }
 
-// Whether the host sends more bytes with this setup than a block has.
+// Returns whether the host sends more bytes with this setup than a block has.
 fn is_long(setup: &Setup, transfer: u16) -> bool {
     setup.kind == 0x21 && setup.length > transfer
 }

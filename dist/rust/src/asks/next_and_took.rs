@@ -8,12 +8,12 @@ use crate::asks::sector::behind_edge;
 use crate::asks::{Asking, FlashOp, MAX_PROGRAM, Mapped, PendingWrites, Refusal, Reply, Sector};
 use crate::slots::{OPEN_GATE, Unit, WriteFault, check};
 
-// Where the slot begins that a place lies in, of two slots of this size.
+// Returns the start of the slot that a place lies in, of two slots of this size.
 fn slot_start(at: u64, size: u64) -> u64 {
     if at < size { 0 } else { size }
 }
 
-// Whether a range lies within the spare slot of this flash.
+// Returns whether a range lies within the spare slot of this flash.
 fn is_spare(flash: &[u8], unit: Unit, sector: Sector, at: u64, len: u64) -> bool {
     let half = flash.len() as u64 / 2;
     let slot = slot_start(at, half);
@@ -34,7 +34,7 @@ fn is_spare(flash: &[u8], unit: Unit, sector: Sector, at: u64, len: u64) -> bool
     }
 }
 
-/// Whether a piece programs, or erases one whole sector.
+/// Returns whether a piece programs, or erases one whole sector.
 pub(crate) fn is_sound(sector: Sector, piece: FlashOp) -> bool {
     if !piece.erases {
         return true;
@@ -43,7 +43,7 @@ pub(crate) fn is_sound(sector: Sector, piece: FlashOp) -> bool {
     size > 0 && piece.len == size as usize && behind_edge(size, piece.at) == 0
 }
 
-// Whether a piece did not fail, and is on the flash.
+// Returns whether a piece did not fail, and is on the flash.
 fn went_well(failed: bool, stands: bool) -> bool {
     !failed && stands
 }

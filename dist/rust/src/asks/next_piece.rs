@@ -7,7 +7,7 @@ use crate::asks::sector::{Position, locate};
 use crate::asks::{FlashOp, SlotWrite};
 use crate::slots::{MAX_OPERATIONS, Op, Sequence, Source, VERSION, make_header};
 
-/// How many bytes are programmed at a time at most.
+/// Most bytes that are programmed at a time.
 pub const MAX_PROGRAM: usize = 256;
 
 // An erase of so many bytes there is found.
@@ -19,7 +19,7 @@ fn find_erase(at: u64, len: usize, cut: &mut Cut<'_>) {
     };
 }
 
-// Whether the next piece is one of the erase of the sector that begins there. Then it is found; else the search goes on after it.
+// Returns whether the next piece is one of the erase of the sector that begins there. Then it is found; else the search goes on after it.
 fn erase_piece(at: u64, cut: &mut Cut<'_>) -> bool {
     let sector = cut.stock.sector.size() as usize;
     if cut.rest < sector {
@@ -30,7 +30,7 @@ fn erase_piece(at: u64, cut: &mut Cut<'_>) -> bool {
     false
 }
 
-// Whether the next piece is one of a write of `len` bytes there, or of its erases: of the bytes of this source, without the first
+// Returns whether the next piece is one of a write of `len` bytes there, or of its erases: of the bytes of this source, without the first
 // `skip`. Then it is found; else the search goes on after the write.
 fn write_piece(at: u64, source: Source, skip: usize, len: usize, cut: &mut Cut<'_>) -> bool {
     match locate(cut.stock.sector, at, len, cut.rest) {
@@ -55,7 +55,8 @@ fn write_piece(at: u64, source: Source, skip: usize, len: usize, cut: &mut Cut<'
     }
 }
 
-/// Whether the next piece is one of the operation of this number. Then it is found; else the search goes on after that, if there is one.
+/// Returns whether the next piece is one of the operation of this number. Then it is found; else the search goes on after that, if there is
+/// one.
 pub(crate) fn numbered_piece(sequence: Sequence, index: usize, cut: &mut Cut<'_>) -> bool {
     match sequence.operation(cut.stock.unit, cut.stock.sector.size(), index) {
         None => false,
@@ -71,7 +72,7 @@ pub(crate) fn numbered_piece(sequence: Sequence, index: usize, cut: &mut Cut<'_>
     }
 }
 
-/// Whether the next piece is one of the operations of a sequence. Then it is found; else the search goes on after them.
+/// Returns whether the next piece is one of the operations of a sequence. Then it is found; else the search goes on after them.
 pub(crate) fn sequence_piece(sequence: Sequence, cut: &mut Cut<'_>) -> bool {
     for index in 0..MAX_OPERATIONS {
         if numbered_piece(sequence, index, cut) {
@@ -81,12 +82,12 @@ pub(crate) fn sequence_piece(sequence: Sequence, cut: &mut Cut<'_>) -> bool {
     false
 }
 
-// Whether the next piece is one of what closes the gate of the slot that begins there, if that is to be closed.
+// Returns whether the next piece is one of those that close the gate of the slot that begins there, if that is to be closed.
 fn shut_piece(spare: u32, close: bool, cut: &mut Cut<'_>) -> bool {
     close && sequence_piece(Sequence::Close { slot: spare }, cut)
 }
 
-// Whether the next piece is one of what a block writes.
+// Returns whether the next piece is one that a block writes.
 fn block_piece(spare: u32, close: bool, cut: &mut Cut<'_>) -> bool {
     if shut_piece(spare, close, cut) {
         return true;
@@ -100,7 +101,7 @@ fn block_piece(spare: u32, close: bool, cut: &mut Cut<'_>) -> bool {
     sequence_piece(sequence, cut)
 }
 
-// Whether the next piece is one of what a commit writes.
+// Returns whether the next piece is one that a commit writes.
 fn commit_piece(spare: u32, generation: u8, register: u32, cut: &mut Cut<'_>) -> bool {
     let end = cut.stock.put_end;
     cut.front = make_header(VERSION, generation, end, register);
@@ -112,7 +113,7 @@ fn commit_piece(spare: u32, generation: u8, register: u32, cut: &mut Cut<'_>) ->
     sequence_piece(sequence, cut)
 }
 
-/// Whether a piece of the writes of a job is left. Then the next one is found.
+/// Returns whether a piece of the writes of a job is left. Then the next one is found.
 pub(crate) fn next_piece(job: SlotWrite, cut: &mut Cut<'_>) -> bool {
     match job {
         SlotWrite::Block { spare, close } => block_piece(spare, close, cut),

@@ -30,7 +30,7 @@ impl<'m> Mapped<'m> {
         Mapped::with_sector(bytes, unit, Sector::new(sector)?)
     }
 
-    /// The same, by a sector that is one.
+    /// Maps the flash by a sector that is one.
     pub(crate) fn with_sector(bytes: &'m [u8], unit: Unit, sector: Sector) -> Option<Mapped<'m>> {
         if bytes.len() > 0xffff_ffff {
             return None;
@@ -75,17 +75,17 @@ impl<'m> Medium for Mapped<'m> {
     }
 }
 
-/// What is noted of the active image: which slot has it, and that slot's header as it was. A call that finds it there reads no image.
+/// Notes of the active image: which slot has it, and that slot's header as it was. A call that finds it there reads no image.
 #[derive(Clone, Copy, Debug, PartialEq, Eq)]
 pub struct Noted {
-    /// Whether it is the second slot.
+    /// Tells whether it is the second slot.
     pub second: bool,
     /// The header.
     pub header: [u8; 16],
 }
 
 impl Noted {
-    /// What is to be noted of this flash. It reads the image of each open slot.
+    /// Returns the notes of this flash. It reads the image of each open slot.
     ///
     /// None exactly if the flash has no active image, or 2^32 bytes or more.
     pub fn find(flash: &[u8], unit: Unit, sector: Sector) -> Option<Noted> {
@@ -102,20 +102,20 @@ impl Noted {
     }
 }
 
-/// What a call sees of its flash by what is noted.
+/// View that a call has of its flash by what is noted.
 #[derive(Clone, Copy, Debug, PartialEq, Eq)]
 pub(crate) struct View {
-    /// Where the active slot begins.
+    /// Place at which the active slot begins.
     pub(crate) active: u32,
-    /// Where the spare slot begins.
+    /// Place at which the spare slot begins.
     pub(crate) spare: u32,
-    /// How many bytes an image may have.
+    /// Most bytes of an image.
     pub(crate) room: u32,
-    /// How many the active one has.
+    /// Length of the active image.
     pub(crate) len: u32,
 }
 
-// Whether two headers are the same, byte by byte: that is less code than `==`.
+// Returns whether two headers are the same, byte by byte: that is less code than `==`.
 fn are_same(one: &[u8], other: &[u8; 16]) -> bool {
     for i in 0..16 {
         if one[i] != other[i] {
@@ -152,13 +152,13 @@ pub(crate) fn look(medium: &Mapped<'_>, noted: &Noted) -> Option<View> {
     })
 }
 
-// Whether puts that end there fit in this room, and leave so many bytes held back. It reads nothing.
+// Returns whether puts that end there fit in this room, and leave so many bytes held back. It reads nothing.
 fn may_end(unit: Unit, held: usize, end: u32, room: u32) -> bool {
     end <= room && held == (end % unit.size()) as usize
 }
 
 impl Asking {
-    /// Whether what is kept goes with what is seen, if the block's memory has so many bytes.
+    /// Returns whether the record goes with what is seen, if the block's memory has so many bytes.
     #[inline(never)]
     pub(crate) fn is_fit(&self, room: usize, medium: &Mapped<'_>, view: &View) -> bool {
         if self.block_len > room

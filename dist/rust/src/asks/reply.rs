@@ -1,10 +1,10 @@
 // Of crates/dfu_asks/src/reply.rt, whose contracts are taken away.
 
-//! What comes of a call of a device that asks: a reply, an operation on its flash, or a refusal.
+//! Result of a call of a device that asks: a reply, an operation on its flash, or a refusal.
 
 use crate::device::Answer;
 
-/// What comes of a call of a device that asks.
+/// Result of a call of a device that asks.
 #[derive(Clone, Copy, Debug, PartialEq, Eq)]
 pub enum Reply {
     /// Writes are due: `next`, carry it out, `took`, until `took` answers otherwise.
@@ -17,23 +17,22 @@ pub enum Reply {
 /// bytes of a program at the front of the buffer that it is handed.
 #[derive(Clone, Copy, Debug, PartialEq, Eq)]
 pub struct FlashOp {
-    /// Whether it erases: the `len` bytes there are FFh then.
+    /// Tells whether it erases: the `len` bytes there are FFh then.
     pub erases: bool,
-    /// Where its first byte is.
+    /// Place of its first byte.
     pub at: u64,
-    /// How many bytes it has: 1 to 256, or if it erases those of a sector.
+    /// Number of its bytes: 1 to 256, or if it erases those of a sector.
     pub len: usize,
 }
 
-/// Why a call of a device that asks is refused. Nothing changes then.
+/// Reasons for which a call of a device that asks is refused. Nothing changes then.
 #[derive(Clone, Copy, Debug, PartialEq, Eq)]
 pub enum Refusal {
     /// Writes are due: they come first.
     Asked,
     /// The noted header is not in an open slot of the flash, or the flash is not two slots, as one of 2^32 bytes or more.
     NoMedium,
-    /// What is kept is not a device on that flash, or the block's memory has less room than the transfer size. Of `took`: no
-    /// write is due.
+    /// The record is not a device on that flash, or the block's memory has less room than the transfer size. Of `took`: no write is due.
     NoDevice,
     /// The buffer of the answer has less room than an answer may need.
     NoRoom,

@@ -4,7 +4,7 @@
 
 use crate::slots::{MAX_SECTOR, PAGE};
 
-/// How many bytes of flash are erased at a time: 0 if it is written over in place, else a multiple of 256 up to 131,072.
+/// Bytes of flash that are erased at a time: 0 if it is written over in place, else a multiple of 256 up to 131,072.
 #[derive(Clone, Copy, Debug, PartialEq, Eq)]
 pub struct Sector {
     size: u32,
@@ -25,7 +25,7 @@ impl Sector {
         }
     }
 
-    /// How many bytes it has.
+    /// Returns the bytes of the sector.
     pub fn size(self) -> u32 {
         self.size
     }
@@ -36,9 +36,9 @@ impl Sector {
 pub(crate) enum Position {
     /// So many bytes of a sector are to be erased there.
     Erase {
-        /// Where the first of them is.
+        /// Place of the first of them.
         place: u64,
-        /// How many they are.
+        /// Number of bytes.
         len: usize,
     },
     /// In the write, so many bytes after its first one.
@@ -53,8 +53,8 @@ pub(crate) enum Position {
     },
 }
 
-/// How many bytes a place is after the first one of its sector. It takes two divisions of 32 bits for one of 64, which a small processor
-/// does by a call.
+/// Returns the number of bytes that a place is after the first one of its sector. It takes two divisions of 32 bits for one of 64, which a
+/// small processor does by a call.
 pub(crate) fn behind_edge(sector: u32, at: u64) -> u32 {
     let high = (at / 32_768) as u32 % sector;
     (high * 32_768 + (at % 32_768) as u32) % sector

@@ -1,6 +1,6 @@
 // Of crates/dfu_asks/src/stalls.rt, whose contracts are taken away.
 
-//! Whether a device will stall a setup, said before its body is there.
+//! Tells before the body of a setup is there whether a device will stall it.
 
 use crate::asks::gates::gate_room;
 use crate::asks::{Asking, Refusal, Sector};
@@ -8,7 +8,7 @@ use crate::device::{Config, Decision, DeviceState, Profile, Reply, decide};
 use crate::slots::Unit;
 use crate::wire::{Request, Setup};
 
-// Whether a decision answers with a stall.
+// Returns whether a decision answers with a stall.
 fn stalls(decision: Decision) -> bool {
     match decision {
         Decision::Sure { reply, .. }
@@ -18,18 +18,18 @@ fn stalls(decision: Decision) -> bool {
     }
 }
 
-// Whether a device of this profile stalls this request of the class in this mode, whatever body of the right length comes with it.
+// Returns whether a device of this profile stalls this request of the class in this mode, whatever body of the right length comes with it.
 fn will_stall(profile: &Profile, mode: DeviceState, request: Request) -> bool {
     stalls(decide(profile, mode, request))
 }
 
-// How many bytes of data a slot has in flash of this size.
+// Returns the bytes of data of a slot in flash of this size.
 fn room_in(unit: Unit, sector: Sector, size: usize) -> u64 {
     (size as u64 / 2).saturating_sub(2 * u64::from(gate_room(unit, sector)))
 }
 
-/// Whether a device of this configuration in this mode, on flash of so many bytes that is written in this unit and erased in these sectors,
-/// stalls this setup, as `Asking::would_stall`.
+/// Returns whether a device of this configuration in this mode, on flash of so many bytes that is written in this unit and erased in these
+/// sectors, stalls this setup, as `Asking::would_stall`.
 pub fn mode_stalls(
     config: &Config,
     unit: Unit,
@@ -43,8 +43,8 @@ pub fn mode_stalls(
 }
 
 impl Asking {
-    /// Whether `handle` will stall this setup, whatever body of wLength bytes comes with it: true exactly if so (USB DFU 1.1, appendix A).
-    /// `size` is how many bytes the flash has. A stack that stalls a request before its data stage asks this first.
+    /// Returns whether `handle` will stall this setup, whatever body of wLength bytes comes with it: true exactly if so (USB DFU 1.1,
+    /// appendix A). `size` is how many bytes the flash has. A stack that stalls a request before its data stage asks this first.
     ///
     /// # Errors
     ///

@@ -1,6 +1,6 @@
 // Of crates/dfu_asks/src/start.rt, whose contracts are taken away.
 
-//! What is to be written of a row that begins, and whether flash is erased where it is programmed with no erase before.
+//! Writes of a row that begins, and the test that flash is erased where it is programmed with no erase before.
 
 use crate::asks::noted::View;
 use crate::asks::sector::behind_edge;
@@ -9,7 +9,7 @@ use crate::device::DeviceState;
 use crate::slots::{WriteFault, data_at, is_open};
 use crate::suffix::Crc;
 
-// Where so many bytes from there on end, or the first sector begins among them.
+// Returns the end of so many bytes from there on, or the place at which the first sector begins among them.
 fn stretch_end(size: u32, at: u64, len: u64) -> u64 {
     let behind = behind_edge(size, at);
     if behind == 0 {
@@ -18,7 +18,7 @@ fn stretch_end(size: u32, at: u64, len: u64) -> u64 {
     at + len.min(u64::from(size - behind))
 }
 
-// Whether these bytes of flash are FFh.
+// Returns whether these bytes of flash are FFh.
 fn are_erased(flash: &[u8], from: usize, to: usize) -> bool {
     for i in from..to {
         if flash[i] != 0xff {
@@ -28,7 +28,7 @@ fn are_erased(flash: &[u8], from: usize, to: usize) -> bool {
     true
 }
 
-// Whether so many bytes from there on are FFh, up to the sector that begins next; flash without sectors is written over.
+// Returns whether so many bytes from there on are FFh, up to the sector that begins next; flash without sectors is written over.
 fn is_clear(flash: &[u8], sector: Sector, at: u64, len: u64) -> bool {
     let size = sector.size();
     if size == 0 {
@@ -58,8 +58,8 @@ impl Asking {
         }
     }
 
-    // The job of a block after so many bytes, how many bytes are held back then, and where the puts end. What was put before a first block
-    // is forgotten.
+    // The job of a block after so many bytes, how many bytes are held back then, and where the puts end. The bytes that were put before a
+    // first block are forgotten.
     fn block_job(&self, written: u32, medium: &Mapped<'_>, view: &View) -> (SlotWrite, usize, u32) {
         if written == 0 {
             let job = SlotWrite::Block {
@@ -88,7 +88,7 @@ impl Asking {
         }
     }
 
-    // Whether what the row that is due programs behind the puts with no erase before is erased, if its puts end there.
+    // Returns whether the flash that the due row programs behind the puts with no erase before is erased, if its puts end there.
     fn is_ahead(&self, end: u32, medium: &Mapped<'_>, view: &View) -> bool {
         if end == 0 {
             return true;

@@ -10,6 +10,7 @@ mod due;
 mod outcome;
 mod pieces;
 
+pub use area::are_blank;
 pub use deciding::next;
 pub use due::{Due, Refusal};
 pub use outcome::took;

@@ -5,7 +5,8 @@
 use crate::boot::install::{Due, next};
 use crate::slots::{Medium, Slots};
 
-/// What is due next, so that the run area comes to hold the active image of the store: `install::next`, with that image.
+/// Returns the operation that is due next, so that the run area comes to hold the active image of the store: `install::next`, with that
+/// image.
 ///
 /// `memory` has the bytes of the store's medium, as it is mapped for reading. The store is not changed.
 ///

@@ -1,6 +1,6 @@
 // Of crates/dfu_conformance/src/drifts.rt, whose contracts are taken away.
 
-//! What a device does by itself, between two events (USB DFU 1.1, appendix A).
+//! Moves that a device makes by itself, between two events (USB DFU 1.1, appendix A).
 
 use crate::conformance::Drift;
 use crate::conformance::Reading::SelfReset;
@@ -11,8 +11,8 @@ use crate::conformance::StandardState::{
 use crate::conformance::row::Source::{A, Habit};
 use crate::conformance::row::When::{Always, By, NotTolerant, Tolerant, WillDetach};
 
-/// What a device does by itself: an enumeration ends, a timer ends, a device detaches, a block or an image is in place, or could not be
-/// put there. Two such moves one after the other are one too.
+/// Moves that a device makes by itself: an enumeration ends, a timer ends, a device detaches, a block or an image is in place, or could not
+/// be put there. Two such moves one after the other are one too.
 #[rustfmt::skip]
 pub static DRIFTS: [Drift; 12] = [
     drift!(Fresh, Always, DfuIdle, A),

@@ -1,11 +1,11 @@
 // Of crates/dfu_conformance/src/event.rt, whose contracts are taken away.
 
-//! What comes to a device, and what is seen of its answer.
+//! Events that come to a device, and the answers that are seen.
 
 use crate::conformance::{EventKind, Gives, Row, StandardState};
 use crate::wire::{Request, Setup};
 
-/// What was seen of an answer.
+/// Answer that was seen.
 #[derive(Clone, Copy, Debug, PartialEq, Eq)]
 pub enum Response {
     /// A stall.
@@ -14,7 +14,7 @@ pub enum Response {
     Nothing,
     /// So many bytes; 0 if the request was acknowledged.
     Bytes {
-        /// How many they are.
+        /// Number of bytes.
         count: u32,
         /// The first of them, or 0.
         first: u8,
@@ -23,16 +23,16 @@ pub enum Response {
     },
 }
 
-/// What came to a device, and what was seen of its answer. Of a reset and of power nothing is seen.
+/// Event that came to a device, and the answer that was seen. Of a reset and of power nothing is seen.
 #[derive(Clone, Copy, Debug, PartialEq, Eq)]
 pub struct LogEvent {
     /// What came.
     pub asked: EventKind,
-    /// Whether the request is as section 3 has it: wValue and wLength, and a body of wLength bytes.
+    /// Tells whether the request is as section 3 has it: wValue and wLength, and a body of wLength bytes.
     pub is_plain: bool,
     /// wLength.
     pub length: u16,
-    /// What was seen of the answer.
+    /// Answer that was seen.
     pub answer: Response,
 }
 
@@ -68,7 +68,7 @@ fn asked_for(request: &Request) -> EventKind {
     }
 }
 
-/// Whether a request is as section 3 has it.
+/// Returns whether a request is as section 3 has it.
 fn is_told(setup: &Setup, request: &Request, body: usize) -> bool {
     let Setup {
         kind,
@@ -80,7 +80,7 @@ fn is_told(setup: &Setup, request: &Request, body: usize) -> bool {
     body == wanted && has_numbers(request, value)
 }
 
-/// Whether a request has the wValue and the wLength of section 3.
+/// Returns whether a request has the wValue and the wLength of section 3.
 fn has_numbers(request: &Request, value: u16) -> bool {
     match *request {
         Request::Upload { length, .. } => length != 0,
@@ -91,18 +91,18 @@ fn has_numbers(request: &Request, value: u16) -> bool {
     }
 }
 
-/// Whether a row speaks of an event: of what was asked, and of what was seen.
+/// Returns whether a row speaks of an event: of what was asked, and of what was seen.
 pub fn speaks_of(row: &Row, event: &LogEvent) -> bool {
     is_asked(row.asked, event) && is_shown(row, event)
 }
 
-/// Whether a row is about what was asked. A request that is not as section 3 has it may be taken as any other, too.
+/// Returns whether a row is about what was asked. A request that is not as section 3 has it may be taken as any other, too.
 pub(crate) fn is_asked(asked: EventKind, event: &LogEvent) -> bool {
     asked.number() == event.asked.number()
         || !event.is_plain && asked.number() == EventKind::Other.number()
 }
 
-/// Whether what was seen is what a row gives.
+/// Returns whether the answer that was seen is what a row gives.
 fn is_shown(row: &Row, event: &LogEvent) -> bool {
     let length = event.length as u32;
     match event.answer {
@@ -143,7 +143,7 @@ fn state_of(place: StandardState) -> usize {
     }
 }
 
-/// Whether a status that enters this place may have this code.
+/// Returns whether a status that enters this place may have this code.
 fn is_code_of(place: StandardState, code: u8) -> bool {
     match place {
         StandardState::Error => 0 < code && code < 16,
@@ -151,7 +151,7 @@ fn is_code_of(place: StandardState, code: u8) -> bool {
     }
 }
 
-/// Whether a device may stay where it was.
+/// Returns whether a device may stay where it was.
 pub(crate) fn may_stay(event: &LogEvent) -> bool {
     match event.answer {
         Response::Nothing => true,

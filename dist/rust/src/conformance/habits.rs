@@ -1,6 +1,6 @@
 // Of crates/dfu_conformance/src/habits.rt, whose contracts are taken away.
 
-//! What devices are known to do that is not in the standard.
+//! Habits of devices that are not in the standard.
 
 use crate::conformance::EventKind::{Detach, GetState, GetStatus, Power, Reset};
 use crate::conformance::Reading::{Bootloader, DetachAtOnce, DetachLeaves, ErrorWithoutCode, RuntimeMute};

@@ -1,6 +1,6 @@
 // Of crates/dfu_conformance/src/held.rt, whose contracts are taken away.
 
-//! Which devices are held at each place.
+//! Devices that are held at each place.
 
 use crate::conformance::drifts::DRIFTS;
 use crate::conformance::event::{may_stay, speaks_of};
@@ -68,7 +68,7 @@ fn readings_of(devices: &Devices) -> u64 {
     all
 }
 
-/// Whether there is no device.
+/// Returns whether there is no device.
 fn is_empty(devices: &Devices) -> bool {
     readings_of(devices) == 0
 }
@@ -151,12 +151,12 @@ pub(crate) fn step(before: &Places, event: &LogEvent) -> Places {
     drift(&DRIFTS, &after)
 }
 
-/// Whether this bit is 1.
+/// Returns whether this bit is 1.
 fn has_bit(word: u64, bit: u8) -> bool {
     word >> bit & 1 == 1
 }
 
-/// Whether a device with this set of readings is held, with any bmAttributes.
+/// Returns whether a device with this set of readings is held, with any bmAttributes.
 fn is_held(devices: &Devices, readings: u8) -> bool {
     has_bit(readings_of(devices), readings)
 }
@@ -170,7 +170,7 @@ pub(crate) fn places_of(places: &Places, readings: u8) -> [bool; 12] {
     at
 }
 
-/// Whether a device with this set of readings may be anywhere.
+/// Returns whether a device with this set of readings may be anywhere.
 pub(crate) fn is_any_held(places: &Places, readings: u8) -> bool {
     let mut is_some = false;
     for n in 0..12 {

@@ -10,7 +10,7 @@ fn first_space(line: &[u8]) -> Option<usize> {
     line.iter().position(|byte| *byte == b' ')
 }
 
-/// Where the first field of a line ends: at its first space, or at its end.
+/// Returns the end of the first field of a line: its first space, or the line's end.
 pub(crate) fn field_end(line: &[u8]) -> usize {
     match first_space(line) {
         Some(at) => at,
@@ -28,12 +28,12 @@ fn value_of(byte: u8) -> u8 {
     }
 }
 
-/// Whether all bytes are hexadecimal digits.
+/// Returns whether all bytes are hexadecimal digits.
 fn are_digits(text: &[u8]) -> bool {
     text.iter().all(|byte| value_of(*byte) < 16)
 }
 
-/// Whether a text is bytes, pairs of hexadecimal digits, at most 65,535 of them.
+/// Returns whether a text is bytes, pairs of hexadecimal digits, at most 65,535 of them.
 fn is_bytes(text: &[u8]) -> bool {
     if text.len() > 131_070 {
         return false;
@@ -73,7 +73,7 @@ pub(crate) fn setup_of(text: &[u8]) -> Option<Setup> {
     })
 }
 
-/// How many bytes a body has: half as many as its text has digits, or 0 if its text is a dash.
+/// Returns the bytes of a body: half as many as its text has digits, or 0 if its text is a dash.
 pub(crate) fn body_of(text: &[u8]) -> Option<usize> {
     if text == b"-".as_slice() {
         return Some(0);

@@ -6,18 +6,18 @@ use crate::conformance::line::{answer_of, body_of, field_end, setup_of};
 use crate::conformance::{EventKind, LogEvent, Response};
 use crate::wire::Setup;
 
-/// What a line of a log says.
+/// Content of a line of a log.
 #[derive(Clone, Copy, Debug, PartialEq, Eq)]
 pub enum Line {
     /// Nothing: it is empty, or begins with `#`.
     Blank,
     /// A request that is no request of the class, or one for another interface.
     Elsewhere,
-    /// What came to the device.
+    /// Event that came to the device.
     Came(LogEvent),
 }
 
-/// What is wrong with a line that is not a line of a log.
+/// Fault of a line that is not a line of a log.
 #[derive(Clone, Copy, Debug, PartialEq, Eq)]
 pub enum LineFault {
     /// It has over 262,158 bytes: only a comment may be longer.
@@ -26,7 +26,7 @@ pub enum LineFault {
     Setup,
     /// Its second field is no body.
     Body,
-    /// What follows its second field is no answer.
+    /// The rest after its second field is no answer.
     Answer,
 }
 
@@ -48,7 +48,7 @@ fn parts(line: &[u8]) -> (&[u8], &[u8]) {
     (&line[..end], rest)
 }
 
-/// What a line says of a device whose DFU interface has this number, wIndex of its requests:
+/// Returns the content of a line for a device whose DFU interface has this number, wIndex of its requests:
 ///
 /// - `SETUP BODY ANSWER`, with one space between them: the sixteen hexadecimal digits of a setup; the bytes of its body in such digits, or
 ///   `-`; and `ack`, `stall`, `nothing`, or the bytes that were answered;
@@ -84,7 +84,7 @@ pub fn why_unread(line: &[u8]) -> LineFault {
     LineFault::Answer
 }
 
-/// Whether a line says nothing.
+/// Returns whether a line says nothing.
 fn begins_blank(line: &[u8]) -> bool {
     match line {
         [] => true,

@@ -1,6 +1,6 @@
 // Of crates/dfu_conformance/src/marks.rt, whose contracts are taken away.
 
-//! What a reset of the bus and power lead to (USB DFU 1.1, appendix A).
+//! Places to which a reset of the bus and power lead (USB DFU 1.1, appendix A).
 
 use crate::conformance::EventKind::{Power, Reset};
 use crate::conformance::Row;
@@ -19,7 +19,7 @@ macro_rules! marks {
     };
 }
 
-/// What a reset of the bus and power lead to.
+/// Places to which a reset of the bus and power lead.
 #[rustfmt::skip]
 pub static MARKS: [Row; 43] = marks!(
     // A reset of the bus: a device that detaches comes up in dfuIDLE, any other in its application, or in dfuERROR if that is broken.

@@ -2,7 +2,7 @@
 
 //! A row of the table, and the words that it is written in.
 
-/// Where a device may be: a state of the standard (USB DFU 1.1, section 6.1.2), or dfuIDLE that a reset of the bus just entered.
+/// Place at which a device may be: a state of the standard (USB DFU 1.1, section 6.1.2), or dfuIDLE that a reset of the bus just entered.
 #[derive(Clone, Copy, Debug, PartialEq, Eq)]
 pub enum StandardState {
     /// 0.
@@ -38,7 +38,7 @@ impl StandardState {
     }
 }
 
-/// What came to a device: one of the requests of the class (USB DFU 1.1, section 3), or what happened to its bus or its power.
+/// Event that came to a device: one of the requests of the class (USB DFU 1.1, section 3), or what happened to its bus or its power.
 #[derive(Clone, Copy, Debug, PartialEq, Eq)]
 pub enum EventKind {
     /// DETACH.
@@ -108,7 +108,7 @@ pub enum When {
     By(Reading),
 }
 
-/// What a device answers by a row.
+/// Answer that a device gives by a row.
 #[derive(Clone, Copy, Debug, PartialEq, Eq)]
 pub enum Gives {
     /// It acknowledges, or sends no bytes.
@@ -130,7 +130,7 @@ pub enum Gives {
     Silent,
 }
 
-/// Where the standard has a row.
+/// Source of a row in the standard.
 #[derive(Clone, Copy, Debug, PartialEq, Eq)]
 pub enum Source {
     /// Appendix A, in the table of the state where the row begins; section 6.1.2 has the bytes of an answer.
@@ -144,29 +144,29 @@ pub enum Source {
 /// A row of the table: what a device may answer at a place, and where it is then.
 #[derive(Clone, Copy, Debug, PartialEq, Eq)]
 pub struct Row {
-    /// Where the device is.
+    /// Place of the device.
     pub from: StandardState,
-    /// What comes to it.
+    /// Event that comes to it.
     pub asked: EventKind,
     /// For which devices the row is.
     pub when: When,
     /// What it answers.
     pub gives: Gives,
-    /// Where it is then.
+    /// Place of the device then.
     pub next: StandardState,
-    /// Where the standard has the row.
+    /// Source of the row in the standard.
     pub source: Source,
 }
 
 /// A move that a device makes by itself, between two events.
 #[derive(Clone, Copy, Debug, PartialEq, Eq)]
 pub struct Drift {
-    /// Where the device is.
+    /// Place of the device.
     pub from: StandardState,
-    /// Which devices make the move.
+    /// Devices that make the move.
     pub when: When,
-    /// Where it is then.
+    /// Place of the device then.
     pub next: StandardState,
-    /// Where the standard has the move.
+    /// Source of the move in the standard.
     pub source: Source,
 }

@@ -1,11 +1,11 @@
 // Of crates/dfu_conformance/src/verdict.rt, whose contracts are taken away.
 
-//! What a judge says.
+//! Verdict of a judge.
 
 use crate::conformance::event::is_asked;
 use crate::conformance::{LogEvent, Row};
 
-/// What a judge says of all that came.
+/// Verdict of a judge on all that came.
 #[derive(Clone, Copy, Debug, PartialEq, Eq)]
 pub enum Verdict {
     /// A device that keeps the standard may have answered so.
@@ -22,14 +22,14 @@ pub enum Verdict {
 /// An event after which no device of the standard is left.
 #[derive(Clone, Copy, Debug, PartialEq, Eq)]
 pub struct Departure {
-    /// Where the device might be before it: by place, in the order of `StandardState`.
+    /// Places at which the device might be before it, in the order of `StandardState`.
     pub before: [bool; 12],
     /// What came.
     pub event: LogEvent,
 }
 
 impl Departure {
-    /// Whether a row says what was allowed: it begins where the device might be, and is about what was asked.
+    /// Returns whether a row says what was allowed: it begins where the device might be, and is about what was asked.
     pub fn allows(&self, row: &Row) -> bool {
         self.before[row.from.number()] && is_asked(row.asked, &self.event)
     }

@@ -1,6 +1,6 @@
 // Of crates/dfu_device/src/answer.rt, whose contracts are taken away.
 
-//! How a device answers a setup: what is answered, and its bytes in the buffer of the caller.
+//! Answers of a device to a setup, and their bytes in the buffer of the caller.
 
 use crate::device::decision::Reply;
 use crate::device::device_core::DeviceCore;
@@ -8,7 +8,7 @@ use crate::device::device_state::status_in;
 use arrayvec::ArrayVec;
 use crate::slots::{Medium, Slots};
 
-/// How a device answers a setup. The bytes of an answer are in the buffer that the caller gave.
+/// Answer of a device to a setup. The bytes of an answer are in the buffer that the caller gave.
 #[derive(Clone, Copy, Debug, PartialEq, Eq)]
 pub enum Answer {
     /// The request is acknowledged; there are no bytes.
@@ -88,7 +88,7 @@ impl<M: Medium> DeviceCore<M> {
         }
     }
 
-    /// How many bytes the image has from `place` on, at most `len`.
+    /// Returns the bytes that the image has from `place` on, at most `len`.
     #[inline(never)]
     pub(crate) fn piece_len(&self, place: u32, len: u16) -> u16 {
         let rest = self.slots.active_len().saturating_sub(place);

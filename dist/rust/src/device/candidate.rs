@@ -1,24 +1,24 @@
 // Of crates/dfu_device/src/candidate.rt, whose contracts are taken away.
 
-//! Where an image is that was received and is not in place yet.
+//! Image that was received and is not in place yet.
 
 use crate::device::Device;
 use crate::device::device_core::DeviceCore;
 use crate::slots::Medium;
 
-/// Where an image is that was received and is not in place yet. Its first bytes are on the medium, in the spare slot. The others, fewer
-/// than a unit of the medium, are held back in memory (`Slots::held`).
+/// Image that was received and is not in place yet. Its first bytes are on the medium, in the spare slot. The others, fewer than a unit of
+/// the medium, are held back in memory (`Slots::held`).
 #[derive(Clone, Copy, Debug, PartialEq, Eq)]
 pub struct Candidate {
-    /// Where its first byte is on the medium.
+    /// Place of its first byte on the medium.
     pub at: u32,
-    /// How many of its bytes are there.
+    /// Number of its bytes that are there.
     pub stored: u32,
 }
 
 impl<M: Medium> Device<M> {
-    /// Where the received image is, for a program that checks it before it calls `refuse_close` or `refuse`, or neither. It is Some in
-    /// dfuDNLOAD-IDLE, in dfuMANIFEST-SYNC before it is complete, and in dfuMANIFEST, else None. It reads and writes no byte of the
+    /// Returns the place of the received image, for a program that checks it before it calls `refuse_close` or `refuse`, or neither. It is
+    /// Some in dfuDNLOAD-IDLE, in dfuMANIFEST-SYNC before it is complete, and in dfuMANIFEST, else None. It reads and writes no byte of the
     /// medium.
     pub fn candidate(&self) -> Option<Candidate> {
         self.core.candidate()
@@ -26,7 +26,7 @@ impl<M: Medium> Device<M> {
 }
 
 impl<M: Medium> DeviceCore<M> {
-    // Where the received image is.
+    // Returns the place of the received image.
     fn candidate(&self) -> Option<Candidate> {
         let len = self.mode.candidate_len()?;
         // (The proof needs this call, and nothing else does.)

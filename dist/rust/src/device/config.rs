@@ -1,12 +1,13 @@
 // Of crates/dfu_device/src/config.rt, whose contracts are taken away.
 
-//! What a device is set up with.
+//! Settings of a device.
 
 use crate::slots::Unit;
 use crate::wire::{Functional, Ids};
+use core::fmt;
 use thiserror::Error;
 
-/// How long the flash of a device takes, and in which steps it is written. A status then says the time of the block or of the image that it
+/// Times of the flash of a device, and the steps in which it is written. A status then says the time of the block or of the image that it
 /// stands for: the erases and programs that are due for it, beside `busy_ms` or `manifest_ms`.
 #[derive(Clone, Copy, Debug, PartialEq, Eq)]
 pub struct Pace {
@@ -16,7 +17,7 @@ pub struct Pace {
     pub program_ms: u16,
     /// The unit in which it is written.
     pub unit: Unit,
-    /// How many bytes are erased at a time; 0 if it is written over in place.
+    /// Bytes that are erased at a time; 0 if it is written over in place.
     pub sector: u32,
 }
 
@@ -32,9 +33,9 @@ impl Pace {
     }
 }
 
-/// What a device is set up with: who it is, its functional descriptor, the fewest bytes of an image
-/// (1 to 16,777,216), how long it takes to write a block and to put an image in place (0 to
-/// 16,777,215 ms; at least 1 ms for an image if the device is not tolerant of manifestation), and the pace of its flash.
+/// Settings of a device: who it is, its functional descriptor, the fewest bytes of an image (1 to 16,777,216), how long it takes to write a
+/// block and to put an image in place (0 to 16,777,215 ms; at least 1 ms for an image if the device is not tolerant of manifestation), and
+/// the pace of its flash.
 ///
 /// Without a pace both times are to have room for the erases of a medium with sectors: a block takes at most one, and one more for each
 /// sector that begins in the transfer size and a unit; an image takes two or three.
@@ -48,33 +49,41 @@ pub struct Config {
     pace: Pace,
 }
 
-/// Why a device cannot be set up, in the order in which the faults are checked.
+/// Faults for which a device cannot be set up, in the order in which they are checked.
 #[derive(Clone, Copy, Debug, PartialEq, Eq, Error)]
 pub enum ConfigFault {
     /// The transfer size of the functional descriptor is 0 or over 4,096 bytes.
-    #[error("the transfer size is not 1 to 4096 bytes")]
     BadTransfer,
     /// A poll time is over 16,777,215 ms, or the manifestation time is 0 although the device is not
     /// tolerant of manifestation.
-    #[error("a poll time does not fit in 24 bits, or the manifestation time is 0 without tolerance")]
     BadPoll,
     /// The fewest bytes of an image are 0 or over 16,777,216.
-    #[error("the fewest bytes of an image are not 1 to 16777216")]
     BadLeast,
 }
 
-/// What the table reads of a device beside its mode: its fixed settings.
+impl fmt::Display for ConfigFault {
+    fn fmt(&self, f: &mut fmt::Formatter<'_>) -> fmt::Result {
+        f.write_str(match self {
+            ConfigFault::BadTransfer => "the transfer size is not 1 to 4096 bytes",
+            ConfigFault::BadPoll =>
+                "a poll time does not fit in 24 bits, or the manifestation time is 0 without tolerance",
+            ConfigFault::BadLeast => "the fewest bytes of an image are not 1 to 16777216",
+        })
+    }
+}
+
+/// Fixed settings of a device, which the table reads beside its mode.
 #[derive(Clone, Copy, Debug, PartialEq, Eq)]
 pub struct Profile {
     /// The functional descriptor.
     pub functional: Functional,
     /// The fewest bytes of an image.
     pub least: u32,
-    /// How long each block takes beside the erases and programs of the flash, in milliseconds.
+    /// Time of each block beside the erases and programs of the flash, in milliseconds.
     pub busy_ms: u32,
-    /// How long each image takes beside them, in milliseconds.
+    /// Time of each image beside them, in milliseconds.
     pub manifest_ms: u32,
-    /// How long the flash takes for an erase and for a program.
+    /// Time of the flash for an erase and for a program.
     pub pace: Pace,
     /// The most bytes of an image.
     pub capacity: u64,
@@ -119,7 +128,7 @@ impl Config {
         })
     }
 
-    /// The same, with the times of its flash.
+    /// Returns these settings with the times of the flash.
     pub fn with_pace(self, pace: Pace) -> Config {
         Config { pace, ..self }
     }
@@ -144,12 +153,12 @@ impl Config {
         self.least
     }
 
-    /// How long it takes to write a block, in milliseconds.
+    /// Returns the time to write a block, in milliseconds.
     pub fn busy_ms(&self) -> u32 {
         self.busy_ms
     }
 
-    /// How long it takes to put an image in place, in milliseconds.
+    /// Returns the time to put an image in place, in milliseconds.
     pub fn manifest_ms(&self) -> u32 {
         self.manifest_ms
     }
@@ -159,7 +168,7 @@ impl Config {
         self.pace
     }
 
-    /// What the table reads of a device that is set up like this, with room for images of so many bytes.
+    /// Returns the profile that the table reads of a device that is set up like this, with room for images of so many bytes.
     pub fn profile(&self, capacity: u64) -> Profile {
         Profile {
             functional: self.functional(),

@@ -1,10 +1,10 @@
 // Of crates/dfu_device/src/decision.rt, whose contracts are taken away.
 
-//! What a row of the device table says is to be done, and what is answered.
+//! Decision of a row of the device table: the act, and the answer.
 
 use crate::device::device_state::DeviceState;
 
-/// What a decision answers. A status and a state are those of the device after the row.
+/// Answer of a decision. A status and a state are those of the device after the row.
 #[derive(Clone, Copy, Debug, PartialEq, Eq)]
 pub enum Reply {
     /// The request is acknowledged.
@@ -17,8 +17,8 @@ pub enum Reply {
     Stall,
 }
 
-/// What a row of the device table says is to be done. Only the medium is left open: if a write has a fault, the device
-/// enters dfuERROR in place of the mode that is named here, and a status in its answer is that of dfuERROR.
+/// Decision of a row of the device table. Only the medium is left open: if a write has a fault, the device enters dfuERROR in place of the
+/// mode that is named here, and a status in its answer is that of dfuERROR.
 #[derive(Clone, Copy, Debug, PartialEq, Eq)]
 pub enum Decision {
     /// A mode is entered, and nothing of the slot store is called.
@@ -36,7 +36,7 @@ pub enum Decision {
     /// The next bytes of the active image are sent. Fewer than `size` are the last ones: dfuIDLE is entered then, and
     /// dfuUPLOAD-IDLE else.
     Sends {
-        /// How many bytes of the image were sent before.
+        /// Bytes of the image that were sent before.
         place: u32,
         /// wLength of the request, 1 or more.
         size: u16,
@@ -58,7 +58,7 @@ pub enum Decision {
     Commits {
         /// What is answered.
         reply: Reply,
-        /// How many they are.
+        /// Number of these bytes.
         written: u32,
         /// The mode.
         mode: DeviceState,

@@ -75,8 +75,8 @@ impl<M: Medium> Device<M> {
         Ok(Device::start(config, slots))
     }
 
-    /// The power goes and comes back: the device starts anew on its medium as it is, in place, as
-    /// `power_on` starts one on what `into_medium` gives back. That is never refused.
+    /// The power goes and comes back: the device starts anew on its medium as it is, in place, as `power_on` starts one on what
+    /// `into_medium` gives back. A restart is never refused.
     pub fn restart(&mut self) {
         self.core.mode = DeviceState::AppIdle;
         self.core.slots.reopen();
@@ -121,14 +121,14 @@ impl<M: Medium> Device<M> {
         self.core.config.ids()
     }
 
-    /// What the device was set up with.
+    /// Returns the settings of the device.
     pub fn config(&self) -> Config {
         self.core.config
     }
 
-    /// The slot store. Until the bytes taken are put in place they are at the front of the data of its
-    /// spare slot, except for a block that is not written yet. That is the store's view: if the medium's
-    /// unit is over 1 byte, the last of them may be held in memory until their unit is full.
+    /// The slot store. Until the bytes taken are put in place they are at the front of the data of its spare slot, except for a block that
+    /// is not written yet. The store's view is meant: if the medium's unit is over 1 byte, the last of them may be held in memory until
+    /// their unit is full.
     pub fn slots(&self) -> &Slots<M> {
         &self.core.slots
     }

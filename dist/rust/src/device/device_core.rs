@@ -41,12 +41,12 @@ impl<M: Medium> DeviceCore<M> {
         }
     }
 
-    /// What the table reads of it.
+    /// Returns the settings that the table reads of it.
     fn profile(&self) -> Profile {
         self.config.profile(u64::from(self.slots.capacity()))
     }
 
-    /// What a setup with its body comes to: the three rules before the table, then the table.
+    /// Returns the answer to a setup with its body: the three rules before the table, then the table.
     pub(crate) fn pending_answer(&mut self, setup: &[u8; 8], body: &[u8]) -> PendingAnswer {
         let (decision, asked) = asked_row(&self.profile(), self.mode, setup, body);
         self.carry_out(decision, asked, body)

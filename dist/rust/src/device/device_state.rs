@@ -7,8 +7,8 @@ use crate::device::time_table::poll_ms;
 use crate::device::Config;
 use crate::wire::{Code, State, Status};
 
-/// The mode of a device: a state of the standard (USB DFU 1.1, section 6.1.2), with what the device keeps there beside its
-/// slot store and the block that is not written. What a variant does not name is forgotten when it is entered.
+/// The mode of a device: a state of the standard (USB DFU 1.1, section 6.1.2), with what the device keeps there beside its slot store and
+/// the block that is not written. A variant forgets, when it is entered, all that it does not name.
 ///
 /// `written` is how many bytes of a download were put in the spare slot of the store; `number` is that of the next
 /// block; `passed` is how many milliseconds passed in this state.
@@ -74,7 +74,7 @@ pub enum DeviceState {
     ManifestWaitReset,
     /// dfuUPLOAD-IDLE: a part of the image was sent.
     UploadIdle {
-        /// How many bytes of the image were sent.
+        /// Bytes of the image that were sent.
         place: u32,
         /// The next part's number.
         number: u16,
@@ -122,8 +122,8 @@ impl DeviceState {
         }
     }
 
-    /// How many bytes an image has that was taken and may be refused: in dfuDNLOAD-IDLE, in dfuMANIFEST-SYNC before it is complete, and in
-    /// dfuMANIFEST.
+    /// Returns the length of an image that was taken and may be refused: in dfuDNLOAD-IDLE, in dfuMANIFEST-SYNC before it is complete, and
+    /// in dfuMANIFEST.
     pub fn candidate_len(self) -> Option<u32> {
         match self {
             DeviceState::DownloadIdle { written, .. }
@@ -133,8 +133,8 @@ impl DeviceState {
         }
     }
 
-    /// Whether a DNLOAD of no bytes closes a download in this mode, if an image has so many bytes at least: in dfuDNLOAD-IDLE, once as
-    /// many were taken.
+    /// Returns whether a DNLOAD of no bytes closes a download in this mode, if an image has so many bytes at least: in dfuDNLOAD-IDLE, once
+    /// as many were taken.
     pub fn may_close(self, least: u32) -> bool {
         match self {
             DeviceState::DownloadIdle { written, .. } => least <= written,

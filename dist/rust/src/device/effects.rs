@@ -1,6 +1,6 @@
 // Of crates/dfu_device/src/effects.rt, whose contracts are taken away.
 
-//! What a device does to its slot store: it writes a block, or makes the bytes taken the active image.
+//! Effects of a device on its slot store: it writes a block, or makes the bytes taken the active image.
 
 use crate::device::device_core::DeviceCore;
 use crate::device::device_state::DeviceState;

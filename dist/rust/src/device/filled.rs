@@ -1,38 +1,39 @@
 // Of crates/dfu_device/src/filled.rt, whose contracts are taken away.
 
-//! Whether a mode goes with what was put in a slot store.
+//! Fit of a mode with what was put in a slot store.
 
 use crate::device::device_state::DeviceState;
 
-/// What decides whether a mode goes with a slot store.
+/// Facts of a slot store that decide whether a mode goes with it.
 #[derive(Clone, Copy, Debug, PartialEq, Eq)]
 pub struct PutSoFar {
     /// The most bytes of an image.
     pub room: u32,
-    /// Whether the gate of the spare slot is closed.
+    /// Tells whether the gate of the spare slot is closed.
     pub begun: bool,
-    /// Where the puts end.
+    /// Place at which the puts end.
     pub end: u32,
 }
 
-// Whether so many bytes were put in the closed spare, and no more.
+// Returns whether so many bytes were put in the closed spare, and no more.
 fn is_put(seen: PutSoFar, written: u32) -> bool {
     seen.begun && seen.end == written
 }
 
-// Whether all is written, and some of it.
+// Returns whether all is written, and some of it.
 fn is_written(seen: PutSoFar, written: u32) -> bool {
     0 < written && written <= seen.room && is_put(seen, written)
 }
 
-// Whether there is room for a block of so many bytes after what is written.
+// Returns whether there is room for a block of so many bytes after the bytes that are written.
 fn is_next(seen: PutSoFar, written: u32, block: usize) -> bool {
     0 < block
         && u64::from(written) + block as u64 <= u64::from(seen.room)
         && (written == 0 || is_put(seen, written))
 }
 
-/// Whether a mode, with a block of so many bytes that is not written, goes with what was put in each slot store that looks like this.
+/// Returns whether a mode, with a block of so many bytes that is not written, goes with what was put in each slot store that looks like
+/// this.
 ///
 /// # What the caller must keep to
 ///

@@ -7,7 +7,7 @@ use crate::device::Device;
 use crate::slots::Medium;
 use crate::wire::{Code, Request, Setup};
 
-// Whether a request is a DNLOAD of no bytes.
+// Returns whether a request is a DNLOAD of no bytes.
 fn closes(request: Request) -> bool {
     match request {
         Request::Dnload { length, .. } => length == 0,
@@ -15,12 +15,12 @@ fn closes(request: Request) -> bool {
     }
 }
 
-/// Whether a setup is a DNLOAD with wLength 0, which closes a download in dfuDNLOAD-IDLE.
+/// Returns whether a setup is a DNLOAD with wLength 0, which closes a download in dfuDNLOAD-IDLE.
 pub fn is_close(setup: &[u8; 8]) -> bool {
     closes(Setup::decode(setup).request())
 }
 
-/// Why the program of a device refuses an image (USB DFU 1.1, section 6.1.2, bStatus).
+/// Reasons for which the program of a device refuses an image (USB DFU 1.1, section 6.1.2, bStatus).
 #[derive(Clone, Copy, Debug, PartialEq, Eq)]
 pub enum Objection {
     /// The image is not for this device: errTARGET.

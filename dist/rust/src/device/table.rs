@@ -10,7 +10,7 @@ use crate::device::device_state::DeviceState;
 use crate::device::plans::{ack, error, first, further, report, stall, tell, upload};
 use crate::wire::{Code, Request, Setup};
 
-// How many bytes of a status or of a state a request asks for: wLength.
+// Returns the bytes of a status or of a state that a request asks for: wLength.
 fn asked_length(request: Request) -> u16 {
     match request {
         Request::GetStatus { length } | Request::GetState { length } => length,
@@ -18,7 +18,7 @@ fn asked_length(request: Request) -> u16 {
     }
 }
 
-// Whether a body goes with its setup: it has wLength bytes if the host sends, and none if it reads.
+// Returns whether a body goes with its setup: it has wLength bytes if the host sends, and none if it reads.
 fn goes_with(setup: &Setup, body: &[u8]) -> bool {
     let len = if setup.kind == 0x21 {
         setup.length as usize
@@ -28,7 +28,7 @@ fn goes_with(setup: &Setup, body: &[u8]) -> bool {
     body.len() == len
 }
 
-// Whether a request goes by the table: it is one of the class, and its body goes with its setup.
+// Returns whether a request goes by the table: it is one of the class, and its body goes with its setup.
 fn is_served(setup: &Setup, request: Request, body: &[u8]) -> bool {
     match request {
         Request::NotDfu => false,
@@ -155,7 +155,7 @@ fn in_error(code: Code, request: Request) -> Decision {
     }
 }
 
-/// What a request of the class comes to in a mode: its row of the table. A DNLOAD is to have a body of wLength bytes.
+/// Returns the decision on a request of the class in a mode: its row of the table. A DNLOAD is to have a body of wLength bytes.
 ///
 /// In dfuDNBUSY and dfuMANIFEST any request is an error, GETSTATUS too, and nothing is written. In dfuMANIFEST-WAIT-RESET any
 /// request is stalled, and the device stays.
@@ -178,9 +178,9 @@ pub fn decide(profile: &Profile, mode: DeviceState, request: Request) -> Decisio
     }
 }
 
-/// What a setup with its body comes to in a mode, and how many bytes of a status or of a state it asks for. A request that is not one of
-/// the class for interface 0, or whose body does not go with it, is stalled and changes nothing; any other one goes by the table (USB DFU
-/// 1.1, section 3 and appendix A).
+/// Returns the decision on a setup with its body in a mode, and how many bytes of a status or of a state it asks for. A request that is not
+/// one of the class for interface 0, or whose body does not go with it, is stalled and changes nothing; any other one goes by the table
+/// (USB DFU 1.1, section 3 and appendix A).
 pub fn asked_row(
     profile: &Profile,
     mode: DeviceState,

@@ -8,7 +8,7 @@ use crate::device::decision::{Decision, Reply};
 use crate::device::device_state::DeviceState;
 use crate::device::plans::ack;
 
-// How many sectors begin in so many bytes from a place on.
+// Counts the sectors that begin in so many bytes from a place on.
 fn edges(sector: u32, at: u32, count: u32) -> u32 {
     let behind = at % sector;
     let rest = if behind == 0 { 0 } else { sector - behind };
@@ -55,7 +55,7 @@ fn image_ms(pace: Pace, base: u32, written: u32) -> u32 {
     writes_ms(pace, base, written - behind, count, 2)
 }
 
-/// How long the host is to wait in a mode with a block of so many bytes, in milliseconds (bwPollTimeout).
+/// Returns the time that the host must wait in a mode with a block of so many bytes, in milliseconds (bwPollTimeout).
 pub fn poll_ms(config: &Config, mode: DeviceState, block_len: usize) -> u32 {
     match mode {
         DeviceState::DownloadBusy { written, .. } => {
@@ -134,8 +134,8 @@ fn in_manifest(profile: &Profile, written: u32, passed: u32, ms: u32) -> Decisio
     })
 }
 
-/// What so many milliseconds come to in a mode with a block of so many bytes: their row of the table. In the other modes nothing comes of
-/// them.
+/// Returns the decision on so many milliseconds in a mode with a block of so many bytes: their row of the table. In the other modes nothing
+/// comes of them.
 pub fn decide_time(profile: &Profile, mode: DeviceState, block_len: usize, ms: u32) -> Decision {
     match mode {
         DeviceState::AppDetach { timer, passed } => in_app_detach(profile, timer, passed, ms),

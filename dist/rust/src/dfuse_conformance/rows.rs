@@ -1,6 +1,6 @@
 // Of crates/dfu_conformance/src/dfuse/rows.rt, whose contracts are taken away.
 
-//! What DfuSe adds to the table of USB DFU 1.1.
+//! Rows that DfuSe adds to the table of USB DFU 1.1.
 
 use crate::conformance::EventKind::{Close, GetState, GetStatus, Reset, Upload};
 use crate::conformance::Gives::{Ack, Short, Silent, Stall};
@@ -25,8 +25,8 @@ macro_rules! rows {
     };
 }
 
-/// What a DfuSe device may answer beyond USB DFU 1.1: where it is, what it is asked, what it answers, where it is then. `Habit`
-/// marks what each such device does, `Open` what they are known to do or may do.
+/// Answers that a DfuSe device may give beyond USB DFU 1.1: where it is, what it is asked, what it answers, where it is then. `Habit` marks
+/// what each such device does, `Open` what they are known to do or may do.
 #[rustfmt::skip]
 pub static DFUSE: [Row; 12] = rows!(
     // DNLOAD of no bytes asks the device to leave, from dfuIDLE too.

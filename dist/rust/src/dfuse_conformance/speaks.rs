@@ -1,10 +1,10 @@
 // Of crates/dfu_conformance/src/dfuse/speaks.rt, whose contracts are taken away.
 
-//! Whether a row is for a DfuSe device, and whether it may stay where it was.
+//! Rows for a DfuSe device, and the events at which it may stay where it was.
 
 use crate::conformance::{EventKind, LogEvent, Reading, Response, When};
 
-/// Whether a DfuSe device may have this habit: bit n of 0Fh is reading n.
+/// Returns whether a DfuSe device may have this habit: bit n of 0Fh is reading n.
 fn is_habit(reading: Reading) -> bool {
     match reading {
         Reading::Bootloader => true,
@@ -16,8 +16,8 @@ fn is_habit(reading: Reading) -> bool {
     }
 }
 
-/// Whether a row or a move that is for these devices is for a DfuSe device: one that can download and upload, isn't tolerant and detaches
-/// by itself (bmAttributes 0Bh), with the habits bootloader, runtime-mute, self-reset and detach-at-once.
+/// Returns whether a row or a move that is for these devices is for a DfuSe device: one that can download and upload, isn't tolerant and
+/// detaches by itself (bmAttributes 0Bh), with the habits bootloader, runtime-mute, self-reset and detach-at-once.
 pub fn is_of_dfuse(when: When) -> bool {
     match when {
         When::Always => true,
@@ -30,8 +30,8 @@ pub fn is_of_dfuse(when: When) -> bool {
     }
 }
 
-/// Whether a request has to be answered: GETSTATUS and GETSTATE as section 3 of USB DFU 1.1 has them. Any other request may be stalled, and
-/// nothing changes.
+/// Returns whether a request has to be answered: GETSTATUS and GETSTATE as section 3 of USB DFU 1.1 has them. Any other request may be
+/// stalled, and nothing changes.
 pub fn is_told(event: &LogEvent) -> bool {
     match event.asked {
         EventKind::GetStatus => event.is_plain,
@@ -40,7 +40,8 @@ pub fn is_told(event: &LogEvent) -> bool {
     }
 }
 
-/// Whether a device may stay where it was: nothing was seen of an answer, or a request was stalled that doesn't have to be answered.
+/// Returns whether a device may stay where it was: nothing was seen of an answer, or a request was stalled that doesn't have to be
+/// answered.
 pub(crate) fn may_rest(event: &LogEvent) -> bool {
     match event.answer {
         Response::Nothing => true,

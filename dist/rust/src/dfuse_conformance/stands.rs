@@ -1,6 +1,6 @@
 // Of crates/dfu_conformance/src/dfuse/stands.rt, whose contracts are taken away.
 
-//! Where a device may be.
+//! Places at which a device may be.
 
 use crate::dfuse_conformance::rows::DFUSE;
 use crate::dfuse_conformance::speaks::{is_of_dfuse, may_rest};
@@ -59,7 +59,7 @@ pub(crate) fn step(before: &Places, event: &LogEvent) -> Places {
     drift(&DRIFTS, &after)
 }
 
-/// Whether a device may be anywhere.
+/// Returns whether a device may be anywhere.
 pub(crate) fn is_anywhere(at: &Places) -> bool {
     let mut is_some = false;
     for n in 0..12 {

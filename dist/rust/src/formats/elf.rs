@@ -9,7 +9,7 @@ use crate::formats::numbers::{le16, le32};
 use crate::formats::parts::{ByPart, elements_by_part};
 use crate::memory::{Global, Vec};
 
-/// Whether a file has the header of such a file.
+/// Returns whether a file has the header of such a file.
 fn is_elf(file: &[u8]) -> bool {
     file.len() >= 52 && le32(file, 0) == 0x464c_457f && file[4] == 1 && file[5] == 1 && file[6] == 1
 }

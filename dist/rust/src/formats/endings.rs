@@ -1,10 +1,10 @@
 // Of crates/dfu_formats/src/images/endings.rt, whose contracts are taken away.
 
-//! What the ending of a file's name says.
+//! Formats by the ending of a file's name.
 
 use crate::formats::format::Format;
 
-/// What the ending of a file's name says that it is.
+/// Format that the ending of a file's name says.
 #[derive(Clone, Copy, Debug, PartialEq, Eq)]
 pub enum Ending {
     /// A file of a format that builds produce.
@@ -13,7 +13,7 @@ pub enum Ending {
     Dfu,
 }
 
-/// Whether a name has this ending, in letters of either case.
+/// Returns whether a name has this ending, in letters of either case.
 fn ends_in(ending: &[u8], name: &[u8]) -> bool {
     if name.len() < ending.len() {
         return false;
@@ -22,7 +22,7 @@ fn ends_in(ending: &[u8], name: &[u8]) -> bool {
     last.eq_ignore_ascii_case(ending)
 }
 
-/// What the ending of a name says, if anything.
+/// Returns the format that the ending of a name says, if it says one.
 pub(crate) fn name_ending(name: &[u8]) -> Option<Ending> {
     if ends_in(b".dfu", name) {
         Some(Ending::Dfu)

@@ -1,11 +1,11 @@
 // Of crates/dfu_formats/src/images/fault.rt, whose contracts are taken away.
 
-//! Why a file is refused.
+//! Faults for which a file is refused.
 
 use core::fmt;
 use thiserror::Error;
 
-/// Why a file has no image. Lines are counted from 1, and blocks and segments from 0.
+/// Faults for which a file has no image. Lines are counted from 1, and blocks and segments from 0.
 #[derive(Clone, Copy, Debug, PartialEq, Eq, Error)]
 pub enum ImageFault {
     /// An allocation was refused.
@@ -56,71 +56,81 @@ pub enum ImageFault {
     Overlaps(u32),
 }
 
-impl ImageFault {
-    /// The place that the fault names, by its kind and number, if it names one.
-    fn place(self) -> Option<(&'static str, usize)> {
-        match self {
-            ImageFault::NoMark(number)
-            | ImageFault::BadDigit(number)
-            | ImageFault::BadLength(number)
-            | ImageFault::BadChecksum(number)
-            | ImageFault::BadType(number)
-            | ImageFault::BadCount(number)
-            | ImageFault::PastSegment(number)
-            | ImageFault::Trailing(number) => Some(("line", number)),
-            ImageFault::BadMagic(number)
-            | ImageFault::BadBlock(number)
-            | ImageFault::BadNumber(number)
-            | ImageFault::FileContainer(number)
-            | ImageFault::OtherFamily(number) => Some(("block", number)),
-            ImageFault::CutSegment(number) => Some(("segment", number)),
-            ImageFault::PastTheEnd(number)
-            | ImageFault::TooLarge(number)
-            | ImageFault::TooManyElements(number) => Some(("at", number)),
-            _ => None,
-        }
-    }
+/// The row of Overlaps, whose number is an address.
+const OVERLAPS: usize = 22;
 
-    /// The fault in words, without a place or an address.
-    fn words(self) -> &'static str {
+/// The words of each fault, without a place or an address, in the order of the enum.
+static WORDS: [&str; 23] = [
+    "an allocation was refused",
+    "no record begins so",
+    "not all is pairs of hexadecimal digits",
+    "the record has a wrong length",
+    "the checksum is wrong",
+    "the record has an unknown type",
+    "the count of records is wrong",
+    "the data ends behind its segment, or behind the last address",
+    "something stands behind the end record",
+    "the end record is missing",
+    "the file isn't blocks of 512 bytes",
+    "no block begins and ends so",
+    "it can't have so much data",
+    "it has another number, or another count",
+    "it is for a file, and not for flash",
+    "it is for another family of boards than the first",
+    "the file isn't an ELF file of 32 bits, little endian",
+    "the program headers are cut off, or have another size",
+    "it is cut off",
+    "the data ends behind address FFFFFFFF",
+    "the image has over 16,777,216 bytes",
+    "the image has over 1,024 parts",
+    "two records have a byte at address ",
+];
+
+/// The kind of place that the number of each fault counts, if it counts one, in the order of the enum.
+#[rustfmt::skip]
+static PLACES: [&str; 23] = [
+    "", "line", "line", "line", "line", "line", "line", "line", "line", "", "", "block", "block", "block", "block", "block", "",
+    "", "segment", "at", "at", "at", "",
+];
+
+impl ImageFault {
+    /// The fault's row in the tables, and its number or address, if it has one.
+    fn row(self) -> (usize, Option<usize>) {
         match self {
-            ImageFault::NoMemory => "an allocation was refused",
-            ImageFault::NoMark(_) => "no record begins so",
-            ImageFault::BadDigit(_) => "not all is pairs of hexadecimal digits",
-            ImageFault::BadLength(_) => "the record has a wrong length",
-            ImageFault::BadChecksum(_) => "the checksum is wrong",
-            ImageFault::BadType(_) => "the record has an unknown type",
-            ImageFault::BadCount(_) => "the count of records is wrong",
-            ImageFault::PastSegment(_) =>
-                "the data ends behind its segment, or behind the last address",
-            ImageFault::Trailing(_) => "something stands behind the end record",
-            ImageFault::NoEnd => "the end record is missing",
-            ImageFault::BadSize => "the file isn't blocks of 512 bytes",
-            ImageFault::BadMagic(_) => "no block begins and ends so",
-            ImageFault::BadBlock(_) => "it can't have so much data",
-            ImageFault::BadNumber(_) => "it has another number, or another count",
-            ImageFault::FileContainer(_) => "it is for a file, and not for flash",
-            ImageFault::OtherFamily(_) => "it is for another family of boards than the first",
-            ImageFault::NotElf => "the file isn't an ELF file of 32 bits, little endian",
-            ImageFault::CutHeader => "the program headers are cut off, or have another size",
-            ImageFault::CutSegment(_) => "it is cut off",
-            ImageFault::PastTheEnd(_) => "the data ends behind address FFFFFFFF",
-            ImageFault::TooLarge(_) => "the image has over 16,777,216 bytes",
-            ImageFault::TooManyElements(_) => "the image has over 1,024 parts",
-            ImageFault::Overlaps(_) => "two records have a byte at address ",
+            ImageFault::NoMemory => (0, None),
+            ImageFault::NoMark(number) => (1, Some(number)),
+            ImageFault::BadDigit(number) => (2, Some(number)),
+            ImageFault::BadLength(number) => (3, Some(number)),
+            ImageFault::BadChecksum(number) => (4, Some(number)),
+            ImageFault::BadType(number) => (5, Some(number)),
+            ImageFault::BadCount(number) => (6, Some(number)),
+            ImageFault::PastSegment(number) => (7, Some(number)),
+            ImageFault::Trailing(number) => (8, Some(number)),
+            ImageFault::NoEnd => (9, None),
+            ImageFault::BadSize => (10, None),
+            ImageFault::BadMagic(number) => (11, Some(number)),
+            ImageFault::BadBlock(number) => (12, Some(number)),
+            ImageFault::BadNumber(number) => (13, Some(number)),
+            ImageFault::FileContainer(number) => (14, Some(number)),
+            ImageFault::OtherFamily(number) => (15, Some(number)),
+            ImageFault::NotElf => (16, None),
+            ImageFault::CutHeader => (17, None),
+            ImageFault::CutSegment(number) => (18, Some(number)),
+            ImageFault::PastTheEnd(number) => (19, Some(number)),
+            ImageFault::TooLarge(number) => (20, Some(number)),
+            ImageFault::TooManyElements(number) => (21, Some(number)),
+            ImageFault::Overlaps(address) => (OVERLAPS, Some(address as usize)),
         }
     }
 }
 
 impl fmt::Display for ImageFault {
     fn fmt(&self, f: &mut fmt::Formatter<'_>) -> fmt::Result {
-        if let Some((kind, number)) = self.place() {
-            write!(f, "{kind} {number}: ")?;
-        }
-        f.write_str(self.words())?;
-        match self {
-            ImageFault::Overlaps(address) => write!(f, "{address:08x}"),
-            _ => Ok(()),
+        let (row, number) = self.row();
+        match number {
+            Some(address) if row == OVERLAPS => write!(f, "{}{address:08x}", WORDS[row]),
+            Some(number) => write!(f, "{} {number}: {}", PLACES[row], WORDS[row]),
+            None => f.write_str(WORDS[row]),
         }
     }
 }

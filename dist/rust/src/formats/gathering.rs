@@ -16,7 +16,7 @@ pub(crate) struct Gathering {
     total: usize,
 }
 
-/// How many elements have an address up to this one, counted from the front.
+/// Counts the elements that have an address up to this one, from the front.
 fn place_of(address: u32, elements: &[Element]) -> usize {
     let mut count: usize = 0;
     for element in elements {

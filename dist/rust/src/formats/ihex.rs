@@ -52,7 +52,7 @@ fn framed(at: usize, bytes: &[u8]) -> Result<Record<'_>, ImageFault> {
     })
 }
 
-/// Whether the data of a record goes past the end of its segment, if it has one.
+/// Returns whether the data of a record goes past the end of its segment, if it has one.
 fn leaves_segment(state: &State, said: &Record<'_>) -> bool {
     state.is_segment && said.offset as usize + said.content.len() > 65_536
 }
@@ -103,8 +103,14 @@ struct IntelHex;
 
 impl TextFormat for IntelHex {
     fn step(alloc: Global, at: usize, state: State, line: &[u8]) -> Result<State, ImageFault> {
-        let bytes = spelled(at, line)?;
-        let said = framed(at, &bytes)?;
+        let bytes = match spelled(at, line) {
+            Ok(bytes) => bytes,
+            Err(fault) => return Err(fault),
+        };
+        let said = match framed(at, &bytes) {
+            Ok(said) => said,
+            Err(fault) => return Err(fault),
+        };
         meant(alloc, at, state, &said)
     }
 }

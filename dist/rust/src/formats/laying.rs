@@ -5,20 +5,33 @@
 use crate::formats::element::Element;
 use crate::formats::limits::MAX_IMAGE;
 use crate::memory::{Global, Vec};
+use core::fmt;
 use thiserror::Error;
 
-/// Why elements do not make an image.
+/// Faults of elements that do not make an image.
 #[derive(Clone, Copy, Debug, PartialEq, Eq, Error)]
 pub enum LayFault {
     /// An allocation was refused.
-    #[error("an allocation was refused")]
     NoMemory,
     /// Nothing has these addresses, from the first up to before the second, and there is nothing to fill them with.
-    #[error("nothing is at {0:08x} to before {1:08x}, and no filling is given")]
     Gap(u64, u32),
     /// With the filling of the gaps there are over 16,777,216 bytes.
-    #[error("from the lowest to the highest address there are over 16,777,216 bytes")]
     TooLarge,
+}
+
+impl fmt::Display for LayFault {
+    fn fmt(&self, f: &mut fmt::Formatter<'_>) -> fmt::Result {
+        match self {
+            LayFault::Gap(from, to) => write!(
+                f,
+                "nothing is at {from:08x} to before {to:08x}, and no filling is given"
+            ),
+            LayFault::NoMemory => f.write_str("an allocation was refused"),
+            LayFault::TooLarge => f.write_str(
+                "from the lowest to the highest address there are over 16,777,216 bytes",
+            ),
+        }
+    }
 }
 
 /// Puts an element after bytes that end at this address.

@@ -8,7 +8,7 @@ use crate::formats::gathering::Gathering;
 use crate::formats::text::{is_blank_byte, unblanked, unmarked};
 use crate::memory::{Global, Vec};
 
-/// Where the first line feed is.
+/// Returns the place of the first line feed.
 fn feed_in(text: &[u8]) -> Option<usize> {
     text.iter().position(|byte| *byte == b'\n')
 }
@@ -36,8 +36,8 @@ fn bare(line: &[u8]) -> &[u8] {
     kept
 }
 
-/// What was read of a text up to a line: the elements, what Intel HEX counts offsets from, whether that is a segment of 65,536 bytes,
-/// how many S-records of data there were, whether the text may end here, and whether only blank lines may follow.
+/// State of the reading of a text up to a line: the elements, what Intel HEX counts offsets from, whether that is a segment of 65,536
+/// bytes, how many S-records of data there were, whether the text may end here, and whether only blank lines may follow.
 #[derive(Debug, PartialEq, Eq)]
 pub(crate) struct State {
     pub gathering: Gathering,
@@ -53,7 +53,7 @@ pub(crate) trait TextFormat {
     fn step(alloc: Global, at: usize, state: State, line: &[u8]) -> Result<State, ImageFault>;
 }
 
-/// Whether a line has nothing but blanks.
+/// Returns whether a line has nothing but blanks.
 fn is_blank_line(line: &[u8]) -> bool {
     line.iter().all(|byte| is_blank_byte(*byte))
 }

@@ -1,6 +1,6 @@
 // Of crates/dfu_formats/src/images/looks.rt, whose contracts are taken away.
 
-//! What a file without a DFU suffix is.
+//! Looks of a file without a DFU suffix.
 
 use crate::formats::digits::hex_digit;
 use crate::formats::endings::{Ending, name_ending};
@@ -23,7 +23,7 @@ pub enum NotImage {
     Named(Ending),
 }
 
-/// What a file is.
+/// Look of a file.
 #[derive(Clone, Copy, Debug, PartialEq, Eq)]
 pub enum Looks {
     /// Nothing is known against a raw image.
@@ -39,13 +39,13 @@ pub enum Looks {
 pub struct Look {
     /// What it is.
     pub looks: Looks,
-    /// What the ending of its name says, whatever its bytes are.
+    /// Format that the ending of its name says, whatever its bytes are.
     pub ending: Option<Ending>,
     /// The first byte that no record has there, of a file that looks like Intel HEX or S-records.
     pub bad: Option<Place>,
 }
 
-/// Whether the first two bytes are hexadecimal digits.
+/// Returns whether the first two bytes are hexadecimal digits.
 fn has_digits(text: &[u8]) -> bool {
     match text {
         [high, low, ..] => hex_digit(*high) < 16 && hex_digit(*low) < 16,
@@ -53,7 +53,7 @@ fn has_digits(text: &[u8]) -> bool {
     }
 }
 
-/// Whether the text of a file begins as Intel HEX.
+/// Returns whether the text of a file begins as Intel HEX.
 fn begins_ihex(file: &[u8], text: &[u8]) -> bool {
     match text {
         [b':', rest @ ..] => has_digits(rest) || is_text(file),
@@ -61,7 +61,7 @@ fn begins_ihex(file: &[u8], text: &[u8]) -> bool {
     }
 }
 
-/// Whether a text begins as an S-record.
+/// Returns whether a text begins as an S-record.
 fn begins_srec(text: &[u8]) -> bool {
     match text {
         [b'S', b'0'..=b'9', rest @ ..] => has_digits(rest),
@@ -69,7 +69,7 @@ fn begins_srec(text: &[u8]) -> bool {
     }
 }
 
-/// What a file is if its bytes say nothing.
+/// Returns the look of a file whose bytes say nothing.
 fn looks_by_name(ending: Option<Ending>) -> Looks {
     match ending {
         Some(ending) => Looks::Other(NotImage::Named(ending)),
@@ -77,7 +77,7 @@ fn looks_by_name(ending: Option<Ending>) -> Looks {
     }
 }
 
-/// What a file is, by its bytes and what its name says.
+/// Returns the look of a file, by its bytes and the ending of its name.
 fn looks_of(file: &[u8], ending: Option<Ending>) -> Looks {
     let text = unblanked(unmarked(file));
     if file.starts_with(b"DfuSe") {

@@ -8,6 +8,7 @@ use crate::formats::format::Format;
 use crate::formats::laying::{LayFault, lay, lowest};
 use crate::formats::{elf, ihex, srec, uf2};
 use crate::memory::{Global, Vec};
+use core::fmt;
 use thiserror::Error;
 
 /// The bytes from the lowest address of a file to its highest one.
@@ -19,18 +20,25 @@ pub struct Image {
     pub bytes: Vec<u8>,
 }
 
-/// Why there is no image of a file.
+/// Faults for which there is no image of a file.
 #[derive(Clone, Copy, Debug, PartialEq, Eq, Error)]
 pub enum ImageFileFault {
     /// It can't be read.
-    #[error("{0}")]
     Unread(ImageFault),
     /// It has no byte for any address.
-    #[error("it has no bytes for an image")]
     NoData,
     /// Its elements don't make one piece.
-    #[error("{0}")]
     Unlaid(LayFault),
+}
+
+impl fmt::Display for ImageFileFault {
+    fn fmt(&self, f: &mut fmt::Formatter<'_>) -> fmt::Result {
+        match self {
+            ImageFileFault::Unread(fault) => fmt::Display::fmt(fault, f),
+            ImageFileFault::NoData => f.write_str("it has no bytes for an image"),
+            ImageFileFault::Unlaid(fault) => fmt::Display::fmt(fault, f),
+        }
+    }
 }
 
 /// The elements of a file of a format.

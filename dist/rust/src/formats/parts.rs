@@ -7,7 +7,7 @@ use crate::formats::fault::ImageFault;
 use crate::formats::gathering::Gathering;
 use crate::memory::{Global, Vec};
 
-/// What is known of a file before its parts are read, in a format that is read part by part.
+/// Facts of a file before its parts are read, in a format that is read part by part.
 pub(crate) trait ByPart {
     fn part_read(
         &self,
@@ -18,7 +18,7 @@ pub(crate) trait ByPart {
     ) -> Result<Gathering, ImageFault>;
 }
 
-/// What so many parts give.
+/// Parses the first `total` parts.
 fn parts_read<F: ByPart>(
     alloc: Global,
     file: &F,

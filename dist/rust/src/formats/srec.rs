@@ -53,8 +53,14 @@ struct SRecord;
 
 impl TextFormat for SRecord {
     fn step(alloc: Global, at: usize, state: State, line: &[u8]) -> Result<State, ImageFault> {
-        let typed = spelled(at, line)?;
-        let said = framed(at, &typed)?;
+        let typed = match spelled(at, line) {
+            Ok(typed) => typed,
+            Err(fault) => return Err(fault),
+        };
+        let said = match framed(at, &typed) {
+            Ok(said) => said,
+            Err(fault) => return Err(fault),
+        };
         match said.kind {
             0 => Ok(state),
             1..=3 => data_at(alloc, at, state, &said),

@@ -28,7 +28,7 @@ pub(crate) fn spelled(at: usize, line: &[u8]) -> Result<Typed, ImageFault> {
     }
 }
 
-/// How many bytes the address of a record has.
+/// Returns the bytes of the address of a record.
 fn width(kind: u8) -> usize {
     match kind {
         3 | 7 => 4,

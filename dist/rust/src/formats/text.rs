@@ -10,7 +10,7 @@ pub(crate) fn unmarked(text: &[u8]) -> &[u8] {
     }
 }
 
-/// Whether a byte is a space, a tab or a carriage return.
+/// Returns whether a byte is a space, a tab or a carriage return.
 pub(crate) fn is_blank_byte(byte: u8) -> bool {
     byte == b' ' || byte == b'\t' || byte == b'\r'
 }
@@ -27,7 +27,7 @@ pub(crate) fn unblanked(text: &[u8]) -> &[u8] {
     rest
 }
 
-/// Whether a byte is no control character but a tab, line feed, form feed or carriage return.
+/// Returns whether a byte is no control character but a tab, line feed, form feed or carriage return.
 fn is_text_byte(byte: u8) -> bool {
     match byte {
         b'\t' | b'\n' | 0x0c | b'\r' => true,
@@ -35,7 +35,7 @@ fn is_text_byte(byte: u8) -> bool {
     }
 }
 
-/// What is awaited of a character of UTF-8: how many bytes, and the bounds of the next one.
+/// Bytes that are awaited of a character of UTF-8: how many, and the bounds of the next one.
 #[derive(Clone, Copy, Debug, PartialEq, Eq)]
 struct Awaited {
     left: u8,
@@ -50,7 +50,7 @@ const NOTHING: Awaited = Awaited {
     high: 0xbf,
 };
 
-/// What is awaited behind the first byte of a character.
+/// Returns the bytes that are awaited behind the first byte of a character.
 fn awaited_behind_first(byte: u8) -> Option<Awaited> {
     let (left, low, high) = match byte {
         0..=0x7f => return if is_text_byte(byte) {
@@ -70,7 +70,7 @@ fn awaited_behind_first(byte: u8) -> Option<Awaited> {
     Some(Awaited { left, low, high })
 }
 
-/// What is awaited behind a byte.
+/// Returns the bytes that are awaited behind a byte.
 fn awaited_behind(awaited: Awaited, byte: u8) -> Option<Awaited> {
     if awaited.left == 0 {
         return awaited_behind_first(byte);
@@ -84,7 +84,7 @@ fn awaited_behind(awaited: Awaited, byte: u8) -> Option<Awaited> {
     None
 }
 
-/// Whether bytes are characters of UTF-8, none of them another control character.
+/// Returns whether bytes are characters of UTF-8, none of them another control character.
 fn are_characters(bytes: &[u8]) -> bool {
     let mut awaited = NOTHING;
     for byte in bytes {
@@ -96,7 +96,7 @@ fn are_characters(bytes: &[u8]) -> bool {
     awaited.left == 0
 }
 
-/// Whether a file is text alone: UTF-8, without other control characters.
+/// Returns whether a file is text alone: UTF-8, without other control characters.
 pub(crate) fn is_text(file: &[u8]) -> bool {
     file.len() != 0 && are_characters(file)
 }

@@ -9,14 +9,14 @@ use crate::formats::numbers::le32;
 use crate::formats::parts::{ByPart, elements_by_part};
 use crate::memory::{Global, Vec};
 
-/// Whether a block has its three marks.
+/// Returns whether a block has its three marks.
 fn is_block(block: &[u8]) -> bool {
     le32(block, 0) == 0x0a32_4655
         && le32(block, 4) == 0x9e5d_5157
         && le32(block, 508) == 0x0ab1_6f30
 }
 
-/// Whether a block has a flag.
+/// Returns whether a block has a flag.
 fn has_flag(block: &[u8], flag: u32) -> bool {
     le32(block, 8) / flag % 2 == 1
 }
@@ -57,7 +57,7 @@ fn flashed(
     gathering.add(alloc, index, address, content)
 }
 
-/// What blocks have to name: how many they are, and the family of the first.
+/// Fields that blocks have to name: how many they are, and the family of the first.
 #[derive(Debug, PartialEq, Eq)]
 struct Blocks {
     total: usize,

@@ -3,12 +3,12 @@
 //! The copy of the image in the second slot: its bytes, its header, and then the gate is opened.
 
 use crate::home::Due;
-use crate::home::bytes::{are_blank, are_same, fill_up};
-use crate::boot::install;
+use crate::home::bytes::{are_same, fill_up};
+use crate::boot::install::{self, are_blank};
 use crate::slots::{Medium, OPEN_GATE, VERSION, gate_of, header_of, length_in, make_header};
 use crate::suffix::Crc;
 
-// Where the last operation went in the data of the first slot, if it went there.
+// Returns the place of the last operation in the data of the first slot, if it went there.
 fn last_in_data(gates: u32, last: Option<u32>) -> Option<u32> {
     match last {
         None => None,
@@ -43,13 +43,13 @@ fn away_image<'f, M: Medium>(medium: &M, flash: &'f [u8]) -> &'f [u8] {
     &data[..length_in(&header_of(medium, half)) as usize]
 }
 
-// How many bytes a gate unit has, and a header unit as many.
+// Returns the bytes of a gate unit; a header unit has as many.
 fn gate_size<M: Medium>(medium: &M) -> u32 {
     16.max(medium.unit().size())
 }
 
-// What is due of a gate unit that begins there, which is to have these bytes, and zeros after them: it is programmed if the last operation
-// erased it, and else erased.
+// Returns the operation that is due of a gate unit that begins there, which is to have these bytes, and zeros after them: it is programmed
+// if the last operation erased it, and else erased.
 fn unit_due<M: Medium>(
     medium: &M,
     flash: &[u8],
@@ -69,7 +69,7 @@ fn unit_due<M: Medium>(
     Due::Program { at, len }
 }
 
-// What is due once the bytes are there: the header, or behind it the gate.
+// Returns the operation that is due once the bytes are there: the header, or behind it the gate.
 fn head<M: Medium>(
     medium: &M,
     flash: &[u8],
@@ -84,7 +84,7 @@ fn head<M: Medium>(
     unit_due(medium, flash, gate_of(medium), last, &header, out)
 }
 
-/// What is due of a copy.
+/// Returns the operation that is due of a copy.
 pub(crate) fn copy<M: Medium>(
     medium: &M,
     flash: &[u8],

@@ -1,18 +1,18 @@
 // Of crates/dfu_home/src/deciding.rt, whose contracts are taken away.
 
-//! What is due next.
+//! Operation that is due next.
 
 use crate::home::asking::is_home;
 use crate::home::copying::copy;
 use crate::home::{Due, Progress, Refusal};
 use crate::slots::{Medium, capacity_of, header_of, is_open, is_sized, length_in};
 
-// How many operations may come on a medium: one for each 128 bytes. A medium that works needs fewer.
+// Returns the number of operations that may come on a medium: one for each 128 bytes. A medium that works needs fewer.
 fn most_operations<M: Medium>(medium: &M) -> u32 {
     medium.len() / 128
 }
 
-// Whether the second slot, of which alone the image can be, is open, and its image fits.
+// Returns whether the second slot, of which alone the image can be, is open, and its image fits.
 fn is_copying<M: Medium>(medium: &M) -> bool {
     let second = medium.len() / 2;
     if !is_open(medium, second) {
@@ -24,7 +24,7 @@ fn is_copying<M: Medium>(medium: &M) -> bool {
     true
 }
 
-// Whether the medium has an active image, unless so many operations came since it was looked at.
+// Returns whether the medium has an active image, unless so many operations came since it was looked at.
 fn is_looked<M: Medium>(medium: &M, count: u32) -> bool {
     if count > 0 {
         return true;
@@ -32,7 +32,7 @@ fn is_looked<M: Medium>(medium: &M, count: u32) -> bool {
     is_home(medium).is_some()
 }
 
-// What is due while the gate of the first slot is open.
+// Returns the operation that is due while the gate of the first slot is open.
 fn opened<M: Medium>(medium: &M, progress: Progress) -> Due {
     match is_home(medium) {
         None => Due::Refuse(Refusal::NoImage),
@@ -46,7 +46,7 @@ fn opened<M: Medium>(medium: &M, progress: Progress) -> Due {
     }
 }
 
-// What is due while it is closed: the image can only be in the second slot.
+// Returns the operation that is due while it is closed: the image can only be in the second slot.
 fn shut<M: Medium>(medium: &M, flash: &[u8], progress: Progress, out: &mut [u8; 256]) -> Due {
     if !is_looked(medium, progress.count) {
         return Due::Refuse(Refusal::NoImage);
@@ -60,7 +60,7 @@ fn shut<M: Medium>(medium: &M, flash: &[u8], progress: Progress, out: &mut [u8; 
     copy(medium, flash, progress.last, out)
 }
 
-/// What is due next, so that the active image comes to the first slot.
+/// Returns the operation that is due next, so that the active image comes to the first slot.
 ///
 /// `flash` has the bytes of the medium, as it is mapped for reading. `progress` is no last operation and a count of 0 after each loss of
 /// power, and else what `took` returned. Whatever it is, `Home` comes only if the active image is in the first slot, each operation lies

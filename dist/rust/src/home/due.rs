@@ -1,8 +1,8 @@
 // Of crates/dfu_home/src/due.rt, whose contracts are taken away.
 
-//! What is due next, and how far the work is.
+//! Operation that is due next, and progress of the work.
 
-/// Why nothing is due. They are looked for in this order.
+/// Refusals for which nothing is due. They are looked for in this order.
 #[derive(Clone, Copy, Debug, PartialEq, Eq)]
 pub enum Refusal {
     /// The medium has no sectors.
@@ -13,7 +13,7 @@ pub enum Refusal {
     NotWritten,
 }
 
-/// What is due next. Places are those of the medium, from 0 on.
+/// Operation that is due next. Places are those of the medium, from 0 on.
 #[derive(Clone, Copy, Debug, PartialEq, Eq)]
 pub enum Due {
     /// Nothing: no image can be brought to the first slot.
@@ -22,23 +22,23 @@ pub enum Due {
     Home,
     /// An erase of the sector that begins there.
     Erase {
-        /// Where the sector begins.
+        /// Place at which the sector begins.
         at: u32,
     },
     /// A program of so many bytes there: those that `next` put at the front of its buffer.
     Program {
-        /// Where the first byte goes.
+        /// Place of the first byte.
         at: u32,
-        /// How many there are, from 16 to 256: whole units.
+        /// Number of bytes, from 16 to 256: whole units.
         len: u32,
     },
 }
 
-/// What is kept between two operations: nothing after each loss of power.
+/// Progress that is kept between two operations: nothing after each loss of power.
 #[derive(Clone, Copy, Debug, PartialEq, Eq)]
 pub struct Progress {
-    /// Where the last operation went, if it worked.
+    /// Place of the last operation, if it worked.
     pub last: Option<u32>,
-    /// How many operations came since the power came.
+    /// Operations that came since the power came.
     pub count: u32,
 }

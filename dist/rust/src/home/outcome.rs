@@ -1,11 +1,12 @@
 // Of crates/dfu_home/src/outcome.rt, whose contracts are taken away.
 
-//! How an operation went.
+//! Outcome of an operation.
 
-use crate::home::bytes::{are_blank, are_same};
+use crate::home::bytes::are_same;
 use crate::home::{Due, Progress};
+use crate::boot::install::are_blank;
 
-// Whether an operation worked, as it reads.
+// Returns whether an operation worked, as it reads.
 fn worked(flash: &[u8], sector: u32, due: Due, bytes: &[u8; 256]) -> bool {
     match due {
         Due::Erase { at } => {
@@ -24,7 +25,7 @@ fn worked(flash: &[u8], sector: u32, due: Due, bytes: &[u8; 256]) -> bool {
     }
 }
 
-/// How far the work is once an operation was carried out, or `failed`: what `next` takes.
+/// Returns the progress of the work once an operation was carried out, or `failed`: what `next` takes.
 ///
 /// `due` is what `next` returned, and `bytes` what it put into its buffer. The flash is read back: after an erase the whole sector has to
 /// read FFh, after a program its bytes. The count goes up by 1, whatever became of it.

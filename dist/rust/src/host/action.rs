@@ -1,10 +1,10 @@
 // Of crates/dfu_host/src/action.rt, whose contracts are taken away.
 
-//! What a host asks its caller to do.
+//! Actions that a host asks its caller to do.
 
 use crate::host::report::Report;
 
-/// What a host asks its caller to do.
+/// Actions that a host asks its caller to do.
 #[derive(Clone, Copy, Debug, PartialEq, Eq)]
 pub enum Action<'f> {
     /// Send this request (USB DFU 1.1, section 3). `body` is what goes out with it: a block of

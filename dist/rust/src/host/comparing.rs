@@ -25,7 +25,7 @@ impl Task<'_> {
         }
     }
 
-    /// What follows a part of this many bytes, by whether it is the payload's.
+    /// Returns the phase after a part of this many bytes, by whether it is the payload's.
     fn compared(&self, number: u16, same: bool, len: usize) -> Phase {
         let transfer = self.transfer as usize;
         if len > transfer {

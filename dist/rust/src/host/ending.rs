@@ -10,8 +10,8 @@ use crate::host::task::Task;
 use crate::wire::{Code, State, Status};
 
 impl Task<'_> {
-    /// What follows the status after a refusal: dfuERROR with a code of its own ends the session,
-    /// and every other status goes by the list.
+    /// Returns the phase after the status that follows a refusal: dfuERROR with a code of its own ends the session, and every other status
+    /// goes by the list.
     pub(crate) fn troubled(&self, status: Status) -> Phase {
         match status.state() {
             State::Error => match status.code() {
@@ -22,7 +22,7 @@ impl Task<'_> {
         }
     }
 
-    /// Whether the close precedes this phase of a session.
+    /// Returns whether the close precedes this phase of a session.
     pub(crate) fn is_behind_close(&self, phase: Phase) -> bool {
         match phase {
             Phase::Manifest | Phase::WaitManifest(_) | Phase::WaitLast(_) => true,
@@ -42,7 +42,7 @@ impl Task<'_> {
         }
     }
 
-    /// What follows the status that was asked for after the close.
+    /// Returns the phase after the status that was asked for after the close.
     pub(crate) fn manifested(&self, status: Status) -> Phase {
         if self.tolerant {
             self.confirmed(status)
@@ -51,7 +51,7 @@ impl Task<'_> {
         }
     }
 
-    /// What a tolerant device's status says about the new image: only dfuIDLE with OK is an install.
+    /// Returns the phase by which a tolerant device's status confirms the new image: only dfuIDLE with OK is an install.
     fn confirmed(&self, status: Status) -> Phase {
         match (status.state(), status.code()) {
             (State::ManifestSync | State::Manifest, _) => Phase::WaitManifest(status.poll_ms()),
@@ -60,7 +60,7 @@ impl Task<'_> {
         }
     }
 
-    /// What the status of a device that isn't tolerant says about it: nothing confirms an install.
+    /// Returns the phase after the status of a device that isn't tolerant, which never confirms an install.
     fn unconfirmed(&self, status: Status) -> Phase {
         match status.state() {
             State::ManifestSync | State::Manifest => Phase::WaitLast(status.poll_ms()),

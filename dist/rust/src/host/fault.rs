@@ -1,11 +1,11 @@
 // Of crates/dfu_host/src/fault.rt, whose contracts are taken away.
 
-//! Why a session does not begin.
+//! Faults for which a session does not begin.
 
 use core::fmt;
 use thiserror::Error;
 
-/// Why a session does not begin. A call returns the first that holds, in this order.
+/// Faults for which a session does not begin. A call returns the first that holds, in this order.
 #[derive(Clone, Copy, Debug, PartialEq, Eq, Error)]
 pub enum HostFault {
     /// The file's payload has no bytes. Only for downloads.

@@ -13,8 +13,7 @@ use crate::host::task::Task;
 pub(crate) const MOST_PARTS: u16 = 65_535;
 
 impl Task<'_> {
-    /// What is heard of a part of the image: the part, or, if the caller refused it and it needs
-    /// room, that there was no room.
+    /// Returns the meaning of a part of the image: the part, or, if the caller refused it and it needs room, that there was no room.
     pub(crate) fn received(&self, number: u16, part: &[u8], refused: bool) -> Heard {
         if refused && !part.is_empty() && self.is_kept(number, part.len()) {
             Heard::NoRoom
@@ -32,8 +31,8 @@ impl Task<'_> {
         }
     }
 
-    /// Whether a part of this many bytes is kept: one that is shorter than a block, which is the
-    /// last, or a full one, except the full one that is one too many.
+    /// Returns whether a part of this many bytes is kept: one that is shorter than a block, which is the last, or a full one, except the
+    /// full one that is one too many.
     fn is_kept(&self, number: u16, len: usize) -> bool {
         let transfer = self.transfer as usize;
         len < transfer || len == transfer && number + 1 != MOST_PARTS
@@ -48,7 +47,7 @@ impl Task<'_> {
         }
     }
 
-    /// What follows a part of this many bytes.
+    /// Returns the phase after a part of this many bytes.
     fn fetched(&self, number: u16, len: usize) -> Phase {
         let transfer = self.transfer as usize;
         if len < transfer {

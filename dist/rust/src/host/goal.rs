@@ -1,8 +1,8 @@
 // Of crates/dfu_host/src/goal.rt, whose contracts are taken away.
 
-//! What a session is for.
+//! Goals of a session.
 
-/// What a session is for. It takes no memory: the caller keeps what an upload fetches.
+/// Goal of a session. It takes no memory: the caller keeps what an upload fetches.
 #[derive(Clone, Copy, Debug, PartialEq, Eq)]
 pub enum Goal<'f> {
     /// To install a payload, which has at least one byte.
@@ -24,7 +24,7 @@ impl<'f> Goal<'f> {
         }
     }
 
-    /// Whether a payload is still to be installed.
+    /// Returns whether a payload is still to be installed.
     pub(crate) fn installs(&self) -> bool {
         match self {
             Goal::Load(_) | Goal::Verify(_) => true,
@@ -32,7 +32,7 @@ impl<'f> Goal<'f> {
         }
     }
 
-    /// Whether the image is fetched.
+    /// Returns whether the image is fetched.
     pub(crate) fn is_fetch(&self) -> bool {
         match self {
             Goal::Fetch => true,

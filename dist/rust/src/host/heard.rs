@@ -1,13 +1,13 @@
 // Of crates/dfu_host/src/heard.rt, whose contracts are taken away.
 
-//! How a host understands what it sees.
+//! Meaning that a host gives to what it sees.
 
 use crate::host::phase::Phase;
 use crate::host::seen::Seen;
 use crate::host::task::Task;
 use crate::wire::{State, Status};
 
-/// What a host understands of what came of its action.
+/// Meaning that a host gives to the result of its action.
 #[derive(Clone, Copy, Debug, PartialEq, Eq)]
 pub(crate) enum Heard {
     Acked,
@@ -28,9 +28,8 @@ pub(crate) enum Heard {
 }
 
 impl Task<'_> {
-    /// What a host understands of what it sees in a phase. Bytes are read as the answer to the
-    /// phase's request; if they are not an answer, it is as if nothing came. A part of an upload is
-    /// kept or refused by now; one of a comparison is compared.
+    /// Returns the meaning of what the host sees in a phase. Bytes are read as the answer to the phase's request; if they are not an
+    /// answer, it is as if nothing came. A part of an upload is kept or refused by now; one of a comparison is compared.
     pub(crate) fn hear(&self, phase: Phase, seen: Seen<'_>, refused: bool) -> Heard {
         match seen {
             Seen::Ack => Heard::Acked,
@@ -44,7 +43,7 @@ impl Task<'_> {
         }
     }
 
-    /// What bytes say that come in a phase.
+    /// Returns the meaning of bytes that come in a phase.
     fn answered(&self, phase: Phase, bytes: &[u8], refused: bool) -> Heard {
         match phase {
             Phase::Find | Phase::FindAgain | Phase::Poll(_) | Phase::Manifest | Phase::Trouble => {

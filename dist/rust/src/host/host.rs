@@ -90,7 +90,7 @@ impl<'f> Host<'f> {
         Ok(Host { session, memory })
     }
 
-    /// What the host wants done next. It changes nothing, so it may be asked again.
+    /// Returns the action that the host wants next. It changes nothing, so it may be asked again.
     pub fn next(&self) -> Action<'f> {
         self.session.next()
     }
@@ -117,9 +117,9 @@ impl<'f> Host<'f> {
         self.session.abort();
     }
 
-    /// What an upload keeps: all that was fetched, once the host is done with `Uploaded`. Before
-    /// that, the parts that came since the fetching last began; and nothing in a download, or after
-    /// the session went back to find the device, was given up or ended in another way.
+    /// Returns the bytes that an upload keeps: all that were fetched, once the host is done with `Uploaded`. Before that, the parts that
+    /// came since the fetching last began; and nothing in a download, or after the session went back to find the device, was given up or
+    /// ended in another way.
     pub fn uploaded(&self) -> &[u8] {
         match self.session.parts().phase {
             Phase::Fetch(0) => &[],
@@ -137,7 +137,7 @@ pub(crate) enum Memory {
 }
 
 impl Memory {
-    /// Keeps the part in what a session sees, and returns whether it was refused.
+    /// MemoryAfter the part in what a session sees, and returns whether it was refused.
     pub(crate) fn refuses(&mut self, session: &Session<'_>, seen: Seen<'_>) -> bool {
         match session.part(seen) {
             Some(part) => self.refuses_part(&part),

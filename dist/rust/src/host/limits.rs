@@ -1,12 +1,12 @@
 // Of crates/dfu_host/src/limits.rt, whose contracts are taken away.
 
-//! How long a session may last.
+//! Limits of a session.
 
-/// How long a session may last.
+/// Limits of a session.
 #[derive(Clone, Copy, Debug, PartialEq, Eq)]
 pub struct Limits {
-    /// How often `take` may be called until the host gives up; 0 counts as 1.
+    /// Calls of `take` after which the host gives up; 0 counts as 1.
     pub actions: u32,
-    /// How many restarts of the device the host takes; one more ends the session.
+    /// Restarts of the device that the host takes; one more ends the session.
     pub restarts: u16,
 }

@@ -9,7 +9,7 @@ use crate::host::phase::Phase;
 /// A session taken apart: plain values, which a caller may keep between two calls.
 #[derive(Clone, Copy, Debug, PartialEq, Eq)]
 pub struct Parts<'f> {
-    /// What the session is for.
+    /// Goal of the session.
     pub goal: Goal<'f>,
     /// The most bytes of a block, 1 to 65,535.
     pub transfer: u16,
@@ -23,17 +23,17 @@ pub struct Parts<'f> {
     pub phase: Phase,
     /// The actions that are left.
     pub actions: u32,
-    /// How many more restarts of the device are taken.
+    /// Further restarts of the device that are taken.
     pub restarts: u16,
 }
 
 impl Parts<'_> {
-    /// Whether these are the parts of a session.
+    /// Returns whether these are the parts of a session.
     pub(crate) fn is_session(&self) -> bool {
         self.transfer > 0 && self.has_some() && self.is_within()
     }
 
-    /// Whether there is something to do.
+    /// Returns whether there is something to do.
     fn has_some(&self) -> bool {
         match &self.goal {
             Goal::Load(payload) | Goal::Verify(payload) | Goal::Compare(payload) => {
@@ -43,7 +43,7 @@ impl Parts<'_> {
         }
     }
 
-    /// Whether the phase has what it needs.
+    /// Returns whether the phase has what it needs.
     fn is_within(&self) -> bool {
         match self.phase {
             Phase::Block(number) => self.has_block(number),
@@ -58,7 +58,7 @@ impl Parts<'_> {
         }
     }
 
-    /// Whether the payload has a block with this number.
+    /// Returns whether the payload has a block with this number.
     fn has_block(&self, number: usize) -> bool {
         number.saturating_mul(self.transfer as usize) < self.goal.payload().len()
     }

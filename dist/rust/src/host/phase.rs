@@ -10,7 +10,7 @@ use crate::host::report::Report;
 pub enum Phase {
     /// Ask for the status, to find the device's state.
     Find,
-    /// The same, after a stall.
+    /// Like `Find`, after a stall.
     FindAgain,
     /// Ask the application to make way.
     Detach,

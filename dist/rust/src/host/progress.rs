@@ -1,6 +1,6 @@
 // Of crates/dfu_host/src/progress.rt, whose contracts are taken away.
 
-//! How far a session has come: its phase, the budget of actions, and the count of restarts.
+//! Progress of a session: its phase, the budget of actions, and the count of restarts.
 
 use crate::host::heard::Heard;
 use crate::host::limits::Limits;
@@ -8,13 +8,13 @@ use crate::host::phase::Phase;
 use crate::host::report::Report;
 use crate::host::task::Task;
 
-/// How far a session has come.
+/// Progress of a session.
 #[derive(Clone, Copy, Debug, PartialEq, Eq)]
 pub(crate) struct Progress {
     pub(crate) phase: Phase,
     /// The actions that are left.
     pub(crate) actions: u32,
-    /// How many more restarts of the device are taken.
+    /// Further restarts of the device that are taken.
     pub(crate) restarts: u16,
 }
 
@@ -83,7 +83,7 @@ impl Progress {
     }
 }
 
-/// Whether this was the last reset, and it was done.
+/// Returns whether this was the last reset, and it was done.
 fn is_last_done(phase: &Phase, heard: &Heard) -> bool {
     match (phase, heard) {
         (Phase::Last(_), Heard::WasReset) => true,

@@ -44,7 +44,7 @@ fn payload_for<'f>(
     }
 }
 
-/// Whether a device gives its image.
+/// Refuses a device that gives no image.
 pub(crate) fn gives_uploads(functional: &Functional) -> Result<(), HostFault> {
     if !functional.can_upload {
         Err(HostFault::CannotUpload)

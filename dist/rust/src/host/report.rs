@@ -1,10 +1,10 @@
 // Of crates/dfu_host/src/report.rt, whose contracts are taken away.
 
-//! How a session ends.
+//! Reports with which a session ends.
 
 use crate::wire::Code;
 
-/// How a session ended.
+/// Report with which a session ended.
 ///
 /// Only [`Report::Installed`] and [`Report::Verified`] say that the payload of this session is in
 /// place. [`Report::Different`] says that the device gave other bytes than those, and

@@ -1,6 +1,6 @@
 // Of crates/dfu_host/src/room.rt, whose contracts are taken away.
 
-//! What an upload keeps, in a caller's room.
+//! Bytes that an upload keeps, in a caller's room.
 
 use crate::host::part::UploadPart;
 use crate::host::seen::Seen;

@@ -10,7 +10,7 @@ use crate::host::report::Report;
 use crate::host::task::Task;
 use crate::wire::{State, Status};
 
-/// What follows a request without an answer of bytes: by its acknowledgement, by a stall, or by anything else.
+/// Returns the phase after a request without an answer of bytes: by its acknowledgement, by a stall, or by anything else.
 fn on_ack(heard: Heard, acked: Phase, stalled: Phase, nothing: Phase) -> Phase {
     match heard {
         Heard::Acked => acked,
@@ -19,7 +19,7 @@ fn on_ack(heard: Heard, acked: Phase, stalled: Phase, nothing: Phase) -> Phase {
     }
 }
 
-/// What follows a wait: if anything else is heard, the session waits again.
+/// Returns the phase after a wait: if anything else is heard, the session waits again.
 fn on_waited(heard: Heard, waited: Phase, again: Phase) -> Phase {
     match heard {
         Heard::Waited => waited,
@@ -58,7 +58,7 @@ impl Task<'_> {
         }
     }
 
-    /// What follows GETSTATUS in a phase: by the status, by a stall, or by anything else that is heard.
+    /// Returns the phase after GETSTATUS: by the status, by a stall, or by anything else that is heard.
     fn on_status(&self, phase: Phase, heard: Heard, stalled: Phase) -> Phase {
         match heard {
             Heard::Told(status) => self.told(phase, status),
@@ -67,7 +67,7 @@ impl Task<'_> {
         }
     }
 
-    /// What follows a status in a phase that asks for it.
+    /// Returns the phase after a status in a phase that asks for it.
     fn told(&self, phase: Phase, status: Status) -> Phase {
         match phase {
             Phase::Poll(number) => self.polled(number, status),
@@ -122,7 +122,7 @@ impl Task<'_> {
         }
     }
 
-    /// What follows the status that was asked for after a block.
+    /// Returns the phase after the status that was asked for after a block.
     pub(crate) fn polled(&self, number: usize, status: Status) -> Phase {
         match status.state() {
             State::DownloadSync | State::DownloadBusy => {

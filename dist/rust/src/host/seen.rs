@@ -1,8 +1,8 @@
 // Of crates/dfu_host/src/seen.rt, whose contracts are taken away.
 
-//! What a host sees.
+//! Result of an action.
 
-/// What came of an action. What doesn't fit the action is taken as [`Seen::Nothing`].
+/// Result of an action. One that doesn't fit the action is taken as [`Seen::Nothing`].
 #[derive(Clone, Copy, Debug, PartialEq, Eq)]
 pub enum Seen<'s> {
     /// A request that has no answer of bytes was acknowledged.

@@ -106,7 +106,7 @@ impl<'f> Session<'f> {
         })
     }
 
-    /// What the session wants done next. It changes nothing, so it may be asked again.
+    /// Returns the action that the session wants next. It changes nothing, so it may be asked again.
     pub fn next(&self) -> Action<'f> {
         self.task.action(self.progress.phase)
     }

@@ -1,13 +1,13 @@
 // Of crates/dfu_host/src/target.rt, whose contracts are taken away.
 
-//! Which files are for a device.
+//! Files that are for a device.
 
 use crate::wire::Ids;
 
 /// A file's vendor or product that goes with every device.
 const ANY: u16 = 0xffff;
 
-/// Whether a file is for a device: its vendor and its product are the device's, or FFFFh.
+/// Returns whether a file is for a device: its vendor and its product are the device's, or FFFFh.
 pub(crate) fn is_for(file: Ids, device: Ids) -> bool {
     goes_with(file.vendor, device.vendor) && goes_with(file.product, device.product)
 }

@@ -1,6 +1,6 @@
 // Of crates/dfu_host/src/task.rt, whose contracts are taken away.
 
-//! What a session is to do, and the action of each phase, as the caller gets it.
+//! Task of a session, and the action of each phase, as the caller gets it.
 
 use crate::host::action::Action;
 use crate::host::goal::Goal;
@@ -8,7 +8,7 @@ use crate::host::phase::Phase;
 use crate::host::report::Report;
 use crate::wire::Request;
 
-/// What a session is to do, and what its device's descriptor says.
+/// Task of a session, with the fields of its device's descriptor.
 #[derive(Debug, PartialEq, Eq)]
 pub(crate) struct Task<'f> {
     pub(crate) goal: Goal<'f>,
@@ -40,7 +40,7 @@ impl<'f> Task<'f> {
         number.saturating_mul(self.transfer as usize).min(all)
     }
 
-    /// Whether a block is the last one.
+    /// Returns whether a block is the last one.
     pub(crate) fn is_last(&self, number: usize) -> bool {
         let transfer = self.transfer as usize;
         self.payload().len() - number * transfer <= transfer
@@ -57,7 +57,7 @@ impl<'f> Task<'f> {
         }
     }
 
-    /// How many blocks there are.
+    /// Returns the number of blocks.
     pub(crate) fn count(&self) -> usize {
         (self.payload().len() - 1) / self.transfer as usize + 1
     }

@@ -1,22 +1,22 @@
 // Of crates/dfu_slots/src/both.rt, whose contracts are taken away.
 
-//! What one look at a medium shows of both its slots.
+//! Look at both slots of a medium at once.
 
 use crate::slots::layout::is_sized;
 use crate::slots::places::{Counted, count_slots, find_places, has_newest, is_none};
 use crate::slots::read::header_len;
 use crate::slots::{Medium, OpenFault, Places};
 
-/// Where the slots of a medium with an active image are, and whether the spare one has an image too.
+/// Places of the slots of a medium with an active image, and whether the spare one has an image too.
 #[derive(Clone, Copy, Debug, PartialEq, Eq)]
 pub struct Both {
-    /// Where the active slot and the spare one begin.
+    /// Places at which the active slot and the spare one begin.
     pub places: Places,
-    /// How long the image in the spare slot is, if that counts and its header is well formed.
+    /// Length of the image in the spare slot, if that counts and its header is well formed.
     pub spare_len: Option<u32>,
 }
 
-// How long the image in the spare slot is, if that counts and its header is well formed.
+// Returns the length of the image in the spare slot, if that counts and its header is well formed.
 fn spare_len<M: Medium>(medium: &M, spare: u32, counted: Counted) -> Option<u32> {
     let counts = if spare == 0 {
         counted.first
@@ -29,8 +29,8 @@ fn spare_len<M: Medium>(medium: &M, spare: u32, counted: Counted) -> Option<u32>
     header_len(medium, spare)
 }
 
-/// Where the slots of a medium with an active image are, and how long the image in the spare slot is, if that has one; or else the first
-/// fault. It reads what `check` reads.
+/// Returns the places of the slots of a medium with an active image, and the length of the image in the spare slot, if that has one; or
+/// else the first fault. It reads what `check` reads.
 ///
 /// # Errors
 ///

@@ -6,9 +6,9 @@ use crate::slots::places::look;
 use crate::slots::{Medium, PutFault, Slots, steps};
 
 impl<M: Medium> Slots<M> {
-    /// Closes the gate of the spare slot, so that `put` may write to its data: on a medium with sectors it erases the gate's.
-    /// A gate that reads closed is neither written nor erased.
-    /// What was put before is forgotten, and so are the bytes held back, also after an error: `put_end` is 0.
+    /// Closes the gate of the spare slot, so that `put` may write to its data: on a medium with sectors it erases the gate's. A gate that
+    /// reads closed is neither written nor erased. The bytes that were put before are forgotten, and so are the bytes held back, also after
+    /// an error: `put_end` is 0.
     ///
     /// The active image stays, also after an error.
     ///

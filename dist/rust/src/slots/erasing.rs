@@ -6,7 +6,7 @@ use crate::slots::layout::MAX_UNIT;
 use crate::slots::read::stands_at;
 use crate::slots::{Medium, WriteFault};
 
-/// Whether so many bytes from there on are FFh.
+/// Returns whether so many bytes from there on are FFh.
 pub(crate) fn is_blank<M: Medium>(medium: &M, at: u32, len: u32) -> bool {
     let blank = [0xff; MAX_UNIT];
     let _end = medium.len();

@@ -1,10 +1,10 @@
 // Of crates/dfu_slots/src/fault.rt, whose contracts are taken away.
 
-//! Why a call of the store was refused.
+//! Faults for which a call of the store was refused.
 use core::fmt;
 use thiserror::Error;
 
-/// Why `format` gave the medium back. It looks for them in this order.
+/// Faults for which `format` gave the medium back. It looks for them in this order.
 #[derive(Clone, Copy, Debug, PartialEq, Eq, Error)]
 pub enum FormatFault {
     /// The medium's length is not 2 * (2 * G + C) with C from 1 to 16,777,216 and whole in the unit and the sector, G being
@@ -27,7 +27,7 @@ impl fmt::Display for FormatFault {
     }
 }
 
-/// Why `open` gave the medium back, unchanged. It looks for them in this order.
+/// Faults for which `open` gave the medium back, unchanged. It looks for them in this order.
 ///
 /// A slot counts if its gate is open and, if its header is of version 2, that header is well formed: its zero
 /// bytes are 0, its length is at most C, and its register is that of so many bytes from the front of the slot's data.
@@ -57,7 +57,7 @@ impl fmt::Display for OpenFault {
     }
 }
 
-/// How a write of the store went wrong.
+/// Faults of a write of the store.
 #[derive(Clone, Copy, Debug, PartialEq, Eq)]
 pub enum WriteFault {
     /// The medium reported that it failed.
@@ -66,14 +66,14 @@ pub enum WriteFault {
     NotVerified,
 }
 
-/// Why `begin`, `put` or `commit` did not do what was asked.
+/// Faults for which `begin`, `put` or `commit` did not do as asked.
 #[derive(Clone, Copy, Debug, PartialEq, Eq, Error)]
 pub enum PutFault {
-    /// What was to be put ends past the capacity, and the spare's gate is closed.
-    /// Nothing was written. Only `put` returns it: what was put lies within the capacity.
+    /// The bytes that were to be put end past the capacity, and the spare's gate is closed. Nothing was written. Only `put` returns it:
+    /// what was put lies within the capacity.
     TooLarge,
-    /// A write to the medium failed. The active image is as it was; after `commit`
-    /// it is that one or the whole new one. What was put is forgotten, and `put_end` is 0.
+    /// A write to the medium failed. The active image is as it was; after `commit` it is that one or the whole new one. The bytes that were
+    /// put are forgotten, and `put_end` is 0.
     Failed,
     /// The medium reported success of a write, and other bytes were read back. The medium's count of failures rose.
     /// All else is as after `Failed`.

@@ -1,28 +1,28 @@
 // Of crates/dfu_slots/src/layout.rt, whose contracts are taken away.
 
-//! How a medium is laid out: its unit, and of each slot the gate, the header, and the data.
+//! Layout of a medium: its unit, and of each slot the gate, the header, and the data.
 
 use crate::slots::Medium;
 
-/// How many bytes the header has, and how many the gate unit and the header unit have at least.
+/// Bytes of the header, and the fewest bytes of the gate unit and the header unit.
 const HEADER_SIZE: u32 = 16;
 
-/// How many bytes the largest unit has.
+/// Bytes of the largest unit.
 pub const MAX_UNIT: usize = 256;
 
-/// How many bytes a sector has at least, and of how many it is a multiple.
+/// Fewest bytes of a sector, whose size is a multiple of this.
 pub const PAGE: u32 = 256;
 
-/// How many bytes a sector may have at most.
+/// Most bytes of a sector.
 pub const MAX_SECTOR: u32 = 1 << 17;
 
-/// How many bytes of data a slot may have at most.
+/// Most bytes of data of a slot.
 pub const MAX_CAPACITY: u32 = 1 << 24;
 
 /// The first byte of an open gate unit; any other byte is a closed gate.
 pub const OPEN_GATE: u8 = 0xa5;
 
-/// How many bytes a medium writes at a time: the place and the length of a write are multiples of it.
+/// Bytes that a medium writes at a time: the place and the length of a write are multiples of it.
 #[derive(Clone, Copy, Debug, PartialEq, Eq)]
 pub enum Unit {
     /// One byte: any place and any length.
@@ -36,7 +36,7 @@ pub enum Unit {
 }
 
 impl Unit {
-    /// How many bytes it has: 1, 16, 64 or 256.
+    /// Returns the bytes of the unit: 1, 16, 64 or 256.
     pub fn size(self) -> u32 {
         match self {
             Unit::Byte => 1,
@@ -47,28 +47,28 @@ impl Unit {
     }
 }
 
-/// How many bytes the gate unit has, and as many the header unit, from 16 to 256.
+/// Returns the bytes of the gate unit, from 16 to 256; the header unit has as many.
 pub(crate) fn gate_size(unit: Unit) -> u32 {
     HEADER_SIZE.max(unit.size())
 }
 
-/// How many bytes the gate of a slot takes up, and its header as many: 16, a unit or a sector, whichever is most.
+/// Returns the bytes that the gate of a slot takes up, and its header as many: 16, a unit or a sector, whichever is most.
 pub(crate) fn gate_room(unit: Unit, sector: u32) -> u32 {
     gate_size(unit).max(sector)
 }
 
-/// How many zeros fill so many bytes up to the end of a unit, from 0 to 255.
+/// Returns the number of zeros that fill so many bytes up to the end of a unit, from 0 to 255.
 pub(crate) fn fill_size(unit: Unit, len: u32) -> u32 {
     let size = unit.size();
     (size - len % size) % size
 }
 
-/// How many bytes the gate of a slot takes up, and its header as many: 16, a unit or a sector, whichever is most.
+/// Returns the bytes that the gate of a slot takes up, and its header as many: 16, a unit or a sector, whichever is most.
 pub fn gate_of<M: Medium>(medium: &M) -> u32 {
     gate_room(medium.unit(), medium.sector())
 }
 
-/// How many bytes of data each slot has.
+/// Returns the bytes of data of each slot.
 ///
 /// # What the caller must keep to
 ///
@@ -78,17 +78,17 @@ pub fn capacity_of<M: Medium>(medium: &M) -> u32 {
     medium.len() / 2 - 2 * gate_of(medium)
 }
 
-// Whether the store takes sectors of so many bytes: 0, or a multiple of 256 up to 131,072.
+// Returns whether the store takes sectors of so many bytes: 0, or a multiple of 256 up to 131,072.
 fn is_sector(sector: u32) -> bool {
     sector % PAGE == 0 && sector <= MAX_SECTOR
 }
 
-// Whether a length is a multiple of the unit's size, and of the sector's.
+// Returns whether a length is a multiple of the unit's size, and of the sector's.
 fn is_whole(unit: Unit, sector: u32, len: u32) -> bool {
     len % unit.size() == 0 && (sector == 0 || len % sector == 0)
 }
 
-/// Whether the medium has a length that two slots can have, with whole units and sectors of data each.
+/// Returns whether the medium has a length that two slots can have, with whole units and sectors of data each.
 pub fn is_sized<M: Medium>(medium: &M) -> bool {
     let sector = medium.sector();
     if !is_sector(sector) {
@@ -133,7 +133,7 @@ fn rest_in(header: &[u8; 16]) -> u32 {
     u32::from_le_bytes([header[12], header[13], header[14], header[15]])
 }
 
-/// Whether a header is of this version with this register, and well formed, whatever its generation and its length are.
+/// Returns whether a header is of this version with this register, and well formed, whatever its generation and its length are.
 pub(crate) fn is_header(found: &[u8; 16], version: u8, register: u32) -> bool {
     if found[1] != version {
         return false;
@@ -150,7 +150,7 @@ pub(crate) fn is_header(found: &[u8; 16], version: u8, register: u32) -> bool {
     rest_in(found) == 0
 }
 
-/// Whether a header is of this version with this register, and well formed, with a length up to the room.
+/// Returns whether a header is of this version with this register, and well formed, with a length up to the room.
 pub(crate) fn is_formed(found: &[u8; 16], room: u32, version: u8, register: u32) -> bool {
     length_in(found) <= room && is_header(found, version, register)
 }

@@ -17,19 +17,18 @@ pub struct Failed;
 /// sector. So erasing within `write` is sound only if `unit` is a multiple of the part's erase unit. A part with larger
 /// sectors says so by `sector`: the store erases each before it writes in it, and writes no unit twice between two erases.
 pub trait Medium {
-    /// How many bytes it has, always the same.
+    /// Returns the bytes of the medium, always the same number.
     fn len(&self) -> u32;
 
     /// The unit in which it is written, always the same. It is read byte by byte.
     fn unit(&self) -> Unit;
 
-    /// How many bytes are erased at a time, always the same. At 0 it is written over in place, and never erased. The store
+    /// Returns the bytes that are erased at a time, always the same number. At 0 it is written over in place, and never erased. The store
     /// takes 0 and the multiples of 256 up to 131,072. All sectors have this size: of a part with others show a run of equal ones.
     fn sector(&self) -> u32;
 
-    /// Whether the register over its images goes by a table of 64 bytes, in over four times as many instructions, and not
-    /// by those of 8,192 bytes. It is the same register. If all media of a program return the constant `true`, it links
-    /// without the large tables.
+    /// Returns whether the register over its images goes by a table of 64 bytes, in over four times as many instructions, and not by those
+    /// of 8,192 bytes. It is the same register. If all media of a program return the constant `true`, it links without the large tables.
     fn has_small_tables(&self) -> bool {
         false
     }

@@ -5,7 +5,7 @@
 use crate::slots::Failed;
 use arrayvec::ArrayVec;
 
-/// How a write ended.
+/// End of a write.
 #[derive(Clone, Copy, Debug, PartialEq, Eq)]
 pub enum WriteEnd {
     Worked,
@@ -39,7 +39,7 @@ impl Default for WriteNote {
 pub struct LastWrites {
     /// The last 16 of them, in their order.
     pub notes: ArrayVec<WriteNote, 16>,
-    /// How many there were, at most 2^64 - 1.
+    /// Number of writes, at most 2^64 - 1.
     pub count: u64,
 }
 
@@ -62,7 +62,7 @@ impl LastWrites {
     }
 }
 
-/// How a write with this result ended, by whether it was set to lie.
+/// Returns the end of a write with this result, by whether it was set to lie.
 pub(crate) fn ended(lies: bool, answer: Result<(), Failed>) -> WriteEnd {
     match answer {
         Ok(()) if lies => WriteEnd::Lied,

@@ -2,7 +2,7 @@
 
 //! One operation on a medium, and what its bytes are.
 
-/// What the bytes of an operation are, with zeros after them.
+/// Bytes of an operation, with zeros after them.
 #[derive(Clone, Copy, Debug, PartialEq, Eq)]
 pub enum Source {
     /// The bytes held back, and after them the block, or an image.
@@ -27,13 +27,13 @@ pub enum Op {
     },
     /// Bytes are written, with an erase before of each sector that begins in their range. No bytes mean no write.
     Program {
-        /// Where the first of them goes.
+        /// Place of the first of them.
         at: u64,
         /// What they are.
         source: Source,
-        /// How many bytes of the source come before them.
+        /// Bytes of the source that come before them.
         skip: u32,
-        /// How many they are.
+        /// Number of bytes.
         len: u32,
     },
 }

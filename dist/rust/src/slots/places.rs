@@ -1,28 +1,28 @@
 // Of crates/dfu_slots/src/places.rt, whose contracts are taken away.
 
-//! Where the active slot and the spare one are.
+//! Places of the active slot and the spare one.
 
 use crate::slots::layout::is_sized;
 use crate::slots::read::{counts, generation, header_len};
 use crate::slots::{Medium, OpenFault};
 
-/// Where the active slot and the spare one begin.
+/// Places at which the active slot and the spare one begin.
 #[derive(Clone, Copy, Debug, PartialEq, Eq)]
 pub struct Places {
-    /// Where the active slot begins.
+    /// Place at which the active slot begins.
     pub active: u32,
-    /// Where the spare slot begins.
+    /// Place at which the spare slot begins.
     pub spare: u32,
 }
 
-/// Which of the two slots count.
+/// Slots that count, of the two.
 #[derive(Clone, Copy, Debug, PartialEq, Eq)]
 pub struct Counted {
     pub first: bool,
     pub second: bool,
 }
 
-/// Which of the two slots count. The whole image of an open slot of version 2 is read once, for its register.
+/// Finds the slots that count, of the two. The whole image of an open slot of version 2 is read once, for its register.
 pub(crate) fn count_slots<M: Medium>(medium: &M) -> Counted {
     Counted {
         first: counts(medium, 0),
@@ -30,12 +30,12 @@ pub(crate) fn count_slots<M: Medium>(medium: &M) -> Counted {
     }
 }
 
-/// Whether neither slot counts.
+/// Returns whether neither slot counts.
 pub(crate) fn is_none(counted: Counted) -> bool {
     !counted.first && !counted.second
 }
 
-// Whether the first of two slots counts, and the other one does not, or is one generation behind.
+// Returns whether the first of two slots counts, and the other one does not, or is one generation behind.
 fn is_newest<M: Medium>(
     medium: &M,
     mine: u32,
@@ -47,7 +47,7 @@ fn is_newest<M: Medium>(
         && (!other_counts || generation(medium, mine) == generation(medium, other).wrapping_add(1))
 }
 
-/// Where the slots are, if the first one or else the second one is active.
+/// Returns the places of the slots, if the first one or else the second one is active.
 pub(crate) fn places_of<M: Medium>(medium: &M, first: bool) -> Places {
     let second = medium.len() / 2;
     if first {
@@ -63,14 +63,14 @@ pub(crate) fn places_of<M: Medium>(medium: &M, first: bool) -> Places {
     }
 }
 
-/// Where the two slots are; if neither is the newest, as if the second were.
+/// Returns the places of the two slots; if neither is the newest, as if the second were.
 pub(crate) fn find_places<M: Medium>(medium: &M, counted: Counted) -> Places {
     let second = medium.len() / 2;
     let first = is_newest(medium, 0, second, counted.first, counted.second);
     places_of(medium, first)
 }
 
-/// Whether the slot that was found to be the active one is the newest.
+/// Returns whether the slot that was found to be the active one is the newest.
 pub(crate) fn has_newest<M: Medium>(medium: &M, places: Places, counted: Counted) -> bool {
     let Places { active, spare } = places;
     if active == 0 {
@@ -85,7 +85,7 @@ pub(crate) fn look<M: Medium>(medium: &M) -> Places {
     find_places(medium, count_slots(medium))
 }
 
-/// Where the slots of a medium with an active image are, or else its first fault.
+/// Returns the places of the slots of a medium with an active image, or else its first fault.
 pub fn check<M: Medium>(medium: &M) -> Result<Places, OpenFault> {
     if !is_sized(medium) {
         return Err(OpenFault::WrongSize);

@@ -1,6 +1,6 @@
 // Of crates/dfu_slots/src/puts.rt, whose contracts are taken away.
 
-//! What was put since `begin`: whole units go to the medium as they come, and the rest is held back.
+//! Bytes that were put since `begin`: whole units go to the medium as they come, and the rest is held back.
 
 use crate::slots::carry::Sources;
 use crate::slots::layout::MAX_UNIT;
@@ -13,7 +13,7 @@ use arrayvec::ArrayVec;
 pub struct Puts {
     /// The bytes held back, fewer than a unit has.
     pub held: ArrayVec<u8, MAX_UNIT>,
-    /// Where the puts end in the spare's data.
+    /// Place at which the puts end in the spare's data.
     pub end: u32,
 }
 

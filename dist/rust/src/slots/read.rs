@@ -1,6 +1,6 @@
 // Of crates/dfu_slots/src/read.rt, whose contracts are taken away.
 
-//! What is read of the slots of a medium.
+//! Readings of the slots of a medium.
 
 use crate::slots::Medium;
 use crate::slots::layout::{
@@ -8,7 +8,7 @@ use crate::slots::layout::{
 };
 use crate::slots::register::register_of;
 
-// How many bytes are read back at a time.
+// Bytes that are read back at a time.
 const READ_BACK_BYTES: usize = 256;
 
 /// The byte at this place.
@@ -18,7 +18,7 @@ pub(crate) fn byte_at<M: Medium>(medium: &M, at: u32) -> u8 {
     byte[0]
 }
 
-// Whether two pieces of one length have the same bytes. It is much less code than `==`.
+// Returns whether two pieces of one length have the same bytes. It is much less code than `==`.
 fn are_same(read: &[u8], piece: &[u8]) -> bool {
     let mut at = 0;
     while at < piece.len() {
@@ -30,7 +30,7 @@ fn are_same(read: &[u8], piece: &[u8]) -> bool {
     true
 }
 
-/// Whether exactly these bytes are there. It reads them in pieces.
+/// Returns whether exactly these bytes are there. It reads them in pieces.
 pub(crate) fn stands_at<M: Medium>(medium: &M, at: u32, bytes: &[u8]) -> bool {
     let mut buffer = [0; READ_BACK_BYTES];
     let mut ahead = medium.len() - at;
@@ -49,7 +49,7 @@ pub(crate) fn stands_at<M: Medium>(medium: &M, at: u32, bytes: &[u8]) -> bool {
     true
 }
 
-/// Whether the slot that begins there is open.
+/// Returns whether the slot that begins there is open.
 ///
 /// # What the caller must keep to
 ///
@@ -66,7 +66,7 @@ pub fn header_of<M: Medium>(medium: &M, at: u32) -> [u8; 16] {
     header
 }
 
-// Whether the slot that begins there has a well-formed header of version 2: its register is that of the image.
+// Returns whether the slot that begins there has a well-formed header of version 2: its register is that of the image.
 fn is_intact<M: Medium>(medium: &M, at: u32) -> bool {
     let header = header_of(medium, at);
     let len = length_in(&header);
@@ -76,7 +76,7 @@ fn is_intact<M: Medium>(medium: &M, at: u32) -> bool {
     is_header(&header, VERSION, register_of(medium, at, len))
 }
 
-/// Whether the slot that begins there counts.
+/// Returns whether the slot that begins there counts.
 pub(crate) fn counts<M: Medium>(medium: &M, at: u32) -> bool {
     is_open(medium, at) && (header_of(medium, at)[1] != VERSION || is_intact(medium, at))
 }
@@ -108,7 +108,7 @@ pub(crate) fn header_len<M: Medium>(medium: &M, at: u32) -> Option<u32> {
     }
 }
 
-/// Where the data of the slot that begins there begins.
+/// Returns the place at which the data of the slot begins.
 ///
 /// # What the caller must keep to
 ///

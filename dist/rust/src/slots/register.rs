@@ -6,7 +6,7 @@ use crate::slots::Medium;
 use crate::slots::read::read_data;
 use crate::suffix::Crc;
 
-// How many bytes are read at a time.
+// Bytes that are read at a time.
 const REGISTER_BYTES: u32 = 64;
 
 // Takes more bytes of an image, by the tables that the medium has chosen.

@@ -6,10 +6,10 @@ use crate::slots::Unit;
 use crate::slots::layout::{fill_size, gate_room, gate_size};
 use crate::slots::operation::{Op, Source};
 
-/// How many bytes of an image a format writes at a time: whole units, whatever the unit is.
+/// Bytes of an image that a format writes at a time: whole units, whatever the unit is.
 pub(crate) const MAX_WRITE: u32 = 4096;
 
-/// How many operations the longest change has.
+/// Operations of the longest change.
 pub const MAX_OPERATIONS: usize = 3;
 
 /// A change of a medium, by the numbers that its operations depend on.
@@ -17,39 +17,39 @@ pub const MAX_OPERATIONS: usize = 3;
 pub enum Sequence {
     /// The gate of a slot is closed.
     Close {
-        /// Where the slot begins.
+        /// Place at which the slot begins.
         slot: u32,
     },
     /// A block is put after what is held back: the unit that was begun is written, if it is full now, and then all further whole units.
     Put {
-        /// Where the slot begins.
+        /// Place at which the slot begins.
         slot: u32,
-        /// Where the puts end in its data.
+        /// Place at which the puts end in its data.
         end: u32,
-        /// How many bytes are held back.
+        /// Number of bytes that are held back.
         held: u16,
-        /// How many the block has.
+        /// Length of the block in bytes.
         block: u16,
     },
-    /// What is held back is written, filled up to a unit, then the header, and then the gate is opened.
+    /// Writes the bytes held back, filled up to a unit, then the header, and then opens the gate.
     Commit {
-        /// Where the slot begins.
+        /// Place at which the slot begins.
         slot: u32,
-        /// Where the puts end in its data.
+        /// Place at which the puts end in its data.
         end: u32,
-        /// How many bytes are held back.
+        /// Number of bytes that are held back.
         held: u16,
     },
     /// Up to 4,096 bytes of an image, filled up to a unit, go into the data of the first slot, as `format` writes them.
     Image {
-        /// How many bytes of it come before them.
+        /// Bytes of it that come before them.
         from: u32,
-        /// How many the image has.
+        /// Length of the image in bytes.
         image: u32,
     },
 }
 
-// Where the bytes held back belong in a slot that begins there.
+// Returns the place at which the bytes held back belong in a slot that begins there.
 fn held_from(unit: Unit, sector: u32, slot: u32, end: u32, held: u16) -> u64 {
     let at = end.saturating_sub(u32::from(held));
     u64::from(slot) + 2 * u64::from(gate_room(unit, sector)) + u64::from(at)

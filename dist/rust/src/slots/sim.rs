@@ -19,7 +19,7 @@ impl From<AllocError> for NoMemory {
     }
 }
 
-/// What the next writes do.
+/// Behaviour of the next writes.
 #[derive(Clone, Copy, Debug, PartialEq, Eq)]
 pub enum Mode {
     /// They all work.
@@ -32,7 +32,7 @@ pub enum Mode {
     Stopped,
 }
 
-/// What the next writes do, and how often one has failed.
+/// Behaviour of the next writes, and the count of those that failed.
 #[derive(Debug, PartialEq, Eq)]
 pub struct SimFuse {
     failures: u64,
@@ -43,7 +43,7 @@ pub struct SimFuse {
 }
 
 impl SimFuse {
-    /// Whether the next write lies.
+    /// Returns whether the next write lies.
     fn lies(&self) -> bool {
         matches!(self.mode, Mode::Lying) && self.writes == 0
     }
@@ -56,7 +56,7 @@ pub struct SimMedium {
     fuse: SimFuse,
     unit: Unit,
     sector: u32,
-    // What an erase writes: FFh over a sector.
+    // Bytes that an erase writes: FFh over a sector.
     blank: Vec<u8>,
     noted: LastWrites,
 }
@@ -144,7 +144,7 @@ fn tear_front(bytes: &mut Vec<u8>, at: usize, tear: &[u8], len: usize) {
     write_over(bytes, at, &tear[..len.min(tear.len())]);
 }
 
-// What the writes after a failed one do.
+// Returns the behaviour of the writes after a failed one.
 fn after_tear(stop: bool) -> Mode {
     if stop { Mode::Stopped } else { Mode::Whole }
 }

@@ -72,12 +72,12 @@ impl<M: Medium> Slots<M> {
         }
     }
 
-    /// How many bytes an image may have: C, from 1 to 16,777,216.
+    /// Returns the most bytes of an image: C, from 1 to 16,777,216.
     pub fn capacity(&self) -> u32 {
         capacity_of(&self.medium)
     }
 
-    /// Where the puts since `begin` end: 0 if there are none, at most the capacity. Nothing is held back at 0.
+    /// Returns the place at which the puts since `begin` end: 0 if there are none, at most the capacity. Nothing is held back at 0.
     pub fn put_end(&self) -> u32 {
         self.puts.end
     }
@@ -87,12 +87,12 @@ impl<M: Medium> Slots<M> {
         self.puts.held.as_slice()
     }
 
-    /// Whether the gate of the spare slot is closed, so that `put` and `commit` are not refused with `NotBegun`.
+    /// Returns whether the gate of the spare slot is closed, so that `put` and `commit` are not refused with `NotBegun`.
     pub fn is_begun(&self) -> bool {
         !is_open(&self.medium, self.places.spare)
     }
 
-    /// How many bytes the active image has, from 0 to the capacity.
+    /// Returns the length of the active image, from 0 to the capacity.
     pub fn active_len(&self) -> u32 {
         match header_len(&self.medium, self.places.active) {
             Some(len) => len,
@@ -100,7 +100,7 @@ impl<M: Medium> Slots<M> {
         }
     }
 
-    /// Where the first byte of the active image is on the medium: a program may run it there. It holds until the next `commit`.
+    /// Returns the place of the first byte of the active image on the medium: a program may run it there. It holds until the next `commit`.
     pub fn image_at(&self) -> u32 {
         data_at(&self.medium, self.places.active)
     }

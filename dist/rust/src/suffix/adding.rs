@@ -58,9 +58,11 @@ pub fn add<R: Read, W: Write>(
     ids: Ids,
     writer: &mut W,
 ) -> Result<u32, SuffixFault> {
-    let text = file_of(alloc, reader, ids)?;
-    match write_whole(writer, &text) {
-        Ok(()) => Ok(text.len() as u32),
-        Err(_) => Err(SuffixFault::Write),
+    match file_of(alloc, reader, ids) {
+        Ok(text) => match write_whole(writer, &text) {
+            Ok(()) => Ok(text.len() as u32),
+            Err(_) => Err(SuffixFault::Write),
+        },
+        Err(fault) => Err(fault),
     }
 }

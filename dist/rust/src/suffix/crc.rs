@@ -53,6 +53,12 @@ impl Crc {
     }
 }
 
+// One of the tables, by its place. A function has it, because each proof that names all tables is dear.
+#[inline(always)]
+fn table(place: usize) -> &'static [u32; 256] {
+    &TABLES[place]
+}
+
 // The entry of a table for the lowest byte of a number.
 #[inline(always)]
 fn entry(table: &[u32; 256], number: u32) -> u32 {
@@ -62,7 +68,7 @@ fn entry(table: &[u32; 256], number: u32) -> u32 {
 // The register after one more byte.
 #[inline(always)]
 fn after_byte(register: u32, byte: u8) -> u32 {
-    (register >> 8) ^ entry(&TABLES[7], register ^ u32::from(byte))
+    (register >> 8) ^ entry(table(7), register ^ u32::from(byte))
 }
 
 // The entry of a table for a byte.
@@ -71,22 +77,22 @@ fn byte_entry(table: &[u32; 256], byte: u8) -> u32 {
     table[usize::from(byte)]
 }
 
-// What 32 bits 0 make of the number in four bytes.
+// Returns the register after 32 bits 0, from the number in four bytes.
 #[inline(always)]
 fn after_32_zeros(bytes: &[u8]) -> u32 {
-    byte_entry(&TABLES[4], bytes[0])
-        ^ byte_entry(&TABLES[5], bytes[1])
-        ^ byte_entry(&TABLES[6], bytes[2])
-        ^ byte_entry(&TABLES[7], bytes[3])
+    byte_entry(table(4), bytes[0])
+        ^ byte_entry(table(5), bytes[1])
+        ^ byte_entry(table(6), bytes[2])
+        ^ byte_entry(table(7), bytes[3])
 }
 
-// What 64 bits 0 make of a number.
+// Returns the register after 64 bits 0, from a number.
 #[inline(always)]
 fn after_64_zeros(number: u32) -> u32 {
-    entry(&TABLES[0], number)
-        ^ entry(&TABLES[1], number >> 8)
-        ^ entry(&TABLES[2], number >> 16)
-        ^ entry(&TABLES[3], number >> 24)
+    entry(table(0), number)
+        ^ entry(table(1), number >> 8)
+        ^ entry(table(2), number >> 16)
+        ^ entry(table(3), number >> 24)
 }
 
 // The register after eight more bytes. Only the first four bytes wait for the register, as one number;

@@ -32,28 +32,36 @@ pub enum SuffixFault {
     Write,
 }
 
+/// The texts, in the order of the enum.
+static TEXTS: [&str; 10] = [
+    "the file has under 16 bytes, too few for a suffix",
+    "the file has no DFU signature",
+    "the suffix's length is under 16 or over the file's",
+    "the file is a DfuSe file",
+    "the file's CRC differs from the one in its suffix",
+    "the file has a suffix already",
+    "the file with its suffix has over 16777216 bytes",
+    "out of memory",
+    "the file can't be read",
+    "the file can't be written",
+];
+
 impl fmt::Display for SuffixFault {
     fn fmt(&self, f: &mut fmt::Formatter<'_>) -> fmt::Result {
-        f.write_str(match self {
-            SuffixFault::TooShort => "the file has under 16 bytes, too few for a suffix",
-            SuffixFault::NoSignature => "the file has no DFU signature",
-            SuffixFault::BadLength => "the suffix's length is under 16 or over the file's",
-            SuffixFault::DfuSe => "the file is a DfuSe file",
-            SuffixFault::BadCrc => "the file's CRC differs from the one in its suffix",
-            SuffixFault::AlreadySuffixed => "the file has a suffix already",
-            SuffixFault::TooLarge => "the file with its suffix has over 16777216 bytes",
-            SuffixFault::NoMemory => "out of memory",
-            SuffixFault::Read => "the file can't be read",
-            SuffixFault::Write => "the file can't be written",
-        })
+        f.write_str(TEXTS[*self as usize])
     }
 }
+
+/// The names, in the order of the enum.
+#[rustfmt::skip]
+static NAMES: [&str; 10] = [
+    "TooShort", "NoSignature", "BadLength", "DfuSe", "BadCrc", "AlreadySuffixed", "TooLarge", "NoMemory", "Read",
+    "Write",
+];
 
 impl SuffixFault {
     /// The name of the fault, that of its variant, as `TooShort`.
     pub fn name(self) -> &'static str {
-        crate::wire::variant_name!(self, SuffixFault:
-            TooShort, NoSignature, BadLength, DfuSe, BadCrc, AlreadySuffixed, TooLarge, NoMemory, Read, Write
-        )
+        NAMES[self as usize]
     }
 }

@@ -10,7 +10,7 @@ pub(crate) const MAX_FILE: usize = 16_777_216;
 /// The most reads that a file is worth: each but the last gives a byte.
 pub(crate) const MAX_READS: usize = MAX_FILE + 1;
 
-/// How many bytes a reader is asked for at a time.
+/// Bytes for which a reader is asked at a time.
 pub const READ_BYTES: usize = 65_536;
 
 /// The fewest bytes that a suffix has.

@@ -1,14 +1,14 @@
 // Of crates/dfu_suffix/src/findings.rt, whose contracts are taken away.
 
-//! What a check finds in a file, accepted or not.
+//! Findings of a check in a file, accepted or not.
 
 use crate::suffix::summary::u32_at;
 
-/// What `check_with` finds in a file of 16 to 16,777,216 bytes: its length, two fields of its suffix (USB DFU 1.1,
-/// appendix B) as they are written, and the register that dwCRC has to be.
+/// Findings of `check_with` in a file of 16 to 16,777,216 bytes: its length, two fields of its suffix (USB DFU 1.1, appendix B) as they are
+/// written, and the register that dwCRC has to be.
 #[derive(Clone, Copy, Debug, PartialEq, Eq)]
 pub struct Findings {
-    /// How many bytes the file has.
+    /// Length of the file in bytes.
     pub count: u32,
     /// bLength, from 0 to 255.
     pub suffix: u8,
@@ -30,7 +30,7 @@ impl Findings {
     }
 }
 
-/// What the last 16 of `count` bytes and the register over all of them say.
+/// Returns the findings in the last 16 of `count` bytes and in the register over all of them.
 pub(crate) fn findings_of(tail: &[u8], count: u32, register: u32) -> Findings {
     let crc = u32_at(tail, 12);
     Findings {

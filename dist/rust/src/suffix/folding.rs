@@ -9,7 +9,7 @@
 
 use crate::suffix::crc;
 
-/// How many bytes at least are worth folding; as many are folded at a time.
+/// Fewest bytes that are worth folding; as many are folded at a time.
 const FOLDED_BYTES: usize = 4096;
 
 /// The bytes of a residue, 1,968, and of a piece after it.

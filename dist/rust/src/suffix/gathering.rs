@@ -6,7 +6,7 @@ use crate::suffix::file::{MAX_READS, READ_BYTES};
 use crate::memory::{Global, Vec};
 use std::io::Read;
 
-/// Why what a reader gives was not all gathered.
+/// Faults for which the bytes of a reader were not all gathered.
 #[derive(Clone, Copy, Debug, PartialEq, Eq)]
 pub enum GatherFault {
     /// The reader gives more bytes than the limit.

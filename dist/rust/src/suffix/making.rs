@@ -42,11 +42,13 @@ fn crc_over(payload: &[u8], fields: &[u8]) -> u32 {
 pub(crate) fn append_suffix(text: &mut Vec<u8>, ids: Ids) -> Result<(), AllocError> {
     let fields = fields_of(ids);
     let crc = crc_over(text, &fields);
-    text.extend_from_slice(&fields)?;
-    text.extend_from_slice(&crc.to_le_bytes())
+    match text.extend_from_slice(&fields) {
+        Ok(()) => text.extend_from_slice(&crc.to_le_bytes()),
+        Err(refused) => Err(refused),
+    }
 }
 
-/// Whether the fault is that of a DfuSe file.
+/// Returns whether the fault is that of a DfuSe file.
 fn is_dfuse(fault: SuffixFault) -> bool {
     match fault {
         SuffixFault::DfuSe => true,
@@ -54,7 +56,7 @@ fn is_dfuse(fault: SuffixFault) -> bool {
     }
 }
 
-/// Whether the bytes have a suffix, which may be a DfuSe file's.
+/// Returns whether the bytes have a suffix, which may be a DfuSe file's.
 pub(crate) fn has_suffix(bytes: &[u8]) -> bool {
     match read(bytes) {
         Ok(_) => true,

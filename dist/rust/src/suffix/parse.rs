@@ -31,8 +31,8 @@ fn payload_of(bytes: &[u8], suffix: usize) -> &[u8] {
     payload
 }
 
-/// What the bytes say, read from their end, or their first fault. Each reader has a body of its own, so that the small
-/// one is linked without the large tables.
+/// Reads the fields of the bytes from their end, or returns their first fault. Each reader has a body of its own, so that the small one is
+/// linked without the large tables.
 #[inline(always)]
 fn parse(bytes: &[u8], by_small_table: bool) -> Result<File<'_>, SuffixFault> {
     if bytes.len() > MAX_FILE {

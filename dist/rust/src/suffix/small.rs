@@ -2,8 +2,8 @@
 
 //! The register of USB DFU 1.1, appendix B, four bits at a time: for a program that has no room for the tables.
 
-/// What 4 further bits 0 make of each number below 16. The check computes it by the definition over
-/// single bits (crates/dfu_suffix/proofs/SmallTable.antt).
+/// Register after 4 further bits 0, for each number below 16. The check computes it by the definition over single bits
+/// (crates/dfu_suffix/proofs/SmallTable.antt).
 static AFTER_4: [u32; 16] = [
     0x0000_0000,
     0x1db7_1064,
@@ -23,7 +23,7 @@ static AFTER_4: [u32; 16] = [
     0xbdbd_f21c,
 ];
 
-// What 4 bits 0 make of a number.
+// Returns the register after 4 bits 0, from a number.
 #[inline(always)]
 fn after_4_zeros(number: u32) -> u32 {
     (number >> 4) ^ AFTER_4[(number & 0xf) as usize]

@@ -1,6 +1,6 @@
 // Of crates/dfu_suffix/src/summary.rt, whose contracts are taken away.
 
-//! What `check` says of a file, by its end (USB DFU 1.1, appendix B).
+//! Summary of a file that `check` gives, by its end (USB DFU 1.1, appendix B).
 
 use crate::suffix::fault::SuffixFault;
 use crate::suffix::file::{DFUSE, MIN_SUFFIX};
@@ -10,7 +10,7 @@ use crate::wire::Ids;
 /// A file's fields and the length of its payload, as `check` answers them.
 #[derive(Clone, Copy, Debug, PartialEq, Eq)]
 pub struct Summary {
-    /// How many bytes the payload has, at most 16,777,200.
+    /// Length of the payload in bytes, at most 16,777,200.
     pub payload: u32,
     /// bLength: how many bytes the suffix has, from 16 to 255.
     pub suffix: u8,
@@ -22,7 +22,7 @@ pub struct Summary {
     pub crc: u32,
 }
 
-// Whether the last 16 bytes have the signature.
+// Returns whether the last 16 bytes have the signature.
 fn is_signed(tail: &[u8]) -> bool {
     tail[8] == b'U' && tail[9] == b'F' && tail[10] == b'D'
 }
@@ -48,7 +48,7 @@ fn ids_of(tail: &[u8]) -> Ids {
     }
 }
 
-/// What the last 16 of `count` bytes say, or the first fault of the file but TooLarge and BadCrc.
+/// Returns the fields of the last 16 of `count` bytes, or the first fault of the file but TooLarge and BadCrc.
 pub(crate) fn parse_tail(tail: &[u8], count: u32) -> Result<Summary, SuffixFault> {
     if count < MIN_SUFFIX {
         return Err(SuffixFault::TooShort);
@@ -73,8 +73,8 @@ pub(crate) fn parse_tail(tail: &[u8], count: u32) -> Result<Summary, SuffixFault
     })
 }
 
-/// The summary of a file of `count` bytes, or its first fault but TooLarge, by its last 16 bytes and
-/// the register over all of it. That register is 0 exactly if dwCRC is right.
+/// The summary of a file of `count` bytes, or its first fault but TooLarge, by its last 16 bytes and the register over all of it. The
+/// register is 0 exactly if dwCRC is right.
 pub(crate) fn check_register(tail: &[u8], count: u32, register: u32) -> Result<Summary, SuffixFault> {
     match parse_tail(tail, count) {
         Ok(_) if register != 0 => Err(SuffixFault::BadCrc),

@@ -16,7 +16,7 @@ pub(crate) fn number_at(bytes: &[u8], at: usize) -> u16 {
     LittleEndian::read_u16(&bytes[at..])
 }
 
-/// Whether this bit is 1, bit 0 being the lowest.
+/// Returns whether this bit is 1, bit 0 being the lowest.
 pub(crate) fn is_set(byte: u8, bit: u8) -> bool {
     byte & (1 << bit) != 0
 }

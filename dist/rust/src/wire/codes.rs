@@ -41,6 +41,13 @@ pub enum Code {
     StalledPkt,
 }
 
+/// The names, in the order of the enum.
+#[rustfmt::skip]
+static NAMES: [&str; 16] = [
+    "OK", "errTARGET", "errFILE", "errWRITE", "errERASE", "errCHECK_ERASED", "errPROG", "errVERIFY", "errADDRESS",
+    "errNOTDONE", "errFIRMWARE", "errVENDOR", "errUSBR", "errPOR", "errUNKNOWN", "errSTALLEDPKT",
+];
+
 impl Code {
     /// The code of this number; `UnknownCode` if it is over 15.
     pub fn from_byte(byte: u8) -> Result<Code, WireFault> {
@@ -57,11 +64,6 @@ impl Code {
 
     /// The name of the code in the standard, as `errWRITE`.
     pub fn name(self) -> &'static str {
-        variant_name!(self, Code:
-            Ok "OK", Target "errTARGET", File "errFILE", Write "errWRITE", Erase "errERASE",
-            CheckErased "errCHECK_ERASED", Prog "errPROG", Verify "errVERIFY", Address "errADDRESS",
-            NotDone "errNOTDONE", Firmware "errFIRMWARE", Vendor "errVENDOR", Usbr "errUSBR", Por "errPOR",
-            Unknown "errUNKNOWN", StalledPkt "errSTALLEDPKT"
-        )
+        NAMES[self as usize]
     }
 }

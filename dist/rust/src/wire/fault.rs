@@ -1,11 +1,11 @@
 // Of crates/dfu_wire/src/fault.rt, whose contracts are taken away.
 
-//! Why bytes or numbers are not a value of the wire.
+//! Faults of bytes or numbers that are not a value of the wire.
 
 use core::fmt;
 use thiserror::Error;
 
-/// Why bytes or numbers are not a value of the wire. Each reader says in which order it looks.
+/// Faults of bytes or numbers that are not a value of the wire. Each reader says in which order it looks.
 #[derive(Clone, Copy, Debug, PartialEq, Eq, Error)]
 pub enum WireFault {
     /// There are fewer bytes than the value has: no bytes of a functional descriptor, or fewer than its
@@ -26,25 +26,32 @@ pub enum WireFault {
     PollTooLong,
 }
 
+/// The texts, in the order of the enum.
+static TEXTS: [&str; 7] = [
+    "too few bytes",
+    "too many bytes",
+    "the length byte is wrong",
+    "the type byte is wrong",
+    "no such state",
+    "no such status code",
+    "the poll time does not fit 24 bits",
+];
+
 impl fmt::Display for WireFault {
     fn fmt(&self, f: &mut fmt::Formatter<'_>) -> fmt::Result {
-        f.write_str(match self {
-            WireFault::Short => "too few bytes",
-            WireFault::Long => "too many bytes",
-            WireFault::WrongLength => "the length byte is wrong",
-            WireFault::WrongType => "the type byte is wrong",
-            WireFault::UnknownState => "no such state",
-            WireFault::UnknownCode => "no such status code",
-            WireFault::PollTooLong => "the poll time does not fit 24 bits",
-        })
+        f.write_str(TEXTS[*self as usize])
     }
 }
+
+/// The names, in the order of the enum.
+#[rustfmt::skip]
+static NAMES: [&str; 7] = [
+    "Short", "Long", "WrongLength", "WrongType", "UnknownState", "UnknownCode", "PollTooLong",
+];
 
 impl WireFault {
     /// The name of the fault, that of its variant, as `Short`.
     pub fn name(self) -> &'static str {
-        variant_name!(self, WireFault:
-            Short, Long, WrongLength, WrongType, UnknownState, UnknownCode, PollTooLong
-        )
+        NAMES[self as usize]
     }
 }

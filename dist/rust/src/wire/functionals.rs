@@ -17,7 +17,7 @@ const VERSION_1_0: u16 = 0x0100;
 /// bDescriptorType of every descriptor.
 const TYPE: u8 = 0x21;
 
-/// What a device says of its upgrades: 9 bytes on the wire, or 7 in DFU 1.0, which has no bcdDFUVersion.
+/// Functional descriptor, in which a device describes its upgrades: 9 bytes on the wire, or 7 in DFU 1.0, which has no bcdDFUVersion.
 ///
 /// | Bytes | Field of the standard | Field here |
 /// |---|---|---|

@@ -1,11 +1,11 @@
 // Of crates/dfu_wire/src/requests.rt, whose contracts are taken away.
 
-//! What a setup asks for (USB DFU 1.1, section 3).
+//! Request that a setup brings (USB DFU 1.1, section 3).
 
 use crate::wire::Setup;
 use crate::wire::setups::{IN, OUT};
 
-/// What a setup asks for: one of the seven requests, or another.
+/// Request that a setup brings: one of the seven requests, or another.
 ///
 /// | Request | Kind | Number | Value | Length |
 /// |---|---|---|---|---|

@@ -1,6 +1,6 @@
 // Of crates/dfu_wire/src/round_trips.rt, whose contracts are taken away.
 
-//! What was written is read back: each function writes its argument and reads the bytes again.
+//! Round trips: each function writes its argument, reads the bytes again, and gets what was written.
 
 use crate::wire::{Functional, Request, Setup, Status, WireFault};
 

@@ -57,7 +57,7 @@ impl Setup {
         ]
     }
 
-    /// What the setup asks for:
+    /// Returns the request of the setup:
     ///
     /// - `NotDfu` if the kind is neither 21h nor A1h, or the index is not 0;
     /// - else `OtherClass` if the kind and the number of the request are not a pair of the table at

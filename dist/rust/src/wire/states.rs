@@ -31,6 +31,13 @@ pub enum State {
     Error,
 }
 
+/// The names, in the order of the enum.
+#[rustfmt::skip]
+static NAMES: [&str; 11] = [
+    "appIDLE", "appDETACH", "dfuIDLE", "dfuDNLOAD-SYNC", "dfuDNBUSY", "dfuDNLOAD-IDLE", "dfuMANIFEST-SYNC",
+    "dfuMANIFEST", "dfuMANIFEST-WAIT-RESET", "dfuUPLOAD-IDLE", "dfuERROR",
+];
+
 impl State {
     /// The state of this number; `UnknownState` if it is over 10.
     pub fn from_byte(byte: u8) -> Result<State, WireFault> {
@@ -47,11 +54,6 @@ impl State {
 
     /// The name of the state in the standard, as `dfuIDLE`.
     pub fn name(self) -> &'static str {
-        variant_name!(self, State:
-            AppIdle "appIDLE", AppDetach "appDETACH", DfuIdle "dfuIDLE", DownloadSync "dfuDNLOAD-SYNC",
-            DownloadBusy "dfuDNBUSY", DownloadIdle "dfuDNLOAD-IDLE", ManifestSync "dfuMANIFEST-SYNC",
-            Manifest "dfuMANIFEST", ManifestWaitReset "dfuMANIFEST-WAIT-RESET", UploadIdle "dfuUPLOAD-IDLE",
-            Error "dfuERROR"
-        )
+        NAMES[self as usize]
     }
 }

@@ -43,7 +43,7 @@ impl Status {
         self.code
     }
 
-    /// How long the host is to wait before it asks again: 0 to 16,777,215 milliseconds.
+    /// Returns the time that the host must wait before it asks again: 0 to 16,777,215 milliseconds.
     pub fn poll_ms(&self) -> u32 {
         self.poll
     }
@@ -66,8 +66,14 @@ impl Status {
         if bytes.len() > 6 {
             return Err(WireFault::Long);
         }
-        let code = Code::from_byte(bytes[0])?;
-        let state = State::from_byte(bytes[4])?;
+        let code = match Code::from_byte(bytes[0]) {
+            Ok(code) => code,
+            Err(fault) => return Err(fault),
+        };
+        let state = match State::from_byte(bytes[4]) {
+            Ok(state) => state,
+            Err(fault) => return Err(fault),
+        };
         let poll = LittleEndian::read_u24(&bytes[1..]);
         Ok(Status { code, poll, state })
     }

@@ -4,10 +4,10 @@
 
 use crate::slots::{MAX_SECTOR, PAGE};
 
-/// How many bytes are programmed at a time.
+/// Bytes that are programmed at a time.
 pub(crate) const PROGRAM: u32 = 256;
 
-/// Whether a run area of so many bytes may have sectors of so many.
+/// Returns whether a run area of so many bytes may have sectors of so many.
 pub(crate) fn is_run_area(len: usize, sector: u32) -> bool {
     sector > 0
         && sector % PAGE == 0
@@ -16,8 +16,15 @@ pub(crate) fn is_run_area(len: usize, sector: u32) -> bool {
         && len % sector as usize == 0
 }
 
-/// Whether the bytes from one place to before another are all FFh.
-pub(crate) fn are_blank(run: &[u8], from: u32, to: u32) -> bool {
+/// Returns whether the bytes from one place to before another are all FFh.
+///
+/// # What the caller must keep to
+///
+/// - `from` is at most `to`.
+/// - `to` is at most the length of `run`.
+pub fn are_blank(run: &[u8], from: u32, to: u32) -> bool {
+    debug_assert!(from <= to);
+    debug_assert!(to as usize <= run.len());
     let mut at = from;
     while at < to {
         if run[at as usize] != 0xff {

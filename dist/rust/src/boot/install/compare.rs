@@ -1,8 +1,8 @@
 // Of crates/dfu_boot/src/install/compare.rt, whose contracts are taken away.
 
-//! Where a run area differs from an image.
+//! Places at which a run area differs from an image.
 
-// Whether the four bytes from there on are the same.
+// Returns whether the four bytes from there on are the same.
 fn are_four_same(image: &[u8], run: &[u8], at: u32) -> bool {
     let at = at as usize;
     run[at] == image[at]

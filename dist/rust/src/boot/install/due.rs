@@ -1,8 +1,8 @@
 // Of crates/dfu_boot/src/install/due.rt, whose contracts are taken away.
 
-//! What is due next of a run area.
+//! Operation that is due next of a run area.
 
-/// Why no image is started.
+/// Refusals of an image that can't be started.
 #[derive(Clone, Copy, Debug, PartialEq, Eq)]
 pub enum Refusal {
     /// The sectors are not of a multiple of 256 bytes up to 131,072, or the run area is not whole in them, or has 2^32 bytes or more.
@@ -13,7 +13,7 @@ pub enum Refusal {
     TooLarge,
 }
 
-/// What is due next.
+/// Operation that is due next.
 #[derive(Clone, Copy, Debug, PartialEq, Eq)]
 pub enum Due {
     /// Nothing: no image can be started.

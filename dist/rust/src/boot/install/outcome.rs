@@ -1,17 +1,17 @@
 // Of crates/dfu_boot/src/install/outcome.rt, whose contracts are taken away.
 
-//! How an operation went.
+//! Outcome of an operation.
 
 use crate::boot::install::area::{PROGRAM, are_blank, is_run_area};
 use crate::boot::install::compare::first_difference;
 use crate::boot::install::due::Due;
 
-// Whether all of the sector that begins there reads FFh.
+// Returns whether all of the sector that begins there reads FFh.
 fn is_erased(run: &[u8], sector: u32, at: u32) -> bool {
     at as u64 + sector as u64 <= run.len() as u64 && are_blank(run, at, at + sector)
 }
 
-// Whether the piece that begins there reads as the image, as far as the image goes.
+// Returns whether the piece that begins there reads as the image, as far as the image goes.
 fn is_programmed(image: &[u8], run: &[u8], at: u32) -> bool {
     let end = at as u64 + PROGRAM as u64;
     if end > run.len() as u64 {
@@ -20,7 +20,7 @@ fn is_programmed(image: &[u8], run: &[u8], at: u32) -> bool {
     first_difference(image, run, at, end.min(image.len() as u64) as u32).is_none()
 }
 
-/// Where the last operation went, if it worked; what `next` takes as `last`.
+/// Returns the place of the last operation if it worked, which `next` takes as `last`.
 ///
 /// `due` was carried out, or `failed`, and `run` is read back: a sector has to read FFh, a piece as the image, as far as the image goes.
 /// None if it failed or reads otherwise, if its range is not in the run area, if `due` is no operation, or if `next` is refused with

@@ -6,7 +6,7 @@ use crate::boot::trial::marks::{is_set, starts};
 use crate::boot::trial::{Settled, Standing, Trial};
 use crate::slots::{Medium, Places, data_at, generation, is_open, is_sized};
 
-// Where the slots are, if the data of one begins there.
+// Returns the places of the slots, if the data of one begins there.
 fn places_by_data<M: Medium>(medium: &M, at: u32) -> Option<Places> {
     let second = medium.len() / 2;
     let gates = data_at(medium, 0);
@@ -25,8 +25,8 @@ fn places_by_data<M: Medium>(medium: &M, at: u32) -> Option<Places> {
     None
 }
 
-// Whether the gate of the first of two slots is open, and that of the second is not, or its header is one generation behind: the first is
-// the newest then, if it counts.
+// Returns whether the gate of the first of two slots is open, and that of the second is not, or its header is one generation behind: the
+// first is the newest then, if it counts.
 fn is_ahead<M: Medium>(medium: &M, places: Places) -> bool {
     if !is_open(medium, places.active) {
         return false;

@@ -1,12 +1,12 @@
 // Of crates/dfu_boot/src/trial/confirming.rt, whose contracts are taken away.
 
-//! How a running image is confirmed.
+//! Confirmation of a running image.
 
 use crate::boot::trial::marks::{mark_at, mark_size};
 use crate::boot::trial::{Operation, Standing};
 use crate::slots::{Medium, data_at};
 
-/// How a running image is confirmed.
+/// Confirmation of a running image.
 #[derive(Clone, Copy, Debug, PartialEq, Eq)]
 pub enum Confirmation {
     /// By this operation.

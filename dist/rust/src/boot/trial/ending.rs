@@ -1,6 +1,6 @@
 // Of crates/dfu_boot/src/trial/ending.rt, whose contracts are taken away.
 
-//! How a trial ends.
+//! End of a trial.
 
 use crate::boot::trial::{Operation, Standing};
 use crate::slots::Medium;

@@ -1,6 +1,6 @@
 // Of crates/dfu_boot/src/trial/looking.rt, whose contracts are taken away.
 
-//! Whether an image is on trial.
+//! Looks at the medium for an image on trial.
 
 use crate::boot::trial::marks::{is_set, starts};
 use crate::boot::trial::{Settled, Standing, Trial};

@@ -1,27 +1,27 @@
 // Of crates/dfu_boot/src/trial/marks.rt, whose contracts are taken away.
 
-//! What is read of the marks.
+//! Marks of a slot, as they read.
 
 use crate::slots::{Medium, gate_of};
 
-/// How many bytes a mark has: a unit, and 16 at least.
+/// Returns the bytes of a mark: a unit, and 16 at least.
 pub(crate) fn mark_size<M: Medium>(medium: &M) -> u32 {
     medium.unit().size().max(16)
 }
 
-/// Where that mark is, of the slot that begins there.
+/// Returns the place of that mark, of the slot that begins there.
 pub(crate) fn mark_at<M: Medium>(medium: &M, at: u32, i: u32) -> u32 {
     let _len = medium.len();
     let size = mark_size(medium);
     at + gate_of(medium) + size + i * size
 }
 
-// Whether all bytes are FFh.
+// Returns whether all bytes are FFh.
 fn is_blank(bytes: &[u8]) -> bool {
     bytes.iter().all(|byte| *byte == 0xff)
 }
 
-/// Whether one of so many bytes from there on, at most 256, is not FFh.
+/// Returns whether one of so many bytes from there on, at most 256, is not FFh.
 pub(crate) fn is_marked<M: Medium>(medium: &M, at: u32, len: u32) -> bool {
     let mut buffer = [0; 256];
     let bytes = &mut buffer[..len as usize];
@@ -29,12 +29,12 @@ pub(crate) fn is_marked<M: Medium>(medium: &M, at: u32, len: u32) -> bool {
     !is_blank(bytes)
 }
 
-/// Whether that mark of the slot is set that begins there.
+/// Returns whether that mark is set, of the slot that begins there.
 pub(crate) fn is_set<M: Medium>(medium: &M, at: u32, i: u32) -> bool {
     is_marked(medium, mark_at(medium, at, i), mark_size(medium))
 }
 
-/// How many starts are recorded of the image in the slot that begins there.
+/// Counts the recorded starts of the image in the slot that begins there.
 pub(crate) fn starts<M: Medium>(medium: &M, tries: u32, at: u32) -> u32 {
     let mut done = 0;
     while done < tries {

@@ -1,6 +1,6 @@
 // Of crates/dfu_boot/src/trial/operation.rt, whose contracts are taken away.
 
-//! What the calls ask of their caller.
+//! Operations that the calls ask of their caller.
 
 use crate::slots::{Failed, Medium};
 

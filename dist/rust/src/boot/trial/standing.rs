@@ -5,20 +5,20 @@
 /// Nothing is on trial.
 #[derive(Clone, Copy, Debug, PartialEq, Eq)]
 pub struct Settled {
-    /// Where the slot of the active image begins.
+    /// Place at which the slot of the active image begins.
     pub slot: u32,
-    /// Whether that image is confirmed.
+    /// Tells whether that image is confirmed.
     pub is_confirmed: bool,
 }
 
 /// An image on trial.
 #[derive(Clone, Copy, Debug, PartialEq, Eq)]
 pub struct Trial {
-    /// Where its slot begins.
+    /// Place at which its slot begins.
     pub slot: u32,
-    /// Where the slot of the confirmed image begins, which comes back if this one is not confirmed.
+    /// Place at which the slot of the confirmed image begins, which comes back if this one is not confirmed.
     pub base: u32,
-    /// How many starts of it are recorded, from 0 to the number of tries.
+    /// Recorded starts of it, from 0 to the number of tries.
     pub starts: u32,
 }
 

@@ -6,20 +6,20 @@ use crate::boot::trial::marks::{is_marked, mark_at, mark_size};
 use crate::boot::trial::{Operation, Standing};
 use crate::slots::Medium;
 
-/// What starts, and what the caller carries out before.
+/// Image that starts, and the operation that the caller carries out before.
 #[derive(Clone, Copy, Debug, PartialEq, Eq)]
 pub struct Starting {
     /// The operation that is carried out first, if any.
     pub operation: Option<Operation>,
-    /// Where the slot begins that runs then; if the operation is a mark, only if that reads set.
+    /// Place at which the slot begins that runs then; if the operation is a mark, only if that reads set.
     pub slot: u32,
-    /// Where the slot begins that runs if the mark does not read set; else the same.
+    /// Place at which the slot begins that runs if the mark does not read set; else the same.
     pub otherwise: u32,
 }
 
 impl Standing {
-    /// What starts, and what is carried out before. On trial that is the mark of the next start; without a start left the gate is closed of
-    /// the slot on trial. After it `Starting::runs` gives what runs.
+    /// Returns the image that starts, and the operation that is carried out before. On trial that is the mark of the next start; without a
+    /// start left the gate is closed of the slot on trial. After it `Starting::runs` gives what runs.
     ///
     /// # What the caller must keep to
     ///
@@ -54,7 +54,8 @@ impl Standing {
 }
 
 impl Starting {
-    /// Where the slot begins that runs, once the operation was carried out, whatever became of it: a mark is read back.
+    /// Returns the place at which the slot begins that runs, once the operation was carried out, whatever became of it: a mark is read
+    /// back.
     ///
     /// # What the caller must keep to
     ///

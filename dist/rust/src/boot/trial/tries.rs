@@ -1,12 +1,12 @@
 // Of crates/dfu_boot/src/trial/tries.rt, whose contracts are taken away.
 
-//! How many tries a medium has marks for.
+//! Tries for which a medium has marks.
 
 use crate::boot::trial::marks::mark_size;
 use crate::slots::Medium;
 use thiserror::Error;
 
-/// Why so many tries are refused. They are looked for in this order.
+/// Faults for which so many tries are refused. They are looked for in this order.
 #[derive(Clone, Copy, Debug, PartialEq, Eq, Error)]
 pub enum TriesFault {
     /// The medium has no sectors, so no marks are erased with a header.
@@ -20,7 +20,7 @@ pub enum TriesFault {
     TooMany,
 }
 
-/// Whether an image of this medium can have so many tries: 2 or more, whose marks fit in a sector.
+/// Refuses tries that an image of this medium can't have: it has 2 or more, whose marks fit in a sector.
 ///
 /// # Errors
 ///

@@ -70,7 +70,7 @@ impl<'f> Elements<'f> {
         Elements { left, rest }
     }
 
-    /// How many there are.
+    /// Returns the number of elements.
     pub fn len(&self) -> u32 {
         self.left
     }

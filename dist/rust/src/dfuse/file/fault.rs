@@ -43,25 +43,28 @@ pub enum FileFault {
     Trailing,
 }
 
+/// The texts, in the order of the enum.
+static TEXTS: [&str; 16] = [
+    "the file has over 16777216 bytes",
+    "the file has under 16 bytes, too few for a suffix",
+    "the file has no DFU signature",
+    "the suffix's length is under 16 or over the file's",
+    "the file is not a DfuSe file",
+    "the file's CRC differs from the one in its suffix",
+    "the file does not begin as a DfuSe file",
+    "the file is of another version of DfuSe",
+    "the file has another size than it says",
+    "the file has no targets",
+    "the file has fewer targets than it says",
+    "a target has another size than it says",
+    "an element ends behind its target",
+    "an element has no bytes",
+    "an element ends behind the last address",
+    "the file has more bytes behind its last target",
+];
+
 impl fmt::Display for FileFault {
     fn fmt(&self, f: &mut fmt::Formatter<'_>) -> fmt::Result {
-        f.write_str(match self {
-            FileFault::TooLarge => "the file has over 16777216 bytes",
-            FileFault::TooShort => "the file has under 16 bytes, too few for a suffix",
-            FileFault::NoSignature => "the file has no DFU signature",
-            FileFault::BadLength => "the suffix's length is under 16 or over the file's",
-            FileFault::NotDfuSe => "the file is not a DfuSe file",
-            FileFault::BadCrc => "the file's CRC differs from the one in its suffix",
-            FileFault::NoPrefix => "the file does not begin as a DfuSe file",
-            FileFault::BadVersion => "the file is of another version of DfuSe",
-            FileFault::BadImageSize => "the file has another size than it says",
-            FileFault::NoTargets => "the file has no targets",
-            FileFault::NoTarget => "the file has fewer targets than it says",
-            FileFault::BadTargetSize => "a target has another size than it says",
-            FileFault::ElementPastTheTarget => "an element ends behind its target",
-            FileFault::EmptyElement => "an element has no bytes",
-            FileFault::AddressPastTheEnd => "an element ends behind the last address",
-            FileFault::Trailing => "the file has more bytes behind its last target",
-        })
+        f.write_str(TEXTS[*self as usize])
     }
 }

@@ -47,7 +47,7 @@ fn read_body(ids: Ids, whole: usize, bytes: &[u8]) -> Result<File<'_>, FileFault
     }
 }
 
-/// What the bytes say, or their first fault.
+/// Reads the fields of the bytes, or returns their first fault.
 fn read_file(bytes: &[u8]) -> Result<File<'_>, FileFault> {
     match read_suffix(bytes) {
         Ok(suffixed) => read_body(suffixed.ids, bytes.len(), suffixed.payload),

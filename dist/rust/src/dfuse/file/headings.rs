@@ -1,12 +1,12 @@
 // Of crates/dfu_formats/src/dfuse/headings.rt, whose contracts are taken away.
 
-//! What a target says before its elements.
+//! Fields of a target before its elements.
 
 use crate::dfuse::file::fault::FileFault;
 use crate::dfuse::file::marks::is_target;
 use crate::dfuse::file::numbers::number_at;
 
-/// What a target says before its elements, the bytes of these, and the bytes after the target.
+/// Fields of a target before its elements, the bytes of these, and the bytes after the target.
 #[derive(Debug, PartialEq, Eq)]
 pub(crate) struct Heading<'f> {
     pub setting: u8,

@@ -5,17 +5,28 @@
 use crate::dfuse::file::element::Element;
 use crate::dfuse::file::file::File;
 use crate::dfuse::file::listing::put;
+use core::fmt;
 use thiserror::Error;
 
-/// Why a file has no image for a setting: the first of these that holds.
+/// Faults for which a file has no image for a setting: the first of these that holds.
 #[derive(Clone, Copy, Debug, PartialEq, Eq, Error)]
 pub enum ImageFault {
     /// No target is for this alternate setting.
-    #[error("the file has nothing for this alternate setting")]
     NoSuchSetting,
     /// There are more elements than there is room for.
-    #[error("the file has too many elements")]
     TooManyElements,
+}
+
+/// The texts, in the order of the enum.
+static TEXTS: [&str; 2] = [
+    "the file has nothing for this alternate setting",
+    "the file has too many elements",
+];
+
+impl fmt::Display for ImageFault {
+    fn fmt(&self, f: &mut fmt::Formatter<'_>) -> fmt::Result {
+        f.write_str(TEXTS[*self as usize])
+    }
 }
 
 /// Sorts elements by their addresses.
@@ -54,7 +65,7 @@ impl<'f> File<'f> {
         Ok(count)
     }
 
-    /// The same, by their addresses. It does not look whether they overlap: a session refuses that.
+    /// Lists the elements by their addresses. It does not look whether they overlap: a session refuses that.
     ///
     /// # Errors
     ///

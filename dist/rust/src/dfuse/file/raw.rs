@@ -8,7 +8,7 @@ use crate::suffix::SuffixFault;
 use core::fmt;
 use thiserror::Error;
 
-/// Why a file can't be written to an address: the first of these that holds.
+/// Faults for which a file can't be written to an address: the first of these that holds.
 #[derive(Clone, Copy, Debug, PartialEq, Eq, Error)]
 pub enum RawFault {
     /// The file has over 16,777,216 bytes.
@@ -25,20 +25,23 @@ pub enum RawFault {
     AddressPastTheEnd,
 }
 
+/// The texts, in the order of the enum.
+static TEXTS: [&str; 6] = [
+    "the file has over 16777216 bytes",
+    "the suffix's length is under 16 or over the file's",
+    "the file's CRC differs from the one in its suffix",
+    "the file is a DfuSe file, which has addresses of its own",
+    "the file is empty",
+    "the file ends behind the last address",
+];
+
 impl fmt::Display for RawFault {
     fn fmt(&self, f: &mut fmt::Formatter<'_>) -> fmt::Result {
-        f.write_str(match self {
-            RawFault::TooLarge => "the file has over 16777216 bytes",
-            RawFault::BadLength => "the suffix's length is under 16 or over the file's",
-            RawFault::BadCrc => "the file's CRC differs from the one in its suffix",
-            RawFault::HasAddresses => "the file is a DfuSe file, which has addresses of its own",
-            RawFault::Empty => "the file is empty",
-            RawFault::AddressPastTheEnd => "the file ends behind the last address",
-        })
+        f.write_str(TEXTS[*self as usize])
     }
 }
 
-/// Why a file with this fault isn't taken, if it isn't.
+/// Returns the refusal of a file with this fault, if it is refused.
 fn refusal(fault: SuffixFault) -> Option<RawFault> {
     match fault {
         SuffixFault::TooLarge => Some(RawFault::TooLarge),
@@ -49,7 +52,7 @@ fn refusal(fault: SuffixFault) -> Option<RawFault> {
     }
 }
 
-/// What precedes a suffix; a file without one has nothing else.
+/// Returns the bytes before a suffix; a file without one has nothing else.
 fn payload_of(bytes: &[u8]) -> Result<&[u8], RawFault> {
     match crate::suffix::read(bytes) {
         Ok(file) => Ok(file.payload()),
@@ -60,7 +63,7 @@ fn payload_of(bytes: &[u8]) -> Result<&[u8], RawFault> {
     }
 }
 
-/// Whether a file begins with the letters DfuSe.
+/// Returns whether a file begins with the letters DfuSe.
 fn has_prefix(bytes: &[u8]) -> bool {
     bytes.len() >= 5 && is_prefixed(bytes)
 }

@@ -26,7 +26,7 @@ fn field(place: usize, tail: &[u8]) -> u16 {
     LittleEndian::read_u16(field)
 }
 
-/// Whether dwCRC isn't the register over the bytes before it.
+/// Returns whether dwCRC isn't the register over the bytes before it.
 fn has_bad_crc(bytes: &[u8]) -> bool {
     let (before, _) = bytes.split_at(bytes.len() - 4);
     let (_, crc) = tail(bytes).split_at(12);
@@ -35,7 +35,7 @@ fn has_bad_crc(bytes: &[u8]) -> bool {
     LittleEndian::read_u32(crc) != over.value()
 }
 
-/// What the last 16 bytes say.
+/// Returns the fields of the last 16 bytes.
 fn suffixed_by(bytes: &[u8]) -> Suffixed<'_> {
     let tail = tail(bytes);
     let (payload, _) = bytes.split_at(bytes.len().saturating_sub(tail[11] as usize));
@@ -49,7 +49,7 @@ fn suffixed_by(bytes: &[u8]) -> Suffixed<'_> {
     }
 }
 
-/// Whether this is the fault that a DfuSe file has.
+/// Returns whether this is the fault that a DfuSe file has.
 fn is_dfuse(fault: SuffixFault) -> bool {
     match fault {
         SuffixFault::DfuSe => true,
@@ -57,7 +57,7 @@ fn is_dfuse(fault: SuffixFault) -> bool {
     }
 }
 
-/// Why a file with another fault is not a DfuSe file.
+/// Returns the fault for which a file with another fault is not a DfuSe file.
 fn refusal(fault: SuffixFault) -> FileFault {
     match fault {
         SuffixFault::TooLarge => FileFault::TooLarge,
@@ -68,7 +68,7 @@ fn refusal(fault: SuffixFault) -> FileFault {
     }
 }
 
-/// What precedes a suffix with bcdDFU 011Ah.
+/// Returns the bytes before a suffix with bcdDFU 011Ah.
 fn read_signed(bytes: &[u8]) -> Result<Suffixed<'_>, FileFault> {
     if has_bad_crc(bytes) {
         Err(FileFault::BadCrc)

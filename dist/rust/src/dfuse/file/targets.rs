@@ -6,12 +6,12 @@ use crate::dfuse::file::elements::{Elements, check_elements, check_end};
 use crate::dfuse::file::fault::FileFault;
 use crate::dfuse::file::headings::take_heading;
 
-/// What goes into the memory of an alternate setting.
+/// Elements for the memory of an alternate setting.
 #[derive(Debug, PartialEq, Eq)]
 pub struct Target<'f> {
     /// The alternate setting.
     pub setting: u8,
-    /// Whether the target has a name: 0 if it has none.
+    /// Tells whether the target has a name: 0 if it has none.
     pub named: u32,
     /// The 255 bytes for its name, which ends at the first 0.
     pub name: &'f [u8],
@@ -47,7 +47,7 @@ impl<'f> Targets<'f> {
         Targets { left, rest }
     }
 
-    /// How many there are.
+    /// Returns the number of targets.
     pub fn len(&self) -> u8 {
         self.left
     }

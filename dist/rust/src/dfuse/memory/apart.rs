@@ -1,16 +1,16 @@
 // Of crates/dfu_formats/src/memory/apart.rt, whose contracts are taken away.
 
-//! Whether ranges share an address.
+//! Test that ranges share no address.
 
 use crate::dfuse::memory::pages::Pages;
 use crate::dfuse::memory::ranges::end_of;
 
-/// Whether two ranges share no address.
+/// Returns whether two ranges share no address.
 fn is_apart(one: &Pages, other: &Pages) -> bool {
     end_of(one) <= other.start as u64 || end_of(other) <= one.start as u64
 }
 
-/// Whether a range shares no address with any of these.
+/// Returns whether a range shares no address with any of these.
 fn is_apart_from(one: &Pages, others: &[Pages]) -> bool {
     for other in others {
         if !is_apart(one, other) {
@@ -20,7 +20,7 @@ fn is_apart_from(one: &Pages, others: &[Pages]) -> bool {
     true
 }
 
-/// Whether no two ranges share an address.
+/// Returns whether no two ranges share an address.
 pub(crate) fn are_apart(ranges: &[Pages]) -> bool {
     let mut count = 0;
     for one in ranges {

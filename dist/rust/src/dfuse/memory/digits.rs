@@ -14,7 +14,7 @@ fn digit_value(byte: u8) -> u64 {
     }
 }
 
-/// How many digits in this base are at the front.
+/// Counts the digits in this base at the front.
 fn digits_in(base: u64, text: &[u8]) -> usize {
     let mut count: usize = 0;
     for byte in text {

@@ -1,11 +1,11 @@
 // Of crates/dfu_formats/src/memory/fault.rt, whose contracts are taken away.
 
-//! Why a string is refused.
+//! Faults for which a string is refused.
 
 use core::fmt;
 use thiserror::Error;
 
-/// Why a string isn't a memory map. It is read from the front, and the first fault met is the answer; Overlaps is looked for
+/// Faults of a string that isn't a memory map. It is read from the front, and the first fault met is the answer; Overlaps is looked for
 /// once all is read.
 #[derive(Clone, Copy, Debug, PartialEq, Eq, Error)]
 pub enum MapFault {
@@ -29,18 +29,21 @@ pub enum MapFault {
     Overlaps,
 }
 
+/// The texts, in the order of the enum.
+static TEXTS: [&str; 9] = [
+    "the string has no memory map",
+    "the memory map has a bad address",
+    "the memory map has a bad count of pages",
+    "the memory map has a bad page size",
+    "the memory map has a bad letter for what may be done with pages",
+    "the memory map has pages behind address FFFFFFFF",
+    "the memory map has over 32 ranges",
+    "the memory map has bytes behind its last range",
+    "two ranges of the memory map overlap",
+];
+
 impl fmt::Display for MapFault {
     fn fmt(&self, f: &mut fmt::Formatter<'_>) -> fmt::Result {
-        f.write_str(match self {
-            MapFault::NoMap => "the string has no memory map",
-            MapFault::BadAddress => "the memory map has a bad address",
-            MapFault::BadCount => "the memory map has a bad count of pages",
-            MapFault::BadSize => "the memory map has a bad page size",
-            MapFault::BadType => "the memory map has a bad letter for what may be done with pages",
-            MapFault::PastTheEnd => "the memory map has pages behind address FFFFFFFF",
-            MapFault::TooManyRanges => "the memory map has over 32 ranges",
-            MapFault::Trailing => "the memory map has bytes behind its last range",
-            MapFault::Overlaps => "two ranges of the memory map overlap",
-        })
+        f.write_str(TEXTS[*self as usize])
     }
 }

@@ -8,7 +8,7 @@ use crate::dfuse::memory::limits::ADDRESSES;
 use crate::dfuse::memory::pages::{Access, Pages};
 use crate::dfuse::memory::text::{Number, behind, front};
 
-/// What may be done with pages, and the text after the letter that says it.
+/// Access to pages, and the text after the letter that says it.
 #[derive(Debug, PartialEq, Eq)]
 struct Allowed<'t> {
     access: Access,
@@ -22,7 +22,7 @@ pub(crate) struct Group<'t> {
     pub rest: &'t [u8],
 }
 
-/// How many bytes a unit has, or 0.
+/// Returns the bytes of a unit, or 0.
 fn unit_of(byte: u8) -> u64 {
     match byte {
         b'K' => 1024,
@@ -65,7 +65,7 @@ fn take_size(text: &[u8]) -> Result<Number<'_>, MapFault> {
     }
 }
 
-/// What the bits of a letter say, from `a`, which has only the lowest bit.
+/// Returns the access that the bits of a letter say, from `a`, which has only the lowest bit.
 fn access_of(letter: u8) -> Access {
     let bits = letter - b'a' + 1;
     Access {
@@ -88,9 +88,18 @@ fn take_access(text: &[u8]) -> Result<Allowed<'_>, MapFault> {
 
 /// Takes a range that begins at this address.
 pub(crate) fn take_group(start: u64, text: &[u8]) -> Result<Group<'_>, MapFault> {
-    let count = take_count(text)?;
-    let size = take_size(count.rest)?;
-    let allowed = take_access(size.rest)?;
+    let count = match take_count(text) {
+        Ok(count) => count,
+        Err(fault) => return Err(fault),
+    };
+    let size = match take_size(count.rest) {
+        Ok(size) => size,
+        Err(fault) => return Err(fault),
+    };
+    let allowed = match take_access(size.rest) {
+        Ok(allowed) => allowed,
+        Err(fault) => return Err(fault),
+    };
     if start + count.value * size.value > ADDRESSES {
         return Err(MapFault::PastTheEnd);
     }

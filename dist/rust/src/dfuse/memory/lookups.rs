@@ -1,11 +1,11 @@
 // Of crates/dfu_formats/src/memory/lookups.rt, whose contracts are taken away.
 
-//! What ranges say of an address.
+//! Lookups of an address in ranges.
 
 use crate::dfuse::memory::pages::{Access, Page, Pages};
 use crate::dfuse::memory::ranges::end_of;
 
-/// Whether a range has this address.
+/// Returns whether a range has this address.
 fn has(address: u64, pages: &Pages) -> bool {
     pages.start as u64 <= address && address < end_of(pages)
 }
@@ -39,7 +39,7 @@ pub(crate) fn page_at(address: u64, ranges: &[Pages]) -> Option<Page> {
     }
 }
 
-/// Whether each address from the first up to before the second is in a range that grants what is wanted.
+/// Returns whether each address from the first up to before the second is in a range that grants what is wanted.
 pub(crate) fn all_granted(wanted: Access, start: u64, end: u64, ranges: &[Pages]) -> bool {
     let mut at = start;
     while at < end {

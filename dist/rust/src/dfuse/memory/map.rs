@@ -19,11 +19,20 @@ pub struct Map<'t> {
     ranges: ArrayVec<Pages, MOST_RANGES>,
 }
 
-/// What a string says, or its first fault.
+/// Reads the map of a string, or returns its first fault.
 fn read_map(text: &[u8]) -> Result<Map<'_>, MapFault> {
-    let named = take_name(text)?;
-    let place = take_address(named.rest)?;
-    let ranges = take_ranges(place.value, place.rest)?;
+    let named = match take_name(text) {
+        Ok(named) => named,
+        Err(fault) => return Err(fault),
+    };
+    let place = match take_address(named.rest) {
+        Ok(place) => place,
+        Err(fault) => return Err(fault),
+    };
+    let ranges = match take_ranges(place.value, place.rest) {
+        Ok(ranges) => ranges,
+        Err(fault) => return Err(fault),
+    };
     if !are_apart(&ranges) {
         return Err(MapFault::Overlaps);
     }
@@ -63,7 +72,7 @@ impl<'t> Map<'t> {
         lookups::page_at(address as u64, &self.ranges)
     }
 
-    /// Whether each address from the first up to before the second lies in a range that grants what is wanted.
+    /// Returns whether each address from the first up to before the second lies in a range that grants what is wanted.
     pub fn grants(&self, wanted: Access, start: u64, end: u64) -> bool {
         lookups::all_granted(wanted, start, end, &self.ranges)
     }

@@ -26,7 +26,7 @@ fn trimmed(bytes: &[u8]) -> &[u8] {
     kept
 }
 
-/// Where the first `/` is.
+/// Returns the place of the first `/`.
 fn stroke_in(text: &[u8]) -> Option<usize> {
     text.iter().position(|byte| *byte == b'/')
 }

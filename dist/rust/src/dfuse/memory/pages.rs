@@ -2,7 +2,7 @@
 
 //! Pages, and ranges of them.
 
-/// What may be done with a page.
+/// Access to a page.
 #[derive(Clone, Copy, Debug, Default, PartialEq, Eq)]
 pub struct Access {
     pub is_readable: bool,
@@ -11,7 +11,7 @@ pub struct Access {
 }
 
 impl Access {
-    /// Whether all that is wanted is granted.
+    /// Returns whether all that is wanted is granted.
     pub fn grants(self, wanted: Access) -> bool {
         (self.is_readable || !wanted.is_readable)
             && (self.is_erasable || !wanted.is_erasable)
@@ -24,11 +24,11 @@ impl Access {
 pub struct Pages {
     /// The address of the first byte.
     pub start: u32,
-    /// How many bytes each page has, up to 2^32.
+    /// Bytes of each page, up to 2^32.
     pub size: u64,
-    /// How many pages there are.
+    /// Number of pages.
     pub count: u32,
-    /// What may be done with each.
+    /// Access to each page.
     pub access: Access,
 }
 
@@ -37,8 +37,8 @@ pub struct Pages {
 pub struct Page {
     /// The address of the first byte.
     pub start: u32,
-    /// How many bytes it has, up to 2^32.
+    /// Bytes of the page, up to 2^32.
     pub size: u64,
-    /// What may be done with it.
+    /// Access to the page.
     pub access: Access,
 }

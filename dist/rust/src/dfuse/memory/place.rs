@@ -1,6 +1,6 @@
 // Of crates/dfu_formats/src/memory/place.rt, whose contracts are taken away.
 
-//! Where ranges begin: at an address of their own, or where the one before ends.
+//! Starts of ranges: at an address of their own, or where the one before ends.
 
 use crate::dfuse::memory::digits::take_number;
 use crate::dfuse::memory::fault::MapFault;

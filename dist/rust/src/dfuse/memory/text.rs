@@ -19,7 +19,7 @@ pub(crate) fn front(text: &[u8]) -> Option<(u8, &[u8])> {
     Some((byte, rest))
 }
 
-/// What follows this byte, if the text begins with it.
+/// Returns the text behind this byte, if the text begins with it.
 pub(crate) fn behind(byte: u8, text: &[u8]) -> Option<&[u8]> {
     match front(text) {
         Some((first, rest)) if first == byte => Some(rest),

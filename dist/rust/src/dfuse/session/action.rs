@@ -1,10 +1,10 @@
 // Of crates/dfuse_host/src/action.rt, whose contracts are taken away.
 
-//! What a session asks its caller to do.
+//! Actions that a session asks its caller to do.
 
 use crate::dfuse::session::report::Report;
 
-/// What a session asks its caller to do.
+/// Actions that a session asks its caller to do.
 #[derive(Clone, Copy, Debug, PartialEq, Eq)]
 pub enum Action<'f> {
     /// Send this request with this body: bytes of the image with a DNLOAD, else nothing. The answer is asked for if the setup's

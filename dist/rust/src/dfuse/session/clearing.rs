@@ -13,7 +13,7 @@ use crate::dfuse::session::step::Step;
 use crate::dfuse::session::work::Work;
 use crate::wire::{Code, State, Status};
 
-/// How long is waited for a status that was asked for too early, in milliseconds.
+/// Milliseconds to wait for a status that was asked for too early.
 pub(crate) const TOO_EARLY_MS: u32 = 100;
 
 /// The device is in dfuERROR while bytes are read back.

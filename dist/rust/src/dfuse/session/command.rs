@@ -10,7 +10,7 @@ use crate::dfuse::session::settling::stand;
 use crate::dfuse::session::step::Step;
 use crate::dfuse::session::work::Work;
 
-/// What a DNLOAD asks for.
+/// Command that a DNLOAD brings.
 #[derive(Clone, Copy, Debug, PartialEq, Eq)]
 pub(crate) enum Command {
     /// Set the address pointer.

@@ -1,11 +1,11 @@
 // Of crates/dfuse_host/src/fault.rt, whose contracts are taken away.
 
-//! Why a plan is refused.
+//! Faults for which a plan is refused.
 
 use core::fmt;
 use thiserror::Error;
 
-/// Why a plan is refused, before anything is sent: the first of these that holds.
+/// Faults for which a plan is refused before anything is sent: the first of these that holds.
 #[derive(Clone, Copy, Debug, PartialEq, Eq, Error)]
 pub enum PlanFault {
     /// The transfer size is 0.

@@ -1,6 +1,6 @@
 // Of crates/dfuse_host/src/heard.rt, whose contracts are taken away.
 
-//! What is understood of what is seen.
+//! Meaning of what is seen.
 
 use crate::dfuse::session::plan::Plan;
 use crate::dfuse::session::seen::Seen;
@@ -8,7 +8,7 @@ use crate::dfuse::session::step::Step;
 use crate::dfuse::session::work::Work;
 use crate::wire::{State, Status};
 
-/// What is understood of what is seen of an action.
+/// Meaning of what is seen of an action.
 #[derive(Clone, Copy, Debug, PartialEq, Eq)]
 pub(crate) enum Heard {
     Acked,
@@ -51,7 +51,7 @@ fn compared(wanted: &[u8], bytes: &[u8]) -> Heard {
 }
 
 impl Plan<'_> {
-    /// What bytes say that come at a step.
+    /// Returns the meaning of bytes that come at a step.
     fn answered(&self, work: Work, step: Step, bytes: &[u8]) -> Heard {
         match step {
             Step::AskState | Step::Probe | Step::CloseProbe => state_in(bytes),
@@ -61,7 +61,7 @@ impl Plan<'_> {
         }
     }
 
-    /// What is understood of what is seen at a step.
+    /// Returns the meaning of what is seen at a step.
     pub(crate) fn hear(&self, work: Work, step: Step, seen: Seen<'_>) -> Heard {
         match seen {
             Seen::Ack => Heard::Acked,

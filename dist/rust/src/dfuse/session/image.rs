@@ -1,6 +1,6 @@
 // Of crates/dfuse_host/src/image.rt, whose contracts are taken away.
 
-//! Which bytes an image has, by their addresses.
+//! Bytes of an image, by their addresses.
 
 use crate::dfuse::file::Element;
 
@@ -9,7 +9,7 @@ pub(crate) fn end_of(element: &Element<'_>) -> u64 {
     element.address as u64 + element.bytes.len() as u64
 }
 
-/// Whether an element has a byte for this address.
+/// Returns whether an element has a byte for this address.
 fn holds(at: u64, element: &Element<'_>) -> bool {
     element.address as u64 <= at && at < end_of(element)
 }

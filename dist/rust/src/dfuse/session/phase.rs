@@ -7,7 +7,7 @@ use crate::dfuse::session::report::Report;
 use crate::dfuse::session::step::Step;
 use crate::dfuse::session::work::Work;
 
-/// What a session works at, what it knows of the device, and what it does next.
+/// Work of a session, with its knowledge of the device and its next step.
 #[derive(Clone, Copy, Debug, PartialEq, Eq)]
 pub struct Standing {
     pub work: Work,

@@ -1,8 +1,8 @@
 // Of crates/dfuse_host/src/place.rt, whose contracts are taken away.
 
-//! What is known of the device's address pointer.
+//! Knowledge of the device's address pointer.
 
-/// What is known of the device's address pointer, once the device is ready for a command.
+/// Knowledge of the device's address pointer, once the device is ready for a command.
 #[derive(Clone, Copy, Debug, PartialEq, Eq)]
 pub enum Place {
     /// Nothing.

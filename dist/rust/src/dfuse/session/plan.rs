@@ -1,12 +1,12 @@
 // Of crates/dfuse_host/src/plan.rt, whose contracts are taken away.
 
-//! What a session is to do.
+//! Plan of a session.
 
 use crate::dfuse::session::image::{element_at, end_of, image_start};
 use crate::dfuse::file::Element;
 use crate::dfuse::memory::{Map, Page};
 
-/// What a session is to do.
+/// Plan of a session.
 #[derive(Clone, Copy, Debug, PartialEq, Eq)]
 pub struct Plan<'f> {
     /// The memory.
@@ -15,9 +15,9 @@ pub struct Plan<'f> {
     pub image: &'f [Element<'f>],
     /// The most bytes of a block.
     pub transfer: u16,
-    /// How many bytes of the image are written last of all, if its first element and its first page have that many.
+    /// Bytes of the image that are written last of all, if its first element and its first page have that many.
     pub front: u16,
-    /// Whether the device is to leave once all was compared.
+    /// Tells whether the device is to leave once all was compared.
     pub leaves: bool,
     /// The address at which it is to start its application.
     pub start: u32,

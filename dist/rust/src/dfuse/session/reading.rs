@@ -28,7 +28,7 @@ fn ended(place: Place) -> Place {
     }
 }
 
-/// Where the device is after this step, if it is an ABORT that begins or ends reading.
+/// Returns the place of the pointer after this step, if the step is an ABORT that begins or ends reading.
 fn turned(step: Step, place: Place) -> Place {
     match step {
         Step::BeginReading => begun(place),

@@ -1,6 +1,6 @@
 // Of crates/dfuse_host/src/refusing.rt, whose contracts are taken away.
 
-//! When a plan is refused.
+//! Refusals of a plan.
 
 use crate::dfuse::session::fault::PlanFault;
 use crate::dfuse::session::image::end_of;
@@ -8,12 +8,12 @@ use crate::dfuse::session::plan::Plan;
 use crate::dfuse::file::Element;
 use crate::dfuse::memory::Access;
 
-/// Whether there is no element, or one without bytes.
+/// Returns whether there is no element, or one without bytes.
 fn is_empty(image: &[Element<'_>]) -> bool {
     image.len() == 0 || has_empty(image)
 }
 
-/// Whether an element has no bytes.
+/// Returns whether an element has no bytes.
 fn has_empty(image: &[Element<'_>]) -> bool {
     for element in image {
         if element.bytes.len() == 0 {
@@ -23,7 +23,7 @@ fn has_empty(image: &[Element<'_>]) -> bool {
     false
 }
 
-/// Whether no element begins before the one before it does.
+/// Returns whether no element begins before the one before it does.
 fn ascends(image: &[Element<'_>]) -> bool {
     let mut start = 0;
     for element in image {
@@ -35,7 +35,7 @@ fn ascends(image: &[Element<'_>]) -> bool {
     true
 }
 
-/// Whether no element begins before the one before it ends.
+/// Returns whether no element begins before the one before it ends.
 fn are_apart(image: &[Element<'_>]) -> bool {
     let mut end = 0;
     for element in image {
@@ -48,7 +48,7 @@ fn are_apart(image: &[Element<'_>]) -> bool {
 }
 
 impl Plan<'_> {
-    /// Whether the pages of the image grant what is wanted.
+    /// Returns whether the pages of the image grant what is wanted.
     fn grants(&self, wanted: Access) -> bool {
         for element in self.image {
             if !self

@@ -1,10 +1,10 @@
 // Of crates/dfuse_host/src/report.rt, whose contracts are taken away.
 
-//! How a session ended.
+//! Reports with which a session ends.
 
 use crate::wire::Code;
 
-/// Whether the device left for its application.
+/// Ways in which the device left for its application, or stayed.
 #[derive(Clone, Copy, Debug, PartialEq, Eq)]
 pub enum Leaving {
     /// It wasn't asked to.
@@ -15,7 +15,7 @@ pub enum Leaving {
     Unknown,
 }
 
-/// How a session ended.
+/// Report with which a session ended.
 #[derive(Clone, Copy, Debug, PartialEq, Eq)]
 pub enum Report {
     /// Each byte of the image was read back, and is the image's.

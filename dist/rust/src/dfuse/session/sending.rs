@@ -30,7 +30,7 @@ pub(crate) fn on_poll_wait(work: Work, place: Place, ms: u32, heard: &Heard) -> 
     }
 }
 
-/// How long is waited for a status that is stalled.
+/// Returns the milliseconds to wait for a status that is stalled.
 fn stalled_ms(last: u32) -> u32 {
     if last == 0 { TOO_EARLY_MS } else { last }
 }

@@ -26,7 +26,7 @@ pub struct Session<'f> {
     pub restarts: u16,
 }
 
-/// Whether the device was asked to leave by now, and what came of it is open.
+/// Returns whether the device was asked to leave by now and may have left.
 fn left_at(step: Step) -> Leaving {
     match step {
         Step::Close | Step::CloseProbe | Step::ClosePoll => Leaving::Unknown,
@@ -134,7 +134,7 @@ impl<'f> Session<'f> {
         }
     }
 
-    /// What the session wants done next. It changes nothing, so it may be asked again.
+    /// Returns the action that the session wants next. It changes nothing, so it may be asked again.
     pub fn next(&self) -> Action<'f> {
         self.plan.action(self.phase)
     }

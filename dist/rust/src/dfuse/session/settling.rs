@@ -32,7 +32,7 @@ impl Plan<'_> {
         }
     }
 
-    /// Whether the bytes of an address can be asked for from the address to which the pointer was set.
+    /// Returns whether the bytes of an address can be asked for from the address to which the pointer was set.
     fn can_read(&self, base: u64, at: u64) -> bool {
         if at < base {
             return false;

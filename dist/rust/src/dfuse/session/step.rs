@@ -1,8 +1,8 @@
 // Of crates/dfuse_host/src/step.rt, whose contracts are taken away.
 
-//! What is done next of a work.
+//! Next step of a work.
 
-/// What is done next of a work. Times are in milliseconds.
+/// Next step of a work. Times are in milliseconds.
 #[derive(Clone, Copy, Debug, PartialEq, Eq)]
 pub enum Step {
     /// Drop with ABORT what was sent and not started, as by an earlier session. GETSTATUS would start it.

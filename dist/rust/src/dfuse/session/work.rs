@@ -1,8 +1,8 @@
 // Of crates/dfuse_host/src/work.rt, whose contracts are taken away.
 
-//! What a session works at.
+//! Works of a session, in this order, but for `EraseAgain`.
 
-/// What a session works at, in this order, but for `EraseAgain`. The front is the first bytes of the image, which are written last.
+/// Works of a session, in this order, but for `EraseAgain`. The front is the first bytes of the image, which are written last.
 #[derive(Clone, Copy, Debug, PartialEq, Eq)]
 pub enum Work {
     /// Erase each page that has a byte of the image from this address on.
