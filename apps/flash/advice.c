@@ -35,6 +35,11 @@ void advice_forget(void)
     known.step[0] = known.seen[0] = '\0';
 }
 
+const char *advice_seen(void)
+{
+    return known.seen[0] != '\0' ? known.seen : NULL;
+}
+
 const char *advice_or(const char *step)
 {
     const char *best = known.step[0] != '\0' ? known.step : step;

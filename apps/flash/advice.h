@@ -27,6 +27,9 @@ void advice_forget(void);
 /* Returns the step that was set, or else the given one, which is a table's. */
 const char *advice_or(const char *step);
 
+/* Returns the words of advice_first, or NULL. */
+const char *advice_seen(void);
+
 /* Advises on a raw image for which no device was named: if exactly one device is there, to add the words that name it. */
 void advise_raw(libusb_context *usb, const struct words *words);
 

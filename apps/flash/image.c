@@ -109,10 +109,11 @@ int32_t image_seal(struct image *image)
     put_crc(image->bytes + image->length - 4, crc_of(image->bytes, image->length - 4));
     return image->is_dfuse ? dfuse_read_file(image->bytes, image->length, &image->dfuse_info) : take_suffix(image);
 }
+/* A DfuSe file without its own check sum: the sum of the bytes before it and of itself is the same for every file. */
 
 uint32_t image_crc(const struct image *image)
 {
-    return ~crc_of(image->bytes, image->is_dfuse ? image->length : image->payload);
+    return ~crc_of(image->bytes, image->is_dfuse ? image->length - 4 : image->payload);
 }
 
 int32_t image_make(struct image *image, const uint8_t *bytes, size_t length, uint16_t vendor, uint16_t product)
