@@ -65,6 +65,13 @@ static bool add_words(char *line, size_t length)
     return true;
 }
 
+void advice_if(const char *condition)
+{
+    char step[LINE_ROOM];
+    memcpy(step, known.step, sizeof step);
+    snprintf(known.step, sizeof known.step, "%s, %.*s", condition, LINE_ROOM - 200, step);
+}
+
 void advice_run(const char *more)
 {
     char line[LINE_ROOM];

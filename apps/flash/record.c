@@ -138,7 +138,7 @@ static void print_record(const struct session *session, const struct verdict *ve
         json_text("code", code_name(verdict->code));
     json_text("words", verdict->words);
     if (verdict->code != 0)
-        json_text("meaning", code_words(verdict->code));
+        json_text("meaning", code_words(verdict->code, session->is_upload));
     json_session(session);
     if (session->dfuse.is_active)
         json_address(session->dfuse.address);

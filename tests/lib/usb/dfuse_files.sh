@@ -123,6 +123,9 @@ packed_row ElementPastTheTarget -p 121=05 0:08000000=few
 packed_row EmptyElement -p 121=00 0:08000000=few
 packed_row AddressPastTheEnd 0:fffffffd=few
 packed_row NoPrefix -p 0=64 0:08000000=few
+# With an address too: its suffix alone is DfuSe's, so that --address is no mistake.
+refused 'NoPrefix: ' '' --device 1209:0001 --address 0x08000000 bad.dfu
+is 'the step' grep -q '^next: get the file anew; or take the suffix off a raw image by `dfu-suffix -D`, and say where by --address$' err
 # The check sum of a file in its record: without its own sum, with which each file has the same.
 for element in few byte; do
     ./dfuse_pack "0:08000000=$element" > sum.dfu
