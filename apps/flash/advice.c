@@ -35,6 +35,11 @@ void advice_forget(void)
     known.step[0] = known.seen[0] = '\0';
 }
 
+const char *advice_seen(void)
+{
+    return known.seen[0] != '\0' ? known.seen : NULL;
+}
+
 const char *advice_or(const char *step)
 {
     const char *best = known.step[0] != '\0' ? known.step : step;
@@ -58,6 +63,13 @@ static bool add_words(char *line, size_t length)
         length += strlen(line + length);
     }
     return true;
+}
+
+void advice_if(const char *condition)
+{
+    char step[LINE_ROOM];
+    memcpy(step, known.step, sizeof step);
+    snprintf(known.step, sizeof known.step, "%s, %.*s", condition, LINE_ROOM - 200, step);
 }
 
 void advice_run(const char *more)

@@ -21,8 +21,14 @@ void advice_first(const char *seen);
 /* Sets the next step to running the program with these words before those of the command line. */
 void advice_run(const char *more);
 
+/* Puts what has to be so before the step that was set. */
+void advice_if(const char *condition);
+
 /* Forgets the step and the words that were set. */
 void advice_forget(void);
+
+/* Returns the words of advice_first, or NULL. */
+const char *advice_seen(void);
 
 /* Returns the step that was set, or else the given one, which is a table's. */
 const char *advice_or(const char *step);

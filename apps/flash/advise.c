@@ -36,6 +36,15 @@ static const struct found *only_one(const struct found *list, int count)
     return count > 0 && list[0].access == 0 ? &list[0] : NULL;
 }
 
+/* Advises to flash it at the memory's first address, which is right only if the image is linked for that. */
+static void run_there(const char *more)
+{
+    char condition[160];
+    snprintf(condition, sizeof condition, "if the image is linked for %s, where this board's memory begins", more + strlen("--address "));
+    advice_run(more);
+    advice_if(condition);
+}
+
 void advise_raw(libusb_context *usb, const struct words *words)
 {
     struct wanted wanted = wanted_of(words);
@@ -50,12 +59,14 @@ void advise_raw(libusb_context *usb, const struct words *words)
         return;
     one = only_one(list, count);
     snprintf(more, sizeof more, "--device %04x:%04x", one == NULL ? 0 : one->vendor, one == NULL ? 0 : one->product);
-    if (one != NULL && (!is_dfuse(one) || !one->is_upgrade || name_memory(one, false, more, sizeof more)))
+    if (one != NULL && (!is_dfuse(one) || !one->is_upgrade))
         advice_run(more);
+    else if (one != NULL && name_memory(one, false, more, sizeof more))
+        run_there(more);
     found_drop(list, count);
 }
 
-/* Names the first byte of the image that no range of the map has, and the end of the memory before it. */
+/* Names the part of the image that isn't all on the map, and the memory that the map has. */
 static void say_outside(const struct session *session)
 {
     const struct dfuse *dfuse = &session->dfuse;
@@ -63,17 +74,13 @@ static void say_outside(const struct session *session)
     const struct dfuse_element *parts = session->is_upload ? &whole : dfuse->image;
     uint64_t count = session->is_upload ? 1 : dfuse->elements;
     for (uint64_t at = 0; at < count; at++) {
-        uint64_t past = (uint64_t)parts[at].address + parts[at].length, end = 0, missing;
-        char seen[200];
-        if (!dfuse_missing(dfuse->map, dfuse->map_length, parts[at].address, past, &missing, &end))
+        uint64_t past = (uint64_t)parts[at].address + parts[at].length;
+        char areas[120], seen[240];
+        if (dfuse_may_read(dfuse->map, dfuse->map_length, parts[at].address, past) != DFUSE_OUTSIDE)
             continue;
-        if (end == 0)
-            snprintf(seen, sizeof seen, "the map has no byte at %08" PRIx64 "; the image is from %08" PRIx32 " to %08" PRIx64, missing,
-                     parts[at].address, past - 1);
-        else
-            snprintf(seen, sizeof seen,
-                     "the byte at %08" PRIx64 " is past the end of the memory at %08" PRIx64 "; the image is to %08" PRIx64, missing,
-                     end - 1, past - 1);
+        dfuse_areas(dfuse->map, dfuse->map_length, areas, sizeof areas);
+        snprintf(seen, sizeof seen, "%s %08" PRIx32 " to %08" PRIx64 ", and the board has %s",
+                 session->is_upload ? "it was to read" : "the image would take", parts[at].address, past - 1, areas);
         advice_first(seen);
         return;
     }
@@ -88,7 +95,7 @@ void advise_refused(const struct session *session, int32_t refusal)
         snprintf(more, sizeof more, "--transfer-size %d", SMALLEST_BLOCK);
         advice_run(more);
     } else if (refusal == REFUSED_NO_ADDRESS && name_memory(info, session->is_upload, more, sizeof more))
-        advice_run(more);
+        (session->is_upload ? advice_run : run_there)(more);
     else if (refusal == DFUSE_OUTSIDE)
         say_outside(session);
 }
@@ -123,6 +130,8 @@ void advise_ended(const struct session *session, const char *name)
 {
     if (strcmp(name, "different") == 0)
         say_odd(session);
+    else if (strcmp(name, "refused") == 0 && session->is_upload)
+        advice_is("go by the code (see CODES in man dfu-flash), and ask the maker whether the device gives its image");
     else if (strcmp(name, "gave-up") == 0 && is_too_large(session))
         advice_is("run it again without --transfer-size: its blocks are larger than those that the device takes");
     else if (strcmp(name, "gave-up") == 0 && !session->wire.device->info.is_upgrade)

@@ -2,6 +2,9 @@
 /* Meanings of the standard's status codes (section 6.1.2). share/man/dfu-flash.1 has the same list; tests/apps/flash compares them. */
 #include "standard.h"
 
+/* Codes that say something of the file that was sent. */
+enum { ERR_TARGET = 1, ERR_FILE = 2, ERR_NOTDONE = 9 };
+
 /* As the standard has it, and of the commonest also what is the matter as a rule. */
 static const char *const meanings[] = {
     "there is no error",
@@ -22,7 +25,10 @@ static const char *const meanings[] = {
     "the device stalled a request that it did not expect",
 };
 
-const char *code_words(uint32_t code)
+const char *code_words(uint32_t code, bool is_upload)
 {
+    bool is_of_file = code == ERR_TARGET || code == ERR_FILE || code == ERR_NOTDONE;
+    if (is_upload && is_of_file)
+        return "the device gives no image: its code is one for downloads, which its maker explains";
     return code < sizeof meanings / sizeof *meanings ? meanings[code] : "the standard doesn't have this code";
 }

@@ -121,14 +121,17 @@ bool dfu_util_address(const char *text, struct words *words)
     const char *rest;
     if (!is_harmless(text))
         return false;
-    if (strcmp(text, ":leave") == 0)
+    if (strcmp(text, ":leave") == 0) {
+        words->leaves = true;
         return true;
+    }
     if (!value_is_hexadecimal(text, &words->address, &rest))
         return words_refuse("-s takes an address as 0x08000000, which may have :leave or a length after it", text);
     words->has_address = words->stays = words->is_to_end = true;
     while (*rest == ':') {
         if (is_modifier(rest + 1, "leave")) {
             words->stays = false;
+            words->leaves = true;
             rest += 6;
         } else if (!value_is_length(rest + 1, &words->length, &rest))
             return words_refuse("-s takes :leave or a length after the address; nothing else of dfu-util's is here", text);

@@ -93,9 +93,8 @@ int32_t dfuse_may_read(const uint8_t *map, size_t map_length, uint64_t start, ui
 /* Finds the first range of a map that takes images, or for an upload that can be read. Returns false if there is none. */
 bool dfuse_first(const uint8_t *map, size_t map_length, bool is_upload, struct dfuse_range *range);
 
-/* Returns whether some address of a part of the memory is in no range. If so, `missing` is the first such address, and `past` the end of
-   the memory below it, or 0. */
-bool dfuse_missing(const uint8_t *map, size_t map_length, uint64_t start, uint64_t end, uint64_t *missing, uint64_t *past);
+/* Writes from where to where the map has memory, as "08000000 to 08003fff"; what has no room is "..". */
+void dfuse_areas(const uint8_t *map, size_t map_length, char *text, size_t room);
 
 /* Finds the end of the range with this address. Returns false if no range has it. */
 bool dfuse_end_of(const uint8_t *map, size_t map_length, uint64_t address, uint64_t *end);

@@ -109,29 +109,23 @@ bool dfuse_first(const uint8_t *map, size_t map_length, bool is_upload, struct d
     return false;
 }
 
-/* Returns the last end of a range that is not above this address, or 0 if there is none. */
-static uint64_t end_below(const uint8_t *map, size_t map_length, uint64_t address)
+void dfuse_areas(const uint8_t *map, size_t map_length, char *text, size_t room)
 {
-    struct dfuse_range range;
-    uint64_t end = 0;
-    for (uint32_t number = 0; dfuse_read_range(map, map_length, number, &range) == 0; number++)
-        if (end_of(&range) <= address && end_of(&range) > end)
-            end = end_of(&range);
-    return end;
-}
-
-bool dfuse_missing(const uint8_t *map, size_t map_length, uint64_t start, uint64_t end, uint64_t *missing, uint64_t *past)
-{
-    struct dfuse_range range;
-    while (start < end) {
-        if (range_at(map, map_length, start, &range) != 0) {
-            *missing = start;
-            *past = end_below(map, map_length, start);
-            return true;
+    struct dfuse_range range, next;
+    size_t length = 0;
+    uint32_t number = 0;
+    text[0] = '\0';
+    while (dfuse_read_range(map, map_length, number++, &range) == 0) {
+        uint64_t end = end_of(&range);
+        for (; dfuse_read_range(map, map_length, number, &next) == 0 && next.start == end; number++)
+            end = end_of(&next);
+        if (room - length < sizeof ", 08000000 to 08003fff ..") {
+            snprintf(text + length, room - length, " ..");
+            return;
         }
-        start = end_of(&range);
+        length +=
+            (size_t)snprintf(text + length, room - length, "%s%08" PRIx64 " to %08" PRIx64, length > 0 ? ", " : "", range.start, end - 1);
     }
-    return false;
 }
 
 bool dfuse_end_of(const uint8_t *map, size_t map_length, uint64_t address, uint64_t *end)

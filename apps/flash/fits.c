@@ -59,6 +59,8 @@ bool words_fit(const struct words *words)
     bool has_trace = words->verbose || words->log != NULL;
     bool has_choice = words->has_ids || words->path != NULL || words->serial != NULL || words->interface >= 0 || words->alternate >= 0
                       || words->setting != NULL;
+    bool has_station = words->stamp != NULL || words->stamp_bytes != 0 || words->report != NULL || words->ports != NULL
+                       || words->boards != 0 || words->retry != 0;
     if (words->force && words->job != JOB_UPLOAD)
         return words_refuse("--force goes with --upload alone", "");
     if (!words->verify && words->job != JOB_DOWNLOAD)
@@ -67,7 +69,8 @@ bool words_fit(const struct words *words)
         return words_refuse("--raw goes with a FILE that is downloaded", "");
     if (words->job == JOB_LIST && (has_session || words->quiet || has_trace || words->wait || words->timeout != 0))
         return words_refuse("--list goes with what chooses devices, and with --json, alone", "");
-    if (words->job == JOB_DEMO && (has_session || has_choice || has_trace || words->wait || words->timeout != 0 || words->all))
+    if (words->job == JOB_DEMO
+        && (has_session || has_choice || has_trace || words->wait || words->timeout != 0 || words->all || has_station))
         return words_refuse("--demo goes with a FILE, --json and --quiet alone: its board is simulated", "");
     if (words->job == JOB_DETACH && has_session)
         return words_refuse("--detach goes with no --limits, --dry-run or --transfer-size", "");

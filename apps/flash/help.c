@@ -9,7 +9,7 @@ static const char usage[] =
     "\n"
     "Examples: dfu-flash firmware.dfu\n"
     "          dfu-flash --device 1209:0001 image.bin\n"
-    "The manual, with each exit status and what to do then: man dfu-flash\n"
+    "The manual, with exit statuses and steps: man dfu-flash, or uninstalled man share/man/dfu-flash.1\n"
     "\n"
     "Usage: dfu-flash [OPTIONS] FILE, or - for standard input\n"
     "       dfu-flash [OPTIONS] --all FILE\n"

@@ -84,11 +84,10 @@ static void say_empty(void)
 /* A file with a suffix is sent, since it says for which device. But `dfu add` without --format takes a build's text for the image. */
 static void warn(const struct image *image)
 {
-    const char *format = looks_text_format(image->bytes, image->payload);
+    const char *name, *format = looks_text_format(image->bytes, image->payload, &name);
     if (format != NULL)
-        fprintf(stderr,
-                "dfu-flash: the image in the file looks like text of %s: `dfu add --format %s` takes out the image that it describes\n",
-                format, format);
+        fprintf(stderr, "dfu-flash: the image in the file looks like %s: `dfu add --format %s` takes out the image that it describes\n",
+                name, format);
 }
 
 /* Takes the fields of the suffix into the image. */
@@ -110,9 +109,10 @@ int32_t image_seal(struct image *image)
     return image->is_dfuse ? dfuse_read_file(image->bytes, image->length, &image->dfuse_info) : take_suffix(image);
 }
 
+/* A DfuSe file without its own check sum: the sum of the bytes before it and of itself is the same for every file. */
 uint32_t image_crc(const struct image *image)
 {
-    return ~crc_of(image->bytes, image->is_dfuse ? image->length : image->payload);
+    return ~crc_of(image->bytes, image->is_dfuse ? image->length - 4 : image->payload);
 }
 
 int32_t image_make(struct image *image, const uint8_t *bytes, size_t length, uint16_t vendor, uint16_t product)
@@ -151,10 +151,9 @@ static bool is_fit(const struct words *words, bool has_suffix, bool is_dfuse)
 /* A DfuSe file, whole. With targets of several settings it is asked for one: none is passed over in silence. */
 static int32_t read_dfuse(struct image *image, const struct words *words)
 {
-    int32_t refusal;
-    if (words->has_address)
+    int32_t refusal = dfuse_read_file(image->bytes, image->length, &image->dfuse_info);
+    if (words->has_address && refusal != DFUSE_FILE_NO_PREFIX)
         return REFUSED_OWN_ADDRESS;
-    refusal = dfuse_read_file(image->bytes, image->length, &image->dfuse_info);
     if (refusal != 0)
         return refusal;
     image->vendor = image->dfuse_info.vendor;

@@ -36,10 +36,13 @@ struct dfu_look looks_of(const uint8_t *bytes, size_t length, const char *file)
     return look;
 }
 
-const char *looks_text_format(const uint8_t *bytes, size_t length)
+const char *looks_text_format(const uint8_t *bytes, size_t length, const char **name)
 {
     uint32_t looks = looks_of(bytes, length, "-").looks;
-    return looks == DFU_LOOKS_IHEX || looks == DFU_LOOKS_SREC ? formats[looks].format : NULL;
+    if (looks != DFU_LOOKS_IHEX && looks != DFU_LOOKS_SREC)
+        return NULL;
+    *name = formats[looks].name;
+    return formats[looks].format;
 }
 
 /* The name as one word of a shell's line, behind which a blank follows. One that can't be typed is FILE. */

@@ -11,8 +11,9 @@
    none. */
 struct dfu_look looks_of(const uint8_t *bytes, size_t length, const char *file);
 
-/* Returns the name by which --format of `dfu add` takes the bytes, if they look like records of text; else NULL. */
-const char *looks_text_format(const uint8_t *bytes, size_t length);
+/* Returns the name by which --format of `dfu add` takes the bytes, if they look like records of text, and the format's own
+   name; else NULL. */
+const char *looks_text_format(const uint8_t *bytes, size_t length, const char **name);
 
 /* Says of a file that isn't raw what it is, and what to do with it: a line on standard error, which for a file that `dfu add` takes is
    followed by what a DfuSe device needs. The refusal: one of image.h. */

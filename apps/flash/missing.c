@@ -2,6 +2,7 @@
 /* Explains why no device is the wanted one: it applies one criterion after the other to the devices that are left, and names the first that
    none of them meets. */
 #include "advice.h"
+#include "properties.h"
 #include "say.h"
 #include "standard.h"
 #include "status.h"
@@ -79,6 +80,15 @@ static void say_modes(const struct wanted *wanted, const struct found *list, int
         fputs("dfu-flash: in DFU mode a device may have another product: see --device RUN,DFU\n", stderr);
 }
 
+static void say_nothing(void)
+{
+    fputs("dfu-flash: no device with DFU is there\n", stderr);
+    if (platform_has_usb())
+        return;
+    fputs("dfu-flash: this system has no USB: neither /dev/bus/usb nor /sys/bus/usb is there, as in a container\n", stderr);
+    advice_is("run it on the computer that the device is plugged into, or give the container its /dev/bus/usb and /sys/bus/usb");
+}
+
 int say_missing(libusb_context *usb, const struct wanted *wanted)
 {
     const struct wanted any = {.place = ANYWHERE};
@@ -86,7 +96,7 @@ int say_missing(libusb_context *usb, const struct wanted *wanted)
     int count = find_all(usb, &any, list, FOUND_ROOM), left = count;
     enum criterion failed = IDENTIFIERS;
     if (count <= 0) {
-        fprintf(stderr, "dfu-flash: no device with DFU is there\n");
+        say_nothing();
         return STATUS_NO_DEVICE;
     }
     for (; failed < CRITERIA; failed++) {

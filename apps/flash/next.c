@@ -90,7 +90,7 @@ static const struct {
     {DFUSE_FILE_BAD_LENGTH, ANEW},
     {DFUSE_FILE_NOT_DFUSE, FILE_MAKER},
     {DFUSE_FILE_BAD_CRC, ANEW},
-    {DFUSE_FILE_NO_PREFIX, FILE_MAKER},
+    {DFUSE_FILE_NO_PREFIX, "get the file anew; or take the suffix off a raw image by `dfu-suffix -D`, and say where by --address"},
     {DFUSE_FILE_BAD_VERSION, FILE_MAKER},
     {DFUSE_FILE_BAD_SIZE, FILE_MAKER},
     {DFUSE_FILE_NO_TARGETS, FILE_MAKER},

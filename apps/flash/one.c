@@ -34,9 +34,11 @@ static struct device device;
 static struct session session;
 static uint8_t no_file[1], no_room[1]; /* the host's library wants pointers also if there are no bytes */
 
-/* There is no session, for a reason that was said. */
+/* There is no session, for a reason that was said. Only a download with no device named may be for all. */
 static int say_none(const struct words *words, int status)
 {
+    if (status == STATUS_SEVERAL && (words->job != JOB_DOWNLOAD || words->dry_run || words->path != NULL || words->serial != NULL))
+        advice_is("choose one of those that are listed, by --path, --serial, --interface or --alt");
     return record_none(status, words->json);
 }
 

@@ -16,6 +16,9 @@ bool platform_tells_new(void);
    else. */
 bool platform_tells_left(void);
 
+/* Returns false if the system shows no USB at all, as a container that wasn't given it. */
+bool platform_has_usb(void);
+
 /* Returns the milliseconds that a person has to pull the plug once asked. */
 uint32_t platform_pull_ms(void);
 

@@ -69,9 +69,10 @@ static const char *path_known(void)
     return each.path != NULL ? each.path : is_known() && each.info->path[0] != '\0' ? each.info->path : NULL;
 }
 
+/* Seconds since the board was begun; 0 of a record that is of none. */
 static double each_seconds(void)
 {
-    return (double)(clock_ms() - each.began_ms) / 1000;
+    return each.began_ms == 0 ? 0 : (double)(clock_ms() - each.began_ms) / 1000;
 }
 
 /* A simulated board's report has another name too, so that who looks at nothing else isn't deceived. */
@@ -137,7 +138,7 @@ static void print_record(const struct session *session, const struct verdict *ve
         json_text("code", code_name(verdict->code));
     json_text("words", verdict->words);
     if (verdict->code != 0)
-        json_text("meaning", code_words(verdict->code));
+        json_text("meaning", code_words(verdict->code, session->is_upload));
     json_session(session);
     if (session->dfuse.is_active)
         json_address(session->dfuse.address);
@@ -158,9 +159,10 @@ bool record_print(const struct session *session, const struct verdict *verdict, 
     const char *step, *code = verdict->code != 0 ? code_name(verdict->code) : "";
     bool is_added;
     end_log(verdict->status, verdict->name);
+    advise_ended(session, verdict->name);
+    station_code(code);
     is_added = station_add(record_status(verdict->status), verdict->name, verdict->words, session->wire.device->path,
                            &session->wire.device->info, each_seconds());
-    advise_ended(session, verdict->name);
     step = next_of_end(verdict->name);
     if (is_json) {
         print_record(session, verdict, step);
@@ -178,10 +180,8 @@ static void print_short(int status, const char *name, const char *words, const c
     json_text("reason", status == STATUS_FILE ? say_reason() : NULL);
     if (is_known())
         printf(",\"vendor\":\"%04x\",\"product\":\"%04x\",\"release\":\"%04x\"", each.info->vendor, each.info->product, each.info->release);
-    if (path_known() != NULL)
-        json_text("path", path_known());
-    if (is_known() && each.info->serial[0] != '\0')
-        json_text("serial", each.info->serial);
+    json_text("path", path_known());
+    json_text("serial", is_known() && each.info->serial[0] != '\0' ? each.info->serial : NULL);
     end(path_known(), step);
 }
 

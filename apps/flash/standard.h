@@ -66,8 +66,8 @@ enum { ANY_ID = 0xffff };
 /* Returns the name of a status code, or "?" if no code has the number. ../common/names.h has the names of requests and states. */
 const char *code_name(uint32_t code);
 
-/* Returns the meaning of a status code, in words. */
-const char *code_words(uint32_t code);
+/* Returns the meaning of a status code, in words, by which a device refused a download, or an upload. */
+const char *code_words(uint32_t code, bool is_upload);
 
 /* The number of two bytes, low byte first. */
 static inline uint16_t two_bytes(const uint8_t *bytes)

@@ -2,11 +2,13 @@
 /* Lines of the report: JSON, or CSV (RFC 4180) if the file's name ends in .csv. One that would be no line of such a report isn't added to:
    a file that is something else stays as it is. */
 #include "station.h"
+#include "advice.h"
 #include "append.h"
 #include "json.h"
 #include "ports_file.h"
 #include "say.h"
 #include "stamp.h"
+#include "status.h"
 #include "../common/text.h"
 
 #include <inttypes.h>
@@ -25,7 +27,7 @@ static const char json_front[] = "{\"time\":\"";
 static struct {
     int file;
     bool is_open, is_csv, has_image, has_failed;
-    const char *image;
+    const char *image, *code;
     uint32_t crc;
 } station;
 
@@ -99,6 +101,19 @@ void station_time(char text[32])
         text[0] = '\0';
 }
 
+/* Says why lines can't be added to a file that begins so; NULL if they can. */
+static const char *why_not(const char *front)
+{
+    const char *wanted = station.is_csv ? header : json_front;
+    if (*front == '\0' || strncmp(front, wanted, strlen(wanted)) == 0)
+        return NULL;
+    if (strncmp(front, COLUMNS "\n", sizeof COLUMNS) == 0 && station.is_csv)
+        return "it is a report without the column `stamp`, and --stamp adds one: name another file";
+    if (strcmp(front, stamp_header) == 0 && station.is_csv)
+        return "it is a report with the column `stamp`, which goes with --stamp: name another file";
+    return "what is there is no report of this program, and stays as it is";
+}
+
 /* Opens the report, and returns whether lines may be added: it is new, or begins as a report does. */
 static bool open_report(const char *name)
 {
@@ -106,10 +121,9 @@ static bool open_report(const char *name)
     const char *why, *end = strrchr(name, '.');
     station.is_csv = end != NULL && (strcmp(end, ".csv") == 0 || strcmp(end, ".CSV") == 0);
     station.file = append_open(name, front, sizeof front, &why);
-    if (station.file >= 0 && front[0] != '\0'
-        && strncmp(front, station.is_csv ? header : json_front, strlen(station.is_csv ? header : json_front)) != 0) {
+    if (station.file >= 0 && why_not(front) != NULL) {
         station.file = -1;
-        why = "what is there is no report of this program, and stays as it is";
+        why = why_not(front);
     }
     if (station.file < 0)
         return say_failed(name, " can't be the report", why);
@@ -148,6 +162,20 @@ void station_json(const char *path)
     json_hex("crc32", station.crc, 8);
 }
 
+void station_code(const char *name)
+{
+    station.code = name;
+}
+
+/* Adds the words, and in parentheses what is known of this board's end: the code, the place or the file. */
+static void put_words(struct line *line, int status, const char *words)
+{
+    char text[LINE_ROOM];
+    const char *seen = station.code != NULL && *station.code != '\0' ? station.code : status == STATUS_FILE ? say_reason() : advice_seen();
+    snprintf(text, sizeof text, seen != NULL ? "%s (%s)" : "%s", words, seen);
+    put_member(line, "words", text, false);
+}
+
 bool station_add(int status, const char *report, const char *words, const char *path, const struct found *info, double seconds)
 {
     struct line line = {.length = 0};
@@ -167,7 +195,7 @@ bool station_add(int status, const char *report, const char *words, const char *
     put_member(&line, "time", time, false);
     put_member(&line, "status", number, true);
     put_member(&line, "report", report, false);
-    put_member(&line, "words", words, false);
+    put_words(&line, status, words);
     put_member(&line, "image", station.has_image ? station.image : NULL, false);
     put_member(&line, "crc32", station.has_image ? crc : NULL, false);
     put_member(&line, "vendor", is_known ? ids[0] : NULL, false);

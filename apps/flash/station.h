@@ -26,8 +26,11 @@ void station_time(char text[32]);
 /* Prints these as members of a record in JSON. */
 void station_json(const char *path);
 
-/* Adds a line to the report: how a board ended. A path or a device that isn't known is NULL. Returns false, after printing why, if the line
-   can't be written. */
+/* Keeps the name of the status by which the board refused, or "", for its line in the report. */
+void station_code(const char *name);
+
+/* Adds a line to the report: how a board ended, with what was seen of it behind the words. A path or a device that isn't known is NULL.
+   Returns false, after printing why, if the line can't be written. */
 bool station_add(int status, const char *report, const char *words, const char *path, const struct found *info, double seconds);
 
 #endif

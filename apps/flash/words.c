@@ -22,7 +22,7 @@ bool words_refuse(const char *what, const char *word)
 /* --upload, --detach and --list each say what is to be done, in place of a download. */
 static bool is_job(struct words *words, enum job job)
 {
-    if (words->file != NULL || (words->job != JOB_DOWNLOAD && words->job != job))
+    if ((words->file != NULL && job != JOB_DEMO) || (words->job != JOB_DOWNLOAD && words->job != job))
         return words_refuse(words->job == JOB_DETACH || job == JOB_DETACH ? "--detach is all that is done, with no --upload and no --list"
                                                                           : "one --upload, or --list, says what is to be done",
                             "");
@@ -40,7 +40,7 @@ static bool is_upload(struct words *words, const char *out)
 /* -D FILE is FILE. */
 static bool is_download(struct words *words, const char *file)
 {
-    if (words->file != NULL || words->job != JOB_DOWNLOAD)
+    if (words->file != NULL || (words->job != JOB_DOWNLOAD && words->job != JOB_DEMO))
         return words_refuse("one -D, --upload, --detach or --list says what is to be done", "");
     words->file = file;
     return true;
@@ -129,6 +129,20 @@ struct plain {
     int count;
 };
 
+/* Refuses a second file, or a word behind what takes none. */
+static bool is_too_many(const struct words *words, const char *word)
+{
+    if (words->file == NULL || words->job == JOB_UPLOAD) {
+        advice_is("leave it out");
+        return words_refuse("a word too many", word);
+    }
+    fputs("dfu-flash: two files were given (", stderr);
+    say_text(stderr, "", words->file, ", ");
+    say_text(stderr, "", word, "), and dfu-flash takes one; a * may have stood for several\nSee dfu-flash --help.\n");
+    next_say("name one FILE");
+    return false;
+}
+
 /* Returns whether the words go together. */
 static bool is_whole(struct words *words, const struct plain *plain)
 {
@@ -136,13 +150,11 @@ static bool is_whole(struct words *words, const struct plain *plain)
     int at = 0;
     if ((words->job == JOB_DOWNLOAD || words->job == JOB_DEMO) && words->file == NULL && plain->count > 0)
         words->file = plain->texts[at++];
-    if (at < plain->count) {
-        advice_is("name one FILE; what a shell makes of * may be several");
-        return words_refuse("a word too many", plain->texts[at]);
-    }
+    if (at < plain->count)
+        return is_too_many(words, plain->texts[at]);
     if (words->job == JOB_DOWNLOAD && words->file == NULL)
         advice_is("name the file, or - for standard input; dfu-flash --list shows which devices are there");
-    if (words->job == JOB_DOWNLOAD && words->file == NULL && words->is_to_end && !words->stays)
+    if (words->job == JOB_DOWNLOAD && words->file == NULL && words->leaves)
         advice_is("name the file, or press the board's reset: no option only starts the application, as -s ADDRESS:leave of dfu-util does");
     if (words->job == JOB_DOWNLOAD && words->file == NULL)
         return words_refuse(words->patience == 0 ? "no FILE was given" : "no FILE was given; a number after --wait is its seconds", "");

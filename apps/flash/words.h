@@ -35,6 +35,7 @@ struct words {
     bool has_address;           /* --address was given: DfuSe */
     uint32_t address, length;   /* and --length, 0 if it wasn't; */
     bool is_to_end;             /* then an upload has all up to the end of the segment, as with -s */
+    bool leaves;                /* :leave was given with -s */
     bool stays;                 /* --no-leave was given */
     bool raw;                   /* --raw was given */
     bool all;                   /* --all was given, */

@@ -80,7 +80,7 @@ int work_print(const struct session *session, const struct words *words, const s
 {
     bool is_out = record_print(session, verdict, words->json);
     if (verdict->code != 0 && !words->json && !words->quiet)
-        fprintf(stderr, "dfu-flash: %s: %s\n", code_name(verdict->code), code_words(verdict->code));
+        fprintf(stderr, "dfu-flash: %s: %s\n", code_name(verdict->code), code_words(verdict->code, session->is_upload));
     if (!words->json)
         next_say(next_of_end(verdict->name));
     return is_out ? record_status(verdict->status) : STATUS_FILE;

@@ -1,6 +1,9 @@
 /* SPDX-License-Identifier: MIT OR Apache-2.0 */
 /* The kernel resets the port, and libusb reads the descriptors again. */
+#define _POSIX_C_SOURCE 200809L
 #include "../properties.h"
+
+#include <unistd.h>
 
 bool platform_resets(void)
 {
@@ -20,4 +23,9 @@ bool platform_tells_left(void)
 uint32_t platform_pull_ms(void)
 {
     return 120000;
+}
+
+bool platform_has_usb(void)
+{
+    return access("/dev/bus/usb", F_OK) == 0 || access("/sys/bus/usb", F_OK) == 0;
 }

@@ -21,3 +21,8 @@ uint32_t platform_pull_ms(void)
 {
     return 120000;
 }
+
+bool platform_has_usb(void)
+{
+    return true;
+}

@@ -56,14 +56,21 @@ for pair in 'empty:1' 'damaged.dfu:1' 'nowhere:3' 'looks.hex:1'; do
 done
 for words in '--all new.dfu' '--list' '--upload up' '--detach' '--device 1209:0001 new' '--serial F1' '--path 1-1' '--wait' '--timeout 5' \
     '--verbose' '--verbose=trace' '--limits 1 1' '--dry-run' '--address 0x08000000 new' '--force' '--no-verify new' '--raw new' \
-    '--log .' 'new.dfu new.dfu' '-D new.dfu' '--alt 0' '--transfer-size 8'; do
+    '--log .' 'new.dfu new.dfu' '-D new.dfu new.dfu' '-U new.dfu' '--alt 0' '--transfer-size 8'; do
     # shellcheck disable=SC2086
     row 2 - '' '' --demo $words
 done
-for words in 'new.dfu --demo=5' '--list --demo' '-D new.dfu --demo'; do
+for words in 'new.dfu --demo=5' '--list --demo' '-U new.dfu --demo'; do
     # shellcheck disable=SC2086
     row 2 - '' '' $words
 done
+# -D is dfu-util's word for FILE, before --demo or behind it.
+demo_row 0 -D new.dfu
+code=0
+./dfu-flash -D new.dfu --demo > out 2> err || code=$?
+expect "-D FILE --demo: $code" test "$code-$(grep -c verified out)" = 0-3
+row 2 - '' '' --demo --stamp serials --stamp-at 16:8
+says '--demo goes with a FILE, --json and --quiet alone'
 demo --json > /dev/null
 code=0
 ./dfu-flash --demo > /dev/full 2> err || code=$?

@@ -123,6 +123,17 @@ packed_row ElementPastTheTarget -p 121=05 0:08000000=few
 packed_row EmptyElement -p 121=00 0:08000000=few
 packed_row AddressPastTheEnd 0:fffffffd=few
 packed_row NoPrefix -p 0=64 0:08000000=few
+# With an address too: its suffix alone is DfuSe's, so that --address is no mistake.
+refused 'NoPrefix: ' '' --device 1209:0001 --address 0x08000000 bad.dfu
+is 'the step' grep -q '^next: get the file anew; or take the suffix off a raw image by `dfu-suffix -D`, and say where by --address$' err
+# The check sum of a file in its record: without its own sum, with which each file has the same.
+for element in few byte; do
+    ./dfuse_pack "0:08000000=$element" > sum.dfu
+    sum=$(head -c -4 sum.dfu | gzip -c | tail -c 8 | od -An -tx4 -N4 | tr -d ' ')
+    dfuse_row 0 - '{"status":0,"report":"verified",' '' --json --report sums.csv sum.dfu
+    is "$element: the check sum" grep -q "\"crc32\":\"$sum\"" out
+    is "$element: that of the report" grep -q "\"sum.dfu\",\"$sum\"," sums.csv
+done
 # bcdDFU is that of DFU 1.1; then there is no signature; and bLength is 15.
 packed_row NotDfuSeFile -p 12f=00 -p 130=01 -c 0:08000000=few
 packed_row NoSignature -p 131=00 0:08000000=few

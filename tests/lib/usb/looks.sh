@@ -166,13 +166,13 @@ done
 # An image in a DFU file is sent, whatever it looks like; text of records gets a warning.
 for it in it.ihex it.srec it.uf2 it.elf marked.HEX notes; do
     case $it in
-    it.ihex | marked.HEX) format=ihex warnings=1 ;;
-    it.srec) format=srec warnings=1 ;;
-    *) format='' warnings=0 ;;
+    it.ihex | marked.HEX) name='Intel HEX' format=ihex warnings=1 ;;
+    it.srec) name='Motorola S-records' format=srec warnings=1 ;;
+    *) name='' format='' warnings=0 ;;
     esac
     "$dfu" add "$it" it.dfu > /dev/null
     row 0 "$it" 'verified: ' USB_CAPACITY=1000 it.dfu
-    found=$(grep -c "the image in the file looks like text of $format: \`dfu add --format $format\`" err) || :
+    found=$(grep -c "the image in the file looks like $name: \`dfu add --format $format\`" err) || :
     expect "$it: a warning" test "$found" -eq "$warnings"
 done
 # Who follows a hint sends the image, and not its text.

@@ -22,6 +22,13 @@ steps() {
     expect "--quiet $*" test "$(grep -c '^next: ' err)" -eq 0
 }
 plug='plug it in with a cable that has data lines, bring it to DFU mode by its button, and run it again; --wait waits for it'
+# Without any USB, as in a container, there is nothing to plug it in. Builds without --all are of the folders unix and windows, which don't
+# look.
+if [ -z "${NO_ALL-}" ] && [ "$(uname)" = Linux ] && [ ! -e /dev/bus/usb ] && [ ! -e /sys/bus/usb ]; then
+    plug='run it on the computer that the device is plugged into, or give the container its /dev/bus/usb and /sys/bus/usb'
+    row 0 - '' USB_DEVICES=0 --list
+    says 'dfu-flash: this system has no USB: neither /dev/bus/usb nor /sys/bus/usb is there'
+fi
 steps 4 USB_DEVICES=0 "$plug" new.dfu
 row 4 - '' USB_DEVICES=0 --wait=1 new.dfu
 says 'dfu-flash: none came within 1 s'
@@ -30,6 +37,10 @@ row 0 - '' USB_DEVICES=0 --list
 next "$plug"
 steps 4 '' 'choose one of those that are there, or plug in the one that is meant' other.dfu
 steps 12 USB_DEVICES=2 'choose one of those that are listed, by --path, --serial, --interface or --alt; --all takes each' new.dfu
+chosen='choose one of those that are listed, by --path, --serial, --interface or --alt'
+steps 12 USB_DEVICES=2 "$chosen" --upload never
+steps 12 USB_ALTERNATES=3 "$chosen" --path 1-1 new.dfu
+steps 12 USB_DEVICES=2 "$chosen" --detach
 steps 5 USB_DENIED=3 \
     'get the right to open it (see ACCESS in man dfu-flash), plug it in again, or end the program that has it; run it again' new.dfu
 steps 5 USB_DENIED=12 \
@@ -46,6 +57,14 @@ for reset in '' --no-verify; do
 done
 steps 8 USB_ATTRIBUTES=01 'look whether it runs the new image; some boards give no better report (see REPORTS in man dfu-flash)' new.dfu
 steps 6 USB_CAPACITY=13 'go by the code (see CODES in man dfu-flash), and check that the file is for this board' new.dfu
+# A code of an upload isn't about a file.
+failing='USB_DEVICE=dfuse USB_FAILS=0 USB_CODE=1'
+steps 6 "$failing" 'go by the code (see CODES in man dfu-flash), and ask the maker whether the device gives its image' \
+    --address 0x08000000 --length 4 --upload never
+row 6 - 'refused errTARGET: ' "$failing" --address 0x08000000 --length 4 --upload never
+says 'dfu-flash: errTARGET: the device gives no image: '
+row 6 - 'refused errTARGET: ' "$failing" --address 0x08000000 new
+says "dfu-flash: errTARGET: the file isn't for this device, as the device says"
 fate='leave 3'
 row 7 - 'restarts-spent: ' '' --limits 1000 0 new.dfu
 next 'check power and cable, and run it again'
@@ -74,11 +93,14 @@ row 1 old 'NoSignature: ' '' "$name"
 next 'run it again with --device 1209:0001 before the other words'
 row 1 old 'TooShort: ' '' short
 next 'run: dfu-flash --device 1209:0001 short'
-steps 1 USB_DEVICE=dfuse 'run: dfu-flash --address 0x08000000 new' new
-steps 1 USB_DEVICE=dfuse 'run: dfu-flash --address 0x08000000 new.dfu' new.dfu
+# An address is right only for an image that is linked for it.
+linked="where this board's memory begins, run: dfu-flash"
+steps 1 USB_DEVICE=dfuse "if the image is linked for 0x08000000, $linked --address 0x08000000 new" new
+steps 1 USB_DEVICE=dfuse "if the image is linked for 0x08000000, $linked --address 0x08000000 new.dfu" new.dfu
 steps 1 USB_DEVICE=dfuse 'run: dfu-flash --address 0x08000000 --length 16384 --upload up' --upload up
 steps 1 'USB_DEVICE=dfuse USB_MAPS=@F/0x08000000/1*1Ka,0x1Kg USB_PAGES=@F/0x08000000/2*1Kg' "$named" new
-steps 1 'USB_DEVICE=dfuse USB_MAPS=@F/0x08000000/4*1Ka,4*1Kg USB_PAGES=@F/0x08000000/8*1Kg' 'run: dfu-flash --address 0x08001000 new' new
+steps 1 'USB_DEVICE=dfuse USB_MAPS=@F/0x08000000/4*1Ka,4*1Kg USB_PAGES=@F/0x08000000/8*1Kg' \
+    "if the image is linked for 0x08001000, $linked --address 0x08001000 new" new
 
 # Where something is wrong.
 steps 1 'USB_DEVICE=uboot USB_SAID=0' 'run: dfu-flash --transfer-size 8 new.dfu' new.dfu
@@ -109,14 +131,8 @@ row 0 - 'verified: ' USB_DEVICE=dfuse --address 0x08000000 --raw --device 1209:0
 for part in 'erasing: 100%, 3000' 'downloading: 90%, 2968' 'comparing: 100%, 3000'; do
     says "$part of 3000 bytes"
 done
-memory='use the image for this memory, or another address or setting; see --list'
-ends='is past the end of the memory at 08003fff; the image is to'
-row 1 - 'OutsideTheMap: ' USB_DEVICE=dfuse --address 0x08003fff new
-next "the byte at 08004000 $ends 08004018: $memory"
-row 1 - 'OutsideTheMap: ' USB_DEVICE=dfuse --address 0x08003fff --length 2 --upload never
-next "the byte at 08004000 $ends 08004000: $memory"
-row 1 - 'OutsideTheMap: ' USB_DEVICE=dfuse --address 0x07000000 new
-next "the map has no byte at 07000000; the image is from 07000000 to 07000019: $memory"
+# shellcheck source=tests/lib/usb/next_map.sh
+. "$top/tests/lib/usb/next_map.sh"
 again='run it again; if it stays so: see DEVICES in man dfu-flash, or with DfuSe suspect map or memory'
 row 9 - 'different: ' 'USB_DEVICE=dfuse USB_LIES=08000002' --address 0x08000000 new
 next "at 08000002 is ff, and 6e in the file: $again"
@@ -174,15 +190,21 @@ typed --alternate 1 new.dfu -- 'did you mean --alt?'
 typed -list -- 'did you mean --list?'
 typed new.dfu --address -- 'give it its value, as --help has it'
 typed --list=5 -- 'leave out what is behind its ='
-typed new.dfu any.dfu -- 'name one FILE; what a shell makes of * may be several'
+typed new.dfu any.dfu -- 'name one FILE'
+says 'dfu-flash: two files were given (new.dfu, any.dfu), and dfu-flash takes one; a * may have stood for several'
+typed --demo new.dfu any.dfu -- 'name one FILE'
+typed --list new.dfu -- 'leave it out'
+says 'dfu-flash: a word too many: new.dfu'
 typed --json -- 'name the file, or - for standard input; dfu-flash --list shows which devices are there'
 for words in --xylophone '--=5' "--$(head -c 300 /dev/zero | tr '\0' v)" '--limits 1 new.dfu'; do
     # shellcheck disable=SC2086
     row 2 - '' '' $words
     expect "$words: no guess" test "$(grep -c '^next: ' err)" -eq 0
 done
-typed -a 0 -s 0x08000000:leave -- \
-    "name the file, or press the board's reset: no option only starts the application, as -s ADDRESS:leave of dfu-util does"
+for leave in 0x08000000:leave :leave; do
+    typed -a 0 -s "$leave" -- \
+        "name the file, or press the board's reset: no option only starts the application, as -s ADDRESS:leave of dfu-util does"
+done
 row 7 - 'gave-up: ' '' -t 128 -D hundred.dfu
 next 'run it again without --transfer-size: its blocks are larger than those that the device takes'
 row 3 - '' '' version
@@ -195,7 +217,7 @@ grep -h 'see [A-Z][A-Z]' "$top/apps/flash/next.c" "$top/apps/flash/advise.c" > s
 expect 'sections are named with their page' test "$(grep -vc 'in man dfu-flash' sections)" -eq 0
 row 0 - '' '' --help
 expect 'two examples' test "$(sed -n 3,4p out | grep -c 'dfu-flash [^O]')" -eq 2
-expect 'the manual' grep -q 'man dfu-flash$' out
+expect 'the manual' grep -q 'man dfu-flash, or uninstalled man share/man/dfu-flash\.1$' out
 
 # The tables, as `NAME STEP`: those of apps/flash/next.c, and those of the manual's NEXT STEPS and REFUSALS.
 sed -n 's/^#define \([A-Z_]*\) "\(.*\)"$/\1\t\2/p' "$top/apps/flash/next.c" > texts

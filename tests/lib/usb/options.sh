@@ -64,7 +64,7 @@ expect 'a dry run: nothing is sent' is_silent
 row 0 old '{"status":0,"report":"dry-run","words":"bring it to DFU mode, and ' 'USB_START=app USB_DESCRIPTOR=0' --json --dry-run new.dfu
 row 12 old '{"status":12,"report":"several","words":"more than one device, interface or setting; choose by --device, ' USB_DEVICES=2 \
     --json new.dfu
-row 4 - '{"status":4,"report":"none","words":"there is no such device","next":"plug it in ' USB_DEVICES=0 --json new.dfu
+row 4 - '{"status":4,"report":"none","words":"there is no such device","next":"' USB_DEVICES=0 --json new.dfu
 if command -v python3 > /dev/null; then
     flash 'USB_ALTERNATES=3 USB_DENIED=3' --list --json
     expect 'records' python3 -c 'import json
@@ -110,7 +110,7 @@ expect 'a name is escaped' grep -qF "$(printf 'dfu-flash: a\\x1b[2J\\xc2\\x9b\30
 row 3 old '' '' --upload "nowhere/$name"
 expect 'a name is escaped' grep -qF "$(printf 'nowhere/a\\x1b[2J\\xc2\\x9b\303\251\\xffb can'"'"'t be made: ')" err
 row 2 - '' '' new.dfu "$name"
-expect 'a word is escaped' grep -qF "$(printf 'a word too many: a\\x1b[2J')" err
+expect 'a word is escaped' grep -qF "$(printf '(new.dfu, a\\x1b[2J')" err
 
 # 'Coming from dfu-util': each of its options has a line in the manual, and stands in the help.
 sed -n '/^\.SH COMING FROM DFU/,/^\.SH LIMITS/p' "$top/share/man/dfu-flash.1" > section

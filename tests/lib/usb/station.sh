@@ -39,6 +39,25 @@ fi
 printf '{"time":"broken off' > torn.json
 row 0 new 'verified: ' '' --report torn.json new.dfu
 expect 'a line that was broken off is ended' test "$(wc -l < torn.json)-$(tail -n 1 torn.json | cut -c 1-9)" = '2-{"time":"'
+# With --stamp a report in CSV has a column more, so that each kind is a file of its own.
+printf 'A\n' > columns
+row 3 - '' '' --stamp columns --stamp-at 16:8 --report report.csv new.dfu
+says "report.csv can't be the report: it is a report without the column \`stamp\`, and --stamp adds one: name another file"
+printf '%s,stamp\n' "$header" > stamped.csv
+row 3 - '' '' --report stamped.csv new.dfu
+says "stamped.csv can't be the report: it is a report with the column \`stamp\`, which goes with --stamp: name another file"
+expect 'nothing is added' test "$(wc -l < stamped.csv)" -eq 1
+
+# What is known of an end stands behind its words: the code, the place, the file.
+row 6 old 'refused errADDRESS: ' USB_CAPACITY=13 --report known.csv new.dfu
+expect 'the code' grep -q ',6,"refused","[^"]* (errADDRESS)",' known.csv
+row 9 - 'different: ' 'USB_DEVICE=dfuse USB_LIES=08000002' --address 0x08000000 --report known.csv new.dfu
+expect 'the place' grep -q ',9,"different","[^"]* (at 08000002 is ff, and 6e in the file)",' known.csv
+row 3 - '' '' --report known.csv nowhere.dfu
+expect 'the file' grep -q ",3,\"file\",\"[^\"]* (nowhere.dfu can't be read: No such file or directory)\"," known.csv
+row 1 - 'BadCrc: ' '' --report known.csv damaged.dfu
+expect 'both sums' grep -q ',1,"BadCrc","[^"]* (it says the check sum [0-9a-f]*, and its bytes have [0-9a-f]*)",' known.csv
+
 # What is no report stays as it is, and nothing is sent.
 printf 'mine\n' > mine.csv
 cp mine.csv mine.json

@@ -39,3 +39,16 @@ board 1-1 'USB_FATE=leave 5' USB_AWAY=220
 all --retry 1 new.dfu
 expect "one of several is tried again: $(cat out err)" test "$code" -eq 0
 expect 'it says so' grep -q '^1-1: dfu-flash: gone: .*; it is tried again, 1 of 1$' err
+# A session that ends before a board is begun took no time.
+no_boards
+board 1-1
+# early WORDS..: the record of an end before any board.
+early() {
+    rm -f early.csv
+    all --report early.csv --json "$@"
+    expect "$*: $(cat early.csv)" test "$(tail -n +2 early.csv | cut -d '"' -f 2- | sed 's/.*,//' | tr '\n' ' ')" = '0.000 '
+}
+early damaged.dfu
+early nowhere.dfu
+early any.dfu
+early other.dfu

@@ -30,3 +30,8 @@ uint32_t platform_pull_ms(void)
 {
     return 250;
 }
+
+bool platform_has_usb(void)
+{
+    return true;
+}
