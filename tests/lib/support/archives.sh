@@ -28,6 +28,7 @@ taken() {
 }
 # needs_only LIBRARY PATTERN: all that it wants of others.
 needs_only() {
-    "${compiler%gcc}nm" -u "$1" | awk '$1 == "U" { print $2 }' | sort -u > "$work/undefined"
-    [ -s "$work/undefined" ] && ! grep -vxE "$2" "$work/undefined"
+    "${compiler%gcc}nm" -u "$1" > "$work/wanted" || return 1
+    awk '$1 == "U" { print $2 }' "$work/wanted" | sort -u > "$work/undefined"
+    ! grep -vxE "$2" "$work/undefined"
 }
