@@ -23,7 +23,7 @@
  *         if (dfu_device_image(&dfu, &place) == 0 && place.length != 0) start(flash + place.at);
  *     }
  *
- * Compile it by `cc -std=c11 -Iinclude yours.c dist/dfu_device.c`. An image is the bytes that the host sends, of any form: hosts leave the
+ * Compile it by `cc -std=c11 -I include yours.c dfu_device.c`. An image is the bytes that the host sends, of any form: hosts leave the
  * suffix of a DFU file out, so the first image has none either. The flash is mapped for reading. It has two slots, each for one image: a
  * download goes to the spare slot, and becomes active in one step at its end, so that whenever power is lost the old image or the whole new
  * one is active. The calls below stand in the order in which a program meets them. RULES, at the end of this file, says what the program
