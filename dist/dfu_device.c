@@ -89,6 +89,7 @@ _Static_assert(_Alignof(struct dfu_place) == 4, "another layout");
 struct i64_i8 { uint64_t a; uint8_t b; };
 struct i8_i64 { uint8_t a; uint64_t b; };
 
+static inline size_t capped_size(uint64_t x) { return (size_t)(x < (size_t)-1 ? x : (size_t)-1); }
 static inline uint16_t load16(const unsigned char *p) { uint16_t x = 0; memcpy(&x, ALIGNED(p, 2), 2); return x; }
 static inline uint32_t load32(const unsigned char *p) { uint32_t x = 0; memcpy(&x, ALIGNED(p, 4), 4); return x; }
 static inline uint32_t load32a2(const unsigned char *p) { uint32_t x = 0; memcpy(&x, ALIGNED(p, 2), 4); return x; }
@@ -114,6 +115,11 @@ static inline size_t umin_size(size_t x, size_t y) { return x < y ? x : y; }
 static inline uint32_t usub_sat32(uint32_t x, uint32_t y) { return x < y ? 0 : (uint32_t)(x - y); }
 static inline uint64_t usub_sat64(uint64_t x, uint64_t y) { return x < y ? 0 : (uint64_t)(x - y); }
 static inline uint64_t wide(size_t x) { return x; }
+#ifdef DFU_READ
+/* The program's, which puts so many bytes of flash from there on into memory. Nothing else here looks at flash. */
+void DFU_READ(const unsigned char *from, unsigned char *to, size_t count);
+
+#endif
 
 static _Alignas(4) const uint8_t static_0[64] = {
     0, 0, 0, 0, 0x64, 0x10, 0xb7, 0x1d, 0xc8, 0x20, 0x6e, 0x3b, 0xac, 0x30, 0xd9, 0x26, 0x90, 0x41, 0xdc, 0x76,
@@ -165,7 +171,16 @@ static void dfu_asks_noted_Noted_find(unsigned char *a0, unsigned char *a1, size
 static void dfu_slots_places_check(unsigned char *a0, unsigned char *a1);
 static uint8_t dfu_slots_layout_is_sized(unsigned char *a0);
 static uint8_t dfu_slots_read_counts(unsigned char *a0, uint32_t a1);
-static void dfu_suffix_crc_Crc_update_small(unsigned char *a0, unsigned char *a1, uint64_t a2);
+#ifdef DFU_READ
+static uint8_t dfu_slots_read_byte_at(unsigned char *a0, uint32_t a1);
+static void dfu_slots_read_read_data(unsigned char *a0, uint32_t a1, uint32_t a2, unsigned char *a3, size_t a4);
+#endif
+static void dfu_suffix_crc_Crc_update_small(unsigned char *a0, unsigned char *a1, size_t a2);
+#ifdef DFU_READ
+static uint8_t dfu_slots_places_is_newest(unsigned char *a0, uint32_t a1, uint32_t a2, uint8_t a3, uint8_t a4);
+static uint8_t dfu_slots_read_generation(unsigned char *a0, uint32_t a1);
+static void dfu_slots_read_header_of(unsigned char *a0, unsigned char *a1, uint32_t a2);
+#endif
 static void dfu_core_mode_idle_mode(unsigned char *a0, unsigned char *a1, unsigned char *a2);
 static void dfu_core_mode_mode_in(unsigned char *a0, unsigned char *a1, unsigned char *a2);
 static void dfu_core_mode_set_mode(unsigned char *a0, unsigned char *a1);
@@ -182,23 +197,32 @@ static uint8_t dfu_asks_format_piece_open_piece(size_t a0, uint32_t a1, unsigned
 static uint8_t dfu_asks_cut_stands(unsigned char *a0, size_t a1, unsigned char *a2);
 static void dfu_asks_cut_runs_of(unsigned char *a0, unsigned char *a1);
 static uint8_t dfu_asks_cut_are_same(unsigned char *a0, size_t a1, unsigned char *a2);
+#ifdef DFU_READ
+static uint8_t dfu_slots_read_flash_byte_at(unsigned char *a0, size_t a2);
+#endif
 static uint8_t dfu_asks_next_and_took_is_sound(uint32_t a0, unsigned char *a1);
 static void dfu_asks_cut_fill(unsigned char *a0, unsigned char *a1);
 static void dfu_core_keeping_found(unsigned char *a0, unsigned char *a1, size_t a2, unsigned char *a3);
 static uint8_t dfu_asks_next_piece_next_piece(unsigned char *a0, unsigned char *a1);
-static struct i64_i8 dfu_asks_asking_Asking_look_at(unsigned char *a0, unsigned char *a1, unsigned char *a2, size_t a3, unsigned char *a4, uint64_t a5, unsigned char *a6, size_t a7);
+static struct i64_i8 dfu_asks_asking_Asking_look_at(unsigned char *a0, unsigned char *a1, unsigned char *a2, size_t a3, unsigned char *a4, size_t a5, unsigned char *a6, size_t a7);
 static struct i8_i64 dfu_asks_asking_Asking_fail(unsigned char *a0, uint8_t a1, uint8_t a2, uint16_t a3, unsigned char *a4, size_t a5, unsigned char *a6);
 static void dfu_asks_finish_note(unsigned char *a0, unsigned char *a1, unsigned char *a2, size_t a3, uint8_t a4, uint32_t a5);
 static struct i8_i64 dfu_asks_asking_Asking_give(unsigned char *a0, uint8_t a1, uint16_t a2, unsigned char *a3);
-static void dfu_asks_asking_Asking_advance(unsigned char *a0, unsigned char *a1, unsigned char *a2, size_t a3, unsigned char *a4, uint64_t a5, unsigned char *a6, size_t a7, unsigned char *a8);
+static void dfu_asks_asking_Asking_advance(unsigned char *a0, unsigned char *a1, unsigned char *a2, size_t a3, unsigned char *a4, size_t a5, unsigned char *a6, size_t a7, unsigned char *a8);
 static void dfu_core_keeping_keep(unsigned char *a0, unsigned char *a1);
 static uint8_t dfu_asks_closes_mode_closes(unsigned char *a0, unsigned char *a1, unsigned char *a2);
 static void dfu_wire_setups_Setup_request(unsigned char *a0, unsigned char *a1);
 static void dfu_asks_noted_look(unsigned char *a0, unsigned char *a1, unsigned char *a2);
 static void dfu_asks_asking_Asking_see(unsigned char *a0, unsigned char *a1, size_t a2, unsigned char *a3, size_t a4);
-static void dfu_asks_asking_Asking_carry_out(unsigned char *a0, unsigned char *a1, unsigned char *a2, uint8_t a3, uint16_t a4, unsigned char *a5, size_t a6, unsigned char *a7, size_t a8, unsigned char *a9, uint64_t a10, unsigned char *a11, unsigned char *a12, unsigned char *a13, size_t a14);
+static void dfu_asks_asking_Asking_carry_out(unsigned char *a0, unsigned char *a1, unsigned char *a2, uint8_t a3, uint16_t a4, unsigned char *a5, size_t a6, unsigned char *a7, size_t a8, unsigned char *a9, size_t a10, unsigned char *a11, unsigned char *a12, unsigned char *a13, size_t a14);
+#ifdef DFU_READ
+static void dfu_asks_asking_Asking_block_job(unsigned char *a0, unsigned char *a1, uint32_t a2, unsigned char *a3, unsigned char *a4);
+#endif
 static void dfu_device_table_decide(unsigned char *a0, unsigned char *a1, unsigned char *a2, unsigned char *a3);
 static uint32_t dfu_device_c_power_start(unsigned char *a0, unsigned char *a1, unsigned char *a2, size_t a3, uint32_t a4);
+#ifdef DFU_READ
+static uint8_t dfu_asks_blank_is_erased(unsigned char *a0, size_t a2, uint64_t a3);
+#endif
 
 /* dfu_core::mode::has_mode: crates/dfu_core/src/mode.rt */
 static uint8_t dfu_core_mode_has_mode(unsigned char *a0) {
@@ -323,7 +347,7 @@ static void dfu_core_config_settings_of(unsigned char *a0, unsigned char *a1) {
         uint32_t switch_load = (uint32_t)switch_table_dfu_slots_layout_fill_size[(size_t)r3_0_0];
         if (switch_load == r11) {
             r54 = load32(a1 + 32);
-            if (!((r54 < 0x20001U) & ((r54 & 255) == 0))) {
+            if (!((r54 < 0x40001U) & ((r54 & 255) == 0))) {
                 memset(a0, 0, 52);
                 return;
             }
@@ -425,6 +449,7 @@ static void dfu_core_config_settings_of(unsigned char *a0, unsigned char *a1) {
     return;
 }
 
+#ifndef DFU_READ
 /* dfu_asks::noted::Noted::find */
 static void dfu_asks_noted_Noted_find(unsigned char *a0, unsigned char *a1, size_t a2, uint8_t a3, uint32_t a4) {
     _Alignas(8) unsigned char r5[24];
@@ -458,11 +483,46 @@ static void dfu_asks_noted_Noted_find(unsigned char *a0, unsigned char *a1, size
     memcpy(a0 + 2, r14_6, 16);
     return;
 }
+#else
+/* dfu_asks::noted::Noted::find */
+static void dfu_asks_noted_Noted_find(unsigned char *a0, unsigned char *a1, size_t a2, uint8_t a3, uint32_t a4) {
+    _Alignas(8) unsigned char r5[24];
+    _Alignas(4) unsigned char r14_6[16];
+    _Alignas(4) unsigned char r12[12];
+    uint8_t r14_0_0, r14_4_0;
+    memset(r14_6, 0, 16);
+    if (wide(a2) >= 0x100000000ULL) {
+        memset(a0, 0, 18);
+        return;
+    }
+    store_size(r5, (size_t)(uintptr_t)a1);
+    store_size(r5 + 8, a2);
+    r5[16] = a3;
+    store32(r5 + 20, a4);
+    dfu_slots_places_check(r12, r5);
+    uint8_t r30 = *r12;
+    if (r30 != 0) {
+        r14_0_0 = 0;
+        r14_4_0 = 0;
+    }
+    else {
+        uint32_t r8_0_0_copyload = load32(r12 + 4);
+        dfu_slots_read_header_of(r14_6, r5, r8_0_0_copyload);
+        r14_0_0 = 1;
+        r14_4_0 = r8_0_0_copyload != 0;
+    }
+    *a0 = r14_0_0;
+    a0[1] = r14_4_0;
+    memcpy(a0 + 2, r14_6, 16);
+    return;
+}
+#endif
 
+#ifndef DFU_READ
 /* dfu_slots::places::check::<#ab3713f43cb9a70d>: crates/dfu_slots/src/places.rt */
 static void dfu_slots_places_check(unsigned char *a0, unsigned char *a1) {
     uint8_t r5, r11;
-    unsigned char *r2, *r25;
+    unsigned char *r2, *r20;
     uint32_t r81, r72, r72_2, r72_3, a0_a1_2, v5, v6;
     uint8_t r1_0_0_copyload_2, r1_0_0_copyload_3, r16, r3_5_0_copyload, v50;
     uint8_t r12 = dfu_slots_layout_is_sized(a1);
@@ -497,13 +557,13 @@ static void dfu_slots_places_check(unsigned char *a0, unsigned char *a1) {
         uint32_t r1_0_0_copyload = load32(a1 + 20);
         uint32_t switch_load = (uint32_t)switch_table_dfu_asks_next_piece_numbered_piece[(size_t)r0_0_0_copyload];
         uint32_t a0_a1 = umax32(r1_0_0_copyload, switch_load);
-        size_t r5_0_0_copyload = load_size(a1);
-        unsigned char *r23 = (unsigned char *)(uintptr_t)r5_0_0_copyload;
-        r1_0_0_copyload_2 = r23[(size_t)a0_a1];
-        r1_0_0_copyload_3 = r23[(size_t)(a0_a1 + r81)];
+        size_t r3_0_0_copyload = load_size(a1);
+        unsigned char *r18 = (unsigned char *)(uintptr_t)r3_0_0_copyload;
+        r1_0_0_copyload_2 = r18[(size_t)a0_a1];
+        r1_0_0_copyload_3 = r18[(size_t)(a0_a1 + r81)];
         uint8_t r19 = r1_0_0_copyload_2 == (uint8_t)(r1_0_0_copyload_3 + 1);
         r72 = (uint32_t)(r19 ? r81 : 0);
-        uint8_t r1_0_0_copyload_4 = r23[(size_t)(a0_a1 + r72)];
+        uint8_t r1_0_0_copyload_4 = r18[(size_t)(a0_a1 + r72)];
         r16 = (uint8_t)(r1_0_0_copyload_4 + 1);
         if ((r81 == 0) | r19) {
             if (r1_0_0_copyload_2 != r16) goto then_7;
@@ -520,20 +580,20 @@ static void dfu_slots_places_check(unsigned char *a0, unsigned char *a1) {
     uint32_t r1_0_0_copyload_5 = load32(a1 + 20);
     uint32_t switch_load_2 = (uint32_t)switch_table_dfu_asks_next_piece_numbered_piece[(size_t)r0_0_0_copyload_2];
     a0_a1_2 = umax32(r1_0_0_copyload_5, switch_load_2);
-    size_t r5_0_0_copyload_2 = load_size(a1);
-    r25 = (unsigned char *)(uintptr_t)r5_0_0_copyload_2 + (size_t)(a0_a1_2 + r72_3);
-    r3_5_0_copyload = r25[1];
+    size_t r3_0_0_copyload_2 = load_size(a1);
+    r20 = (unsigned char *)(uintptr_t)r3_0_0_copyload_2 + (size_t)(a0_a1_2 + r72_3);
+    r3_5_0_copyload = r20[1];
     if (r3_5_0_copyload == 2) {
         v50 = 0;
         v5 = r72_2;
         v6 = r72_3;
     }
     else {
-        uint32_t r3_10_0_copyload = load32u(r25 + 12);
-        uint32_t r3_9_0_copyload = load32u(r25 + 8);
-        uint32_t r3_8_0_copyload = load32u(r25 + 4);
-        uint8_t r3_7_0_copyload = r25[3];
-        uint8_t r3_6_0_copyload = r25[2];
+        uint32_t r3_10_0_copyload = load32u(r20 + 12);
+        uint32_t r3_9_0_copyload = load32u(r20 + 8);
+        uint32_t r3_8_0_copyload = load32u(r20 + 4);
+        uint8_t r3_7_0_copyload = r20[3];
+        uint8_t r3_6_0_copyload = r20[2];
         if (((((r3_5_0_copyload == 1) & (r3_8_0_copyload <= (r81 - (a0_a1_2 << 1)))) ? (r3_6_0_copyload == 0) : 0) ? (r3_7_0_copyload == 0) : 0) ? ((r3_10_0_copyload | r3_9_0_copyload) == 0) : 0) {
             v50 = 0;
             v5 = r72_2;
@@ -553,6 +613,80 @@ then_7:
     *a0 = 1;
     return;
 }
+#else
+/* dfu_slots::places::check::<#ab3713f43cb9a70d>: crates/dfu_slots/src/places.rt */
+static void dfu_slots_places_check(unsigned char *a0, unsigned char *a1) {
+    _Alignas(1) unsigned char r3_4[16];
+    uint8_t r5, r11;
+    unsigned char *r2;
+    uint32_t r72_2, r72_3, r1_9_0_copyload, v4, v5;
+    uint8_t r1_2_0_copyload, v50;
+    uint8_t r12 = dfu_slots_layout_is_sized(a1);
+    if (!r12) {
+        *a0 = 1;
+        return;
+    }
+    r5 = dfu_slots_read_counts(a1, 0);
+    r2 = a1 + 8;
+    size_t r3 = load_size(r2);
+    r11 = dfu_slots_read_counts(a1, (uint32_t)r3 >> 1);
+    if (!(r5 | r11)) {
+        *a0 = 1;
+        return;
+    }
+    size_t r3_2 = load_size(r2);
+    uint8_t r15 = dfu_slots_places_is_newest(a1, 0, (uint32_t)r3_2 >> 1, r5, r11);
+    size_t r3_3 = load_size(r2);
+    uint32_t r72 = (uint32_t)r3_3 >> 1;
+    r72_2 = (uint32_t)(r15 ? 0 : r72);
+    r72_3 = (uint32_t)(r15 ? r72 : 0);
+    if (r72_2 == 0) {
+        uint8_t r24 = dfu_slots_places_is_newest(a1, 0, r72_3, r5, r11);
+        if (!r24) goto then_7;
+    }
+    else {
+        uint8_t r33 = dfu_slots_places_is_newest(a1, r72_2, r72_3, r11, r5);
+        if (!r33) goto then_7;
+    }
+    dfu_slots_read_header_of(r3_4, a1, r72_2);
+    r1_2_0_copyload = r3_4[1];
+    r1_9_0_copyload = load32u(r3_4 + 12);
+    if (r1_2_0_copyload == 2) {
+        v50 = 0;
+        v4 = r72_3;
+        v5 = r72_2;
+    }
+    else {
+        uint32_t r1_6_0_copyload = load32u(r3_4 + 4);
+        uint32_t r1_8_0_copyload = load32u(r3_4 + 8);
+        uint8_t r1_5_0_copyload = r3_4[3];
+        uint8_t r1_4_0_copyload = r3_4[2];
+        size_t r3_5 = load_size(r2);
+        uint8_t r0_0_0_copyload = a1[16];
+        uint32_t r1_0_0_copyload = load32(a1 + 20);
+        uint32_t switch_load = (uint32_t)switch_table_dfu_asks_next_piece_numbered_piece[(size_t)r0_0_0_copyload];
+        if (((((r1_2_0_copyload == 1) & (r1_6_0_copyload <= (((uint32_t)r3_5 >> 1) - (umax32(r1_0_0_copyload, switch_load) << 1)))) ? (r1_4_0_copyload == 0) : 0) ? (r1_5_0_copyload == 0) : 0) ? (r1_8_0_copyload == 0) : 0) {
+            if (r1_9_0_copyload == 0) {
+                v50 = 0;
+                v4 = r72_3;
+                v5 = r72_2;
+                goto v3;
+            }
+        }
+        v50 = 1;
+        v4 = 0;
+        v5 = 0;
+    }
+v3:
+    *a0 = v50;
+    store32(a0 + 4, v5);
+    store32(a0 + 8, v4);
+    return;
+then_7:
+    *a0 = 1;
+    return;
+}
+#endif
 
 /* dfu_slots::layout::is_sized::<#ab3713f43cb9a70d>: crates/dfu_slots/src/layout.rt */
 static uint8_t dfu_slots_layout_is_sized(unsigned char *a0) {
@@ -560,7 +694,7 @@ static uint8_t dfu_slots_layout_is_sized(unsigned char *a0) {
     size_t v0;
     uint8_t common_ret_op;
     r1_0_0_copyload = load32(a0 + 20);
-    if (!((r1_0_0_copyload < 0x20001U) & ((r1_0_0_copyload & 255) == 0))) common_ret_op = 0;
+    if (!((r1_0_0_copyload < 0x40001U) & ((r1_0_0_copyload & 255) == 0))) common_ret_op = 0;
     else {
         uint8_t r0_0_0_copyload = a0[16];
         v0 = (size_t)r0_0_0_copyload;
@@ -585,45 +719,42 @@ static uint8_t dfu_slots_layout_is_sized(unsigned char *a0) {
     return common_ret_op;
 }
 
+#ifndef DFU_READ
 /* dfu_slots::read::counts::<#ab3713f43cb9a70d>: crates/dfu_slots/src/read.rt */
 static uint8_t dfu_slots_read_counts(unsigned char *a0, uint32_t a1) {
-    _Alignas(1) unsigned char r2[64];
     _Alignas(4) unsigned char r1[4];
-    unsigned char *r23, *r25;
+    unsigned char *r18, *r20;
     uint32_t a0_a1, r3_6_0_copyload, r3_7_0_copyload, r3_8_0_copyload, r10, r7, r3_0;
     uint8_t r3_4_0_copyload, r3_5_0_copyload;
     uint8_t r1_0_in;
-    size_t r5_0_0_copyload = load_size(a0);
-    r23 = (unsigned char *)(uintptr_t)r5_0_0_copyload;
-    uint8_t r1_0_0_copyload = r23[(size_t)a1];
+    size_t r3_0_0_copyload = load_size(a0);
+    r18 = (unsigned char *)(uintptr_t)r3_0_0_copyload;
+    uint8_t r1_0_0_copyload = r18[(size_t)a1];
     if (r1_0_0_copyload != 165) r1_0_in = 0;
     else {
         uint8_t r0_0_0_copyload = a0[16];
         uint32_t r1_0_0_copyload_2 = load32(a0 + 20);
         uint32_t switch_load = (uint32_t)switch_table_dfu_asks_next_piece_numbered_piece[(size_t)r0_0_0_copyload];
         a0_a1 = umax32(r1_0_0_copyload_2, switch_load);
-        r25 = r23 + (size_t)(a0_a1 + a1);
-        uint8_t r3_1_0_copyload = r25[1];
+        r20 = r18 + (size_t)(a0_a1 + a1);
+        uint8_t r3_1_0_copyload = r20[1];
         if (r3_1_0_copyload != 2) r1_0_in = 1;
         else {
-            r3_4_0_copyload = r25[2];
-            r3_5_0_copyload = r25[3];
-            r3_6_0_copyload = load32u(r25 + 4);
-            r3_7_0_copyload = load32u(r25 + 8);
-            r3_8_0_copyload = load32u(r25 + 12);
+            r3_4_0_copyload = r20[2];
+            r3_5_0_copyload = r20[3];
+            r3_6_0_copyload = load32u(r20 + 4);
+            r3_7_0_copyload = load32u(r20 + 8);
+            r3_8_0_copyload = load32u(r20 + 12);
             size_t r3 = load_size(a0 + 8);
             r10 = a0_a1 << 1;
             if ((((uint32_t)r3 >> 1) - r10) < r3_6_0_copyload) r1_0_in = 0;
             else {
                 store32(r1, 0xffffffffU);
-                memset(r2, 0, 64);
                 r7 = r10 + a1;
                 r3_0 = 0;
                 while (r3_0 < r3_6_0_copyload) {
                     uint32_t a1_a0 = umin32(r3_6_0_copyload - r3_0, 64);
-                    size_t r28 = (size_t)a1_a0;
-                    memcpy(r2, r23 + (size_t)(r7 + r3_0), r28);
-                    dfu_suffix_crc_Crc_update_small(r1, r2, r28);
+                    dfu_suffix_crc_Crc_update_small(r1, r18 + (size_t)(r7 + r3_0), (size_t)a1_a0);
                     r3_0 = a1_a0 + r3_0;
                 }
                 uint32_t r0_0_0_copyload_2 = load32(r1);
@@ -633,26 +764,133 @@ static uint8_t dfu_slots_read_counts(unsigned char *a0, uint32_t a1) {
     }
     return r1_0_in;
 }
+#else
+/* dfu_slots::read::counts::<#ab3713f43cb9a70d>: crates/dfu_slots/src/read.rt */
+static uint8_t dfu_slots_read_counts(unsigned char *a0, uint32_t a1) {
+    _Alignas(1) unsigned char r2_2[64];
+    _Alignas(4) unsigned char r3_2[16];
+    unsigned char *const r3 = r3_2;
+    unsigned char *const r1 = r3_2;
+    uint8_t r1_2_0_copyload, r1_3_0_copyload, r1_4_0_copyload;
+    uint32_t r1_5_0_copyload, r1_6_0_copyload, r1_7_0_copyload, r3_0;
+    uint8_t common_ret_op, r1_0_in;
+    uint8_t r2 = dfu_slots_read_byte_at(a0, a1);
+    if (r2 != 165) r1_0_in = 0;
+    else {
+        dfu_slots_read_header_of(r3, a0, a1);
+        uint8_t r4_2_0_copyload = r3[1];
+        if (r4_2_0_copyload != 2) r1_0_in = 1;
+        else {
+            dfu_slots_read_header_of(r3_2, a0, a1);
+            r1_2_0_copyload = r3_2[1];
+            r1_3_0_copyload = r3_2[2];
+            r1_4_0_copyload = r3_2[3];
+            r1_5_0_copyload = load32u(r3_2 + 4);
+            r1_6_0_copyload = load32u(r3_2 + 8);
+            r1_7_0_copyload = load32u(r3_2 + 12);
+            size_t r3_3 = load_size(a0 + 8);
+            uint8_t r0_0_0_copyload = a0[16];
+            uint32_t r1_0_0_copyload = load32(a0 + 20);
+            uint32_t switch_load = (uint32_t)switch_table_dfu_asks_next_piece_numbered_piece[(size_t)r0_0_0_copyload];
+            if ((((uint32_t)r3_3 >> 1) - (umax32(r1_0_0_copyload, switch_load) << 1)) < r1_5_0_copyload) common_ret_op = 0;
+            else {
+                store32(r1, 0xffffffffU);
+                memset(r2_2, 0, 64);
+                r3_0 = 0;
+                while (r3_0 < r1_5_0_copyload) {
+                    uint32_t a1_a0 = umin32(r1_5_0_copyload - r3_0, 64);
+                    size_t r28 = (size_t)a1_a0;
+                    dfu_slots_read_read_data(a0, a1, r3_0, r2_2, r28);
+                    dfu_suffix_crc_Crc_update_small(r1, r2_2, r28);
+                    r3_0 = a1_a0 + r3_0;
+                }
+                uint32_t r0_0_0_copyload_2 = load32(r1);
+                common_ret_op = ((((r1_2_0_copyload == 2) ? (r1_3_0_copyload == 0) : 0) ? (r1_4_0_copyload == 0) : 0) ? (r1_6_0_copyload == r0_0_0_copyload_2) : 0) ? (r1_7_0_copyload == 0) : 0;
+            }
+            r1_0_in = common_ret_op;
+        }
+    }
+    return r1_0_in;
+}
+
+/* dfu_slots::read::byte_at::<#ab3713f43cb9a70d>: crates/dfu_slots/src/read.rt */
+static uint8_t dfu_slots_read_byte_at(unsigned char *a0, uint32_t a1) {
+    _Alignas(4) unsigned char r1[1];
+    *r1 = 0;
+    size_t r3_0_0_copyload = load_size(a0);
+    DFU_READ((unsigned char *)(uintptr_t)r3_0_0_copyload + (size_t)a1, r1, 1);
+    uint8_t r15 = *r1;
+    return r15;
+}
+
+/* dfu_slots::read::read_data::<#ab3713f43cb9a70d>: crates/dfu_slots/src/read.rt */
+static void dfu_slots_read_read_data(unsigned char *a0, uint32_t a1, uint32_t a2, unsigned char *a3, size_t a4) {
+    uint8_t r0_0_0_copyload = a0[16];
+    uint32_t r1_0_0_copyload = load32(a0 + 20);
+    uint32_t switch_load = (uint32_t)switch_table_dfu_asks_next_piece_numbered_piece[(size_t)r0_0_0_copyload];
+    size_t r3_0_0_copyload = load_size(a0);
+    DFU_READ((unsigned char *)(uintptr_t)r3_0_0_copyload + (size_t)((a2 + a1) + (umax32(r1_0_0_copyload, switch_load) << 1)), a3, a4);
+    return;
+}
+#endif
 
 /* dfu_suffix::crc::Crc::update_small: crates/dfu_suffix/src/crc.rt */
-static void dfu_suffix_crc_Crc_update_small(unsigned char *a0, unsigned char *a1, uint64_t a2) {
-    uint64_t r4_0;
+static void dfu_suffix_crc_Crc_update_small(unsigned char *a0, unsigned char *a1, size_t a2) {
+    size_t r4_0;
     uint32_t r3_0;
     uint32_t r5 = load32(a0);
     r4_0 = 0;
     r3_0 = r5;
-    while (r4_0 != a2) {
-        uint8_t r23 = a1[(size_t)r4_0];
-        uint32_t r6 = r3_0 ^ (uint32_t)r23;
-        uint32_t r20 = load32(PLACE(static_0) + (size_t)((r6 << 2) & 60));
-        uint32_t r23_2 = (r6 >> 4) ^ r20;
-        uint32_t r20_2 = load32(PLACE(static_0) + (size_t)((r23_2 << 2) & 60));
-        r4_0 = r4_0 + 1;
-        r3_0 = (r23_2 >> 4) ^ r20_2;
+    if (r4_0 != a2) {
+        do {
+            uint8_t r23 = a1[r4_0];
+            uint32_t r6 = r3_0 ^ (uint32_t)r23;
+            uint32_t r20 = load32(PLACE(static_0) + (size_t)((r6 << 2) & 60));
+            uint32_t r23_2 = (r6 >> 4) ^ r20;
+            uint32_t r20_2 = load32(PLACE(static_0) + (size_t)((r23_2 << 2) & 60));
+            r4_0 = r4_0 + 1;
+            r3_0 = (r23_2 >> 4) ^ r20_2;
+        } while (r4_0 != a2);
     }
     store32(a0, r3_0);
     return;
 }
+#ifdef DFU_READ
+
+/* dfu_slots::places::is_newest::<#ab3713f43cb9a70d>: crates/dfu_slots/src/places.rt */
+static uint8_t dfu_slots_places_is_newest(unsigned char *a0, uint32_t a1, uint32_t a2, uint8_t a3, uint8_t a4) {
+    uint8_t r1_0_in;
+    if (!(a3 & a4)) r1_0_in = a3;
+    else {
+        uint8_t r13 = dfu_slots_read_generation(a0, a1);
+        uint8_t r14 = dfu_slots_read_generation(a0, a2);
+        r1_0_in = r13 == (uint8_t)(r14 + 1);
+    }
+    return r1_0_in;
+}
+
+/* dfu_slots::read::generation::<#ab3713f43cb9a70d>: crates/dfu_slots/src/read.rt */
+static uint8_t dfu_slots_read_generation(unsigned char *a0, uint32_t a1) {
+    uint8_t r0_0_0_copyload = a0[16];
+    uint32_t r1_0_0_copyload = load32(a0 + 20);
+    uint32_t switch_load = (uint32_t)switch_table_dfu_asks_next_piece_numbered_piece[(size_t)r0_0_0_copyload];
+    uint8_t r7 = dfu_slots_read_byte_at(a0, umax32(r1_0_0_copyload, switch_load) + a1);
+    return r7;
+}
+
+/* dfu_slots::read::header_of::<#ab3713f43cb9a70d>: crates/dfu_slots/src/read.rt */
+static void dfu_slots_read_header_of(unsigned char *a0, unsigned char *a1, uint32_t a2) {
+    _Alignas(1) unsigned char r1[16];
+    memset(r1, 0, 16);
+    uint8_t r0_0_0_copyload = a1[16];
+    uint32_t r1_0_0_copyload = load32(a1 + 20);
+    uint32_t switch_load = (uint32_t)switch_table_dfu_asks_next_piece_numbered_piece[(size_t)r0_0_0_copyload];
+    size_t r3_0_0_copyload = load_size(a1);
+    DFU_READ((unsigned char *)(uintptr_t)r3_0_0_copyload + (size_t)(umax32(r1_0_0_copyload, switch_load) + a2), r1, 16);
+    memcpy(a0, r1, 16);
+    return;
+}
+#endif
 
 /* dfu_core::mode::idle_mode: crates/dfu_core/src/mode.rt */
 static void dfu_core_mode_idle_mode(unsigned char *a0, unsigned char *a1, unsigned char *a2) {
@@ -804,7 +1042,7 @@ static void dfu_core_mode_set_mode(unsigned char *a0, unsigned char *a1) {
 /* dfu_device::time_table::poll_ms: crates/dfu_device/src/time_table.rt */
 static uint32_t dfu_device_time_table_poll_ms(unsigned char *a0, unsigned char *a1, size_t a2) {
     _Alignas(4) unsigned char r13[12];
-    _Alignas(4) unsigned char r15[12];
+    unsigned char *const r15 = r13;
     uint32_t r1_41_4_copyload, r12_0;
     uint8_t r1_0_0_copyload = *a1;
     r1_41_4_copyload = load32(a1 + 4);
@@ -995,21 +1233,10 @@ static uint8_t dfu_asks_format_piece_part_piece(unsigned char *a0, size_t a1, un
 
 /* dfu_asks::next_piece::sequence_piece: crates/dfu_asks/src/next_piece.rt */
 static uint8_t dfu_asks_next_piece_sequence_piece(unsigned char *a0, unsigned char *a1) {
-    _Alignas(4) unsigned char r1[16];
     size_t r12_0;
-    uint8_t r2 = *a0;
-    store32(r1, (uint32_t)r2);
-    uint32_t v0 = load32(a0 + 4);
-    store32(r1 + 4, v0);
-    uint32_t v1 = load32(a0 + 8);
-    store32(r1 + 8, v1);
-    uint16_t v2 = load16(a0 + 12);
-    store16(r1 + 12, v2);
-    uint16_t v3 = load16(a0 + 14);
-    store16(r1 + 14, v3);
     r12_0 = 0;
     while (r12_0 != 3) {
-        uint8_t r23 = dfu_asks_next_piece_numbered_piece(r1, r12_0, a1);
+        uint8_t r23 = dfu_asks_next_piece_numbered_piece(a0, r12_0, a1);
         if (r23) break;
         r12_0 = r12_0 + 1;
     }
@@ -1170,7 +1397,7 @@ static uint8_t dfu_asks_next_piece_numbered_piece(unsigned char *a0, size_t a1, 
     if (r20_0_0_copyload != 0) {
         r1_6 = (size_t)r20_0_0_copyload;
         r18_5 = r25_15_0 + (uint64_t)r56;
-        uint32_t r22 = ((((uint32_t)(size_t)(r25_15_0 >> 15) % r20_0_0_copyload) << 15) | ((uint32_t)r25_15_0 & 32767)) % r20_0_0_copyload;
+        uint32_t r22 = ((((uint32_t)(size_t)(r25_15_0 >> 14) % r20_0_0_copyload) << 14) | ((uint32_t)r25_15_0 & 16383)) % r20_0_0_copyload;
         r5_0 = r18_4;
         r4_0 = (uint64_t)((r22 == 0) ? 0 : ((uint64_t)r1_6 - (uint64_t)(size_t)r22)) + r25_15_0;
         for (;;) {
@@ -1253,6 +1480,7 @@ static uint8_t dfu_asks_format_piece_open_piece(size_t a0, uint32_t a1, unsigned
     return r17;
 }
 
+#ifndef DFU_READ
 /* dfu_asks::cut::stands: crates/dfu_asks/src/cut.rt */
 static uint8_t dfu_asks_cut_stands(unsigned char *a0, size_t a1, unsigned char *a2) {
     _Alignas(8) unsigned char r10[48];
@@ -1287,8 +1515,8 @@ static uint8_t dfu_asks_cut_stands(unsigned char *a0, size_t a1, unsigned char *
                         r3_0_lcssa = r1_8_0_copyload;
                         break;
                     }
-                    uint8_t r20 = r86[r3_0];
-                    if (r20 != r1_9_0_copyload) {
+                    uint8_t r3_0_0_copyload = r86[r3_0];
+                    if (r3_0_0_copyload != r1_9_0_copyload) {
                         r3_0_lcssa = r3_0;
                         break;
                     }
@@ -1300,6 +1528,55 @@ static uint8_t dfu_asks_cut_stands(unsigned char *a0, size_t a1, unsigned char *
     }
     return common_ret_op;
 }
+#else
+/* dfu_asks::cut::stands: crates/dfu_asks/src/cut.rt */
+static uint8_t dfu_asks_cut_stands(unsigned char *a0, size_t a1, unsigned char *a2) {
+    _Alignas(8) unsigned char r10[48];
+    uint64_t r3_2_0_copyload;
+    unsigned char *r44, *r53, *r86;
+    size_t r1_3_0_copyload, r1_5_0_copyload, r1_6_0_copyload, r1_8_0_copyload, r3_0, r3_0_lcssa;
+    uint8_t r1_9_0_copyload;
+    uint8_t common_ret_op;
+    r3_2_0_copyload = load64(a2 + 80);
+    size_t r3_4_0_copyload = load_size(a2 + 88);
+    if ((uint64_t)a1 < ((uint64_t)r3_4_0_copyload + r3_2_0_copyload)) common_ret_op = 0;
+    else {
+        dfu_asks_cut_runs_of(r10, a2);
+        r44 = a0 + (size_t)r3_2_0_copyload;
+        size_t r1_0_0_copyload = load_size(r10);
+        r1_3_0_copyload = load_size(r10 + 8);
+        r1_5_0_copyload = load_size(r10 + 16);
+        r1_6_0_copyload = load_size(r10 + 24);
+        r1_8_0_copyload = load_size(r10 + 32);
+        r1_9_0_copyload = r10[40];
+        uint8_t r40 = dfu_asks_cut_are_same(r44, r1_3_0_copyload, (unsigned char *)(uintptr_t)r1_0_0_copyload);
+        if (!r40) common_ret_op = 0;
+        else {
+            r53 = r44 + r1_3_0_copyload;
+            uint8_t r68 = dfu_asks_cut_are_same(r53, r1_6_0_copyload, (unsigned char *)(uintptr_t)r1_5_0_copyload);
+            if (!r68) common_ret_op = 0;
+            else {
+                r86 = r53 + r1_6_0_copyload;
+                r3_0 = 0;
+                for (;;) {
+                    if (r3_0 == r1_8_0_copyload) {
+                        r3_0_lcssa = r1_8_0_copyload;
+                        break;
+                    }
+                    uint8_t r19 = dfu_slots_read_flash_byte_at(r86, r3_0);
+                    if (r19 != r1_9_0_copyload) {
+                        r3_0_lcssa = r3_0;
+                        break;
+                    }
+                    r3_0 = r3_0 + 1;
+                }
+                common_ret_op = r3_0_lcssa >= r1_8_0_copyload;
+            }
+        }
+    }
+    return common_ret_op;
+}
+#endif
 
 /* dfu_asks::cut::runs_of: crates/dfu_asks/src/cut.rt */
 static void dfu_asks_cut_runs_of(unsigned char *a0, unsigned char *a1) {
@@ -1375,6 +1652,7 @@ static void dfu_asks_cut_runs_of(unsigned char *a0, unsigned char *a1) {
     return;
 }
 
+#ifndef DFU_READ
 /* dfu_asks::cut::are_same: crates/dfu_asks/src/cut.rt */
 static uint8_t dfu_asks_cut_are_same(unsigned char *a0, size_t a1, unsigned char *a2) {
     size_t r5_0, r5_0_lcssa;
@@ -1384,9 +1662,9 @@ static uint8_t dfu_asks_cut_are_same(unsigned char *a0, size_t a1, unsigned char
             r5_0_lcssa = a1;
             break;
         }
-        uint8_t r24 = a0[r5_0];
-        uint8_t r29 = a2[r5_0];
-        if (r24 != r29) {
+        uint8_t r3_0_0_copyload = a0[r5_0];
+        uint8_t r28 = a2[r5_0];
+        if (r3_0_0_copyload != r28) {
             r5_0_lcssa = r5_0;
             break;
         }
@@ -1394,6 +1672,36 @@ static uint8_t dfu_asks_cut_are_same(unsigned char *a0, size_t a1, unsigned char
     }
     return r5_0_lcssa >= a1;
 }
+#else
+/* dfu_asks::cut::are_same: crates/dfu_asks/src/cut.rt */
+static uint8_t dfu_asks_cut_are_same(unsigned char *a0, size_t a1, unsigned char *a2) {
+    size_t r5_0, r5_0_lcssa;
+    r5_0 = 0;
+    for (;;) {
+        if (r5_0 == a1) {
+            r5_0_lcssa = a1;
+            break;
+        }
+        uint8_t r23 = dfu_slots_read_flash_byte_at(a0, r5_0);
+        uint8_t r28 = a2[r5_0];
+        if (r23 != r28) {
+            r5_0_lcssa = r5_0;
+            break;
+        }
+        r5_0 = r5_0 + 1;
+    }
+    return r5_0_lcssa >= a1;
+}
+
+/* dfu_slots::read::flash_byte_at: crates/dfu_slots/src/read.rt */
+static uint8_t dfu_slots_read_flash_byte_at(unsigned char *a0, size_t a2) {
+    _Alignas(4) unsigned char r3[1];
+    *r3 = 0;
+    DFU_READ(a0 + a2, r3, 1);
+    uint8_t r34 = *r3;
+    return r34;
+}
+#endif
 
 /* dfu_asks::next_and_took::is_sound: crates/dfu_asks/src/next_and_took.rt */
 static uint8_t dfu_asks_next_and_took_is_sound(uint32_t a0, unsigned char *a1) {
@@ -1404,7 +1712,7 @@ static uint8_t dfu_asks_next_and_took_is_sound(uint32_t a0, unsigned char *a1) {
     if (!(r2_0_0_copyload & 1)) common_ret_op = 1;
     else {
         size_t r2_4_0_copyload = load_size(a1 + 16);
-        if ((a0 != 0) ? (r2_4_0_copyload == (size_t)a0) : 0) common_ret_op = (((((uint32_t)(size_t)(r2_35_0_copyload >> 15) % a0) << 15) | ((uint32_t)r2_35_0_copyload & 32767)) % a0) == 0;
+        if ((a0 != 0) ? (r2_4_0_copyload == (size_t)a0) : 0) common_ret_op = (((((uint32_t)(size_t)(r2_35_0_copyload >> 14) % a0) << 14) | ((uint32_t)r2_35_0_copyload & 16383)) % a0) == 0;
         else {
             common_ret_op = 0;
         }
@@ -1415,8 +1723,8 @@ static uint8_t dfu_asks_next_and_took_is_sound(uint32_t a0, unsigned char *a1) {
 /* dfu_asks::cut::fill: crates/dfu_asks/src/cut.rt */
 static void dfu_asks_cut_fill(unsigned char *a0, unsigned char *a1) {
     _Alignas(8) unsigned char r0[48];
-    uint64_t r27, r28, r4_0;
-    size_t a1_a0;
+    uint64_t r27;
+    size_t a1_a0, r28, r4_0;
     unsigned char *r61;
     uint8_t r70;
     dfu_asks_cut_runs_of(r0, a0);
@@ -1432,13 +1740,15 @@ static void dfu_asks_cut_fill(unsigned char *a0, unsigned char *a1) {
     r61 = a1 + (size_t)r27;
     r70 = r0[40];
     if ((uint64_t)a1_a0 == r27) return;
-    r28 = (uint64_t)a1_a0 + (r27 ^ 0xffffffffffffffffULL);
+    r28 = a1_a0 + ((size_t)r27 ^ (size_t)0xffffffffffffffffULL);
     r4_0 = 0;
-    while (r4_0 != r28) {
-        r61[(size_t)r4_0] = r70;
-        r4_0 = r4_0 + 1;
+    if (r4_0 != r28) {
+        do {
+            r61[r4_0] = r70;
+            r4_0 = r4_0 + 1;
+        } while (r4_0 != r28);
     }
-    r61[(size_t)r28] = r70;
+    r61[r28] = r70;
     return;
 }
 
@@ -1446,7 +1756,7 @@ static void dfu_asks_cut_fill(unsigned char *a0, unsigned char *a1) {
 static void dfu_core_keeping_found(unsigned char *a0, unsigned char *a1, size_t a2, unsigned char *a3) {
     _Alignas(4) unsigned char r6[52];
     _Alignas(4) unsigned char r15[20];
-    _Alignas(4) unsigned char r22_4_16[16];
+    unsigned char *const r22_4_16 = r15;
     uint32_t r24, r0_5104_0_copyload, v3, r1_9_12_copyload, r1_11_16_copyload, r6_2, r15_2, r8_5_0_0, r8_142_0, r74, r21_6_0_0, r21_9_0;
     uint32_t r21_11_0, r21_14_0, r21_17_0;
     unsigned char *r36, *r19;
@@ -1589,7 +1899,7 @@ arm_15:
 static uint8_t dfu_asks_next_piece_next_piece(unsigned char *a0, unsigned char *a1) {
     _Alignas(4) unsigned char r2_3[16];
     unsigned char *const r2_2 = r2_3;
-    _Alignas(4) unsigned char r1[16];
+    unsigned char *const r1 = r2_3;
     uint32_t r1_3_4_copyload;
     uint8_t r1_6_8_copyload;
     uint8_t common_ret_op, r15_0_in;
@@ -1644,13 +1954,10 @@ dfu_asks_next_piece_block_piece_exit:
 }
 
 /* dfu_asks::asking::Asking::look_at: crates/dfu_asks/src/cut.rt */
-static struct i64_i8 dfu_asks_asking_Asking_look_at(unsigned char *a0, unsigned char *a1, unsigned char *a2, size_t a3, unsigned char *a4, uint64_t a5, unsigned char *a6, size_t a7) {
+static struct i64_i8 dfu_asks_asking_Asking_look_at(unsigned char *a0, unsigned char *a1, unsigned char *a2, size_t a3, unsigned char *a4, size_t a5, unsigned char *a6, size_t a7) {
     _Alignas(8) unsigned char r7[112];
-    _Alignas(4) unsigned char r12[16];
     uint8_t r0_4_0;
     size_t r0_0_0;
-    unsigned char *v0 = r12 + 8;
-    store32(v0, 0);
     uint8_t r5_0_0_copyload = a0[40];
     uint32_t r6_0_0_copyload = load32(a0 + 44);
     uint32_t r17 = load32(a0 + 80);
@@ -1663,22 +1970,14 @@ static struct i64_i8 dfu_asks_asking_Asking_look_at(unsigned char *a0, unsigned 
     store32(r7 + 8, r17);
     store32(r7 + 12, 0);
     store64(r7 + 16, (size_t)(uintptr_t)a4);
-    store64(r7 + 24, (size_t)umin64(a5, r8));
+    store64(r7 + 24, umin_size(a5, r8));
     store64(r7 + 32, (size_t)(uintptr_t)a2);
     store64(r7 + 40, umin_size(a3, r26));
     store64(r7 + 48, (size_t)r24);
     memset(r7 + 56, 0, 40);
     r7[96] = 4;
     memset(r7 + 97, 0, 15);
-    uint8_t r26_2 = *a1;
-    store32(r12, (uint32_t)r26_2);
-    uint32_t v1 = load32(a1 + 4);
-    store32(r12 + 4, v1);
-    uint8_t v2 = a1[8];
-    *v0 = v2;
-    uint32_t v3 = load32(a1 + 12);
-    store32(r12 + 12, v3);
-    uint8_t r35 = dfu_asks_next_piece_next_piece(r12, r7);
+    uint8_t r35 = dfu_asks_next_piece_next_piece(a1, r7);
     if (!r35) {
         r0_4_0 = 0;
         r0_0_0 = 0;
@@ -1756,8 +2055,8 @@ static void dfu_asks_finish_note(unsigned char *a0, unsigned char *a1, unsigned 
 /* dfu_asks::asking::Asking::give: crates/dfu_asks/src/carry.rt */
 static struct i8_i64 dfu_asks_asking_Asking_give(unsigned char *a0, uint8_t a1, uint16_t a2, unsigned char *a3) {
     _Alignas(4) unsigned char r1[16];
-    _Alignas(4) unsigned char r4[6];
-    _Alignas(4) unsigned char r5_0[1];
+    unsigned char *const r4 = r1;
+    unsigned char *const r5_0 = r1;
     size_t r6_62_0;
     uint8_t r6_0_0;
     switch (a1) {
@@ -1809,7 +2108,7 @@ static struct i8_i64 dfu_asks_asking_Asking_give(unsigned char *a0, uint8_t a1, 
 }
 
 /* dfu_asks::asking::Asking::advance */
-static void dfu_asks_asking_Asking_advance(unsigned char *a0, unsigned char *a1, unsigned char *a2, size_t a3, unsigned char *a4, uint64_t a5, unsigned char *a6, size_t a7, unsigned char *a8) {
+static void dfu_asks_asking_Asking_advance(unsigned char *a0, unsigned char *a1, unsigned char *a2, size_t a3, unsigned char *a4, size_t a5, unsigned char *a6, size_t a7, unsigned char *a8) {
     _Alignas(4) unsigned char r9[24];
     _Alignas(4) unsigned char r10[16];
     unsigned char *r32, *r24, *r26, *r28, *r30, *r32_2, *r33_2;
@@ -1852,18 +2151,20 @@ static void dfu_asks_asking_Asking_advance(unsigned char *a0, unsigned char *a1,
                 size_t r40 = load_size(a1 + 64);
                 a1_a0 = umin_size(a3, r40);
                 size_t r47 = load_size(a1 + 72);
-                a1_a0_2 = (size_t)umin64(a5, r47);
+                a1_a0_2 = umin_size(a5, r47);
                 uint8_t r13_0_0_copyload = *r33_2;
                 size_t switch_load = (size_t)switch_table_dfu_asks_asking_Asking_advance[(size_t)r13_0_0_copyload];
                 size_t r46 = a1_a0_2 + a1_a0;
                 r52 = switch_load & r46;
                 r57 = r46 - r52;
                 r10_0 = 0;
-                while (r10_0 != r52) {
-                    size_t r68 = r10_0 + r57;
-                    uint8_t r27_0 = *((r68 < a1_a0_2) ? (a4 + r68) : (a2 + (r68 - a1_a0_2)));
-                    a4[r10_0] = r27_0;
-                    r10_0 = r10_0 + 1;
+                if (r10_0 != r52) {
+                    do {
+                        size_t r68 = r10_0 + r57;
+                        uint8_t r27_0 = *((r68 < a1_a0_2) ? (a4 + r68) : (a2 + (r68 - a1_a0_2)));
+                        a4[r10_0] = r27_0;
+                        r10_0 = r10_0 + 1;
+                    } while (r10_0 != r52);
                 }
                 uint32_t r73 = load32(a1 + 80);
                 uint8_t pre = *r24;
@@ -2146,10 +2447,11 @@ common_ret:
     return;
 }
 
+#ifndef DFU_READ
 /* dfu_asks::noted::look: crates/dfu_asks/src/noted.rt */
 static void dfu_asks_noted_look(unsigned char *a0, unsigned char *a1, unsigned char *a2) {
     uint32_t r3847, r3847_2, r3847_3, a0_a1, r13, r17;
-    unsigned char *r23, *r74, *r82;
+    unsigned char *r18, *r74, *r82;
     size_t r3_0;
     uint8_t r24 = dfu_slots_layout_is_sized(a1);
     if (r24) {
@@ -2159,21 +2461,21 @@ static void dfu_asks_noted_look(unsigned char *a0, unsigned char *a1, unsigned c
         uint8_t r40 = r39 & 1;
         r3847_2 = (uint32_t)(r40 ? r3847 : 0);
         r3847_3 = (uint32_t)(r40 ? 0 : r3847);
-        size_t r5_0_0_copyload = load_size(a1);
-        r23 = (unsigned char *)(uintptr_t)r5_0_0_copyload;
-        uint8_t r1_0_0_copyload = r23[(size_t)r3847_2];
+        size_t r3_0_0_copyload = load_size(a1);
+        r18 = (unsigned char *)(uintptr_t)r3_0_0_copyload;
+        uint8_t r1_0_0_copyload = r18[(size_t)r3847_2];
         if (r1_0_0_copyload == 165) {
             uint8_t r0_0_0_copyload = a1[16];
             uint32_t r1_0_0_copyload_2 = load32(a1 + 20);
             uint32_t switch_load = (uint32_t)switch_table_dfu_asks_next_piece_numbered_piece[(size_t)r0_0_0_copyload];
             a0_a1 = umax32(r1_0_0_copyload_2, switch_load);
-            r74 = r23 + (size_t)(a0_a1 + r3847_2);
+            r74 = r18 + (size_t)(a0_a1 + r3847_2);
             r82 = a2 + 1;
             r3_0 = 0;
             while (r3_0 != 16) {
-                uint8_t r19 = r74[r3_0];
-                uint8_t r24_2 = r82[r3_0];
-                if (r19 != r24_2) goto common_ret_gvnsink_split;
+                uint8_t r3_0_0_copyload_2 = r74[r3_0];
+                uint8_t r23 = r82[r3_0];
+                if (r3_0_0_copyload_2 != r23) goto common_ret_gvnsink_split;
                 r3_0 = r3_0 + 1;
             }
             r13 = r3847 - (a0_a1 << 1);
@@ -2192,7 +2494,61 @@ common_ret_gvnsink_split:
     memset(a0, 0, 20);
     return;
 }
+#else
+/* dfu_asks::noted::look: crates/dfu_asks/src/noted.rt */
+static void dfu_asks_noted_look(unsigned char *a0, unsigned char *a1, unsigned char *a2) {
+    unsigned char *r2, *r1, *r2_3, *r74, *r82;
+    uint32_t r3847_2, r3847_3, r13, r17;
+    size_t r3_0;
+    uint8_t r24 = dfu_slots_layout_is_sized(a1);
+    if (r24) {
+        r2 = a1 + 8;
+        size_t r3 = load_size(r2);
+        uint32_t r3847 = (uint32_t)r3 >> 1;
+        uint8_t r39 = *a2;
+        uint8_t r40 = r39 & 1;
+        r3847_2 = (uint32_t)(r40 ? r3847 : 0);
+        r3847_3 = (uint32_t)(r40 ? 0 : r3847);
+        uint8_t r2_2 = dfu_slots_read_byte_at(a1, r3847_2);
+        if (r2_2 == 165) {
+            r1 = a1 + 16;
+            uint8_t r0_0_0_copyload = *r1;
+            r2_3 = a1 + 20;
+            uint32_t r1_0_0_copyload = load32(r2_3);
+            uint32_t switch_load = (uint32_t)switch_table_dfu_asks_next_piece_numbered_piece[(size_t)r0_0_0_copyload];
+            size_t r13_0_0_copyload = load_size(a1);
+            r74 = (unsigned char *)(uintptr_t)r13_0_0_copyload + (size_t)(umax32(r1_0_0_copyload, switch_load) + r3847_2);
+            r82 = a2 + 1;
+            r3_0 = 0;
+            while (r3_0 != 16) {
+                uint8_t r18 = dfu_slots_read_flash_byte_at(r74, r3_0);
+                uint8_t r23 = r82[r3_0];
+                if (r18 != r23) goto common_ret_gvnsink_split;
+                r3_0 = r3_0 + 1;
+            }
+            size_t r3_2 = load_size(r2);
+            uint8_t r0_0_0_copyload_2 = *r1;
+            uint32_t r1_0_0_copyload_2 = load32(r2_3);
+            uint32_t switch_load_2 = (uint32_t)switch_table_dfu_asks_next_piece_numbered_piece[(size_t)r0_0_0_copyload_2];
+            r13 = ((uint32_t)r3_2 >> 1) - (umax32(r1_0_0_copyload_2, switch_load_2) << 1);
+            r17 = load32u(a2 + 5);
+            if (r13 >= r17) {
+                store32(a0, 1);
+                store32(a0 + 4, r3847_2);
+                store32(a0 + 8, r3847_3);
+                store32(a0 + 12, r13);
+                store32(a0 + 16, r17);
+                return;
+            }
+        }
+    }
+common_ret_gvnsink_split:
+    memset(a0, 0, 20);
+    return;
+}
+#endif
 
+#ifndef DFU_READ
 /* dfu_asks::asking::Asking::see: crates/dfu_asks/src/calls.rt */
 static void dfu_asks_asking_Asking_see(unsigned char *a0, unsigned char *a1, size_t a2, unsigned char *a3, size_t a4) {
     _Alignas(8) unsigned char r3[24];
@@ -2273,15 +2629,104 @@ then_8:
     a0[1] = 2;
     return;
 }
+#else
+/* dfu_asks::asking::Asking::see: crates/dfu_asks/src/calls.rt */
+static void dfu_asks_asking_Asking_see(unsigned char *a0, unsigned char *a1, size_t a2, unsigned char *a3, size_t a4) {
+    _Alignas(8) unsigned char r3[24];
+    _Alignas(4) unsigned char r9[20];
+    unsigned char *r21, *r16, *r43;
+    uint32_t r4_0_0_copyload, r4_3_0_copyload, r4_4_0_copyload, r4_5_0_copyload, r44, r74, v3;
+    uint8_t r4;
+    r21 = a1 + 40;
+    if (wide(a4) > 0xffffffffU) {
+        *a0 = 1;
+        a0[1] = 1;
+        return;
+    }
+    uint32_t r7_0_0_copyload = load32(a1 + 44);
+    uint8_t r6_0_0_copyload = *r21;
+    store_size(r3, (size_t)(uintptr_t)a3);
+    store_size(r3 + 8, a4);
+    r3[16] = r6_0_0_copyload;
+    store32(r3 + 20, r7_0_0_copyload);
+    dfu_asks_noted_look(r9, r3, a1 + 84);
+    uint8_t r38 = *r9;
+    if (r38 != 1) {
+        *a0 = 1;
+        a0[1] = 1;
+        return;
+    }
+    r4_0_0_copyload = load32(r9 + 4);
+    r4_3_0_copyload = load32(r9 + 8);
+    r4_4_0_copyload = load32(r9 + 12);
+    r4_5_0_copyload = load32(r9 + 16);
+    r16 = a1 + 64;
+    size_t r17 = load_size(r16);
+    if (a2 >= r17) {
+        uint16_t r5_2_0_copyload = load16(a1 + 12);
+        if (umin_size(a2, 4096) >= (size_t)r5_2_0_copyload) {
+            r43 = a1 + 80;
+            r44 = load32(r43);
+            if (r44 <= r4_4_0_copyload) {
+                size_t r42 = load_size(a1 + 72);
+                uint8_t r10_0_0_copyload = *r21;
+                uint32_t switch_load = (uint32_t)switch_table_dfu_asks_asking_Asking_advance[(size_t)r10_0_0_copyload];
+                if (r42 == (size_t)(switch_load & r44)) {
+                    uint8_t r2 = dfu_slots_read_byte_at(r3, r4_3_0_copyload);
+                    r4 = r2 != 165;
+                    r74 = load32(r43);
+                    uint8_t v2 = a1[48];
+                    v3 = load32(a1 + 52);
+                    switch (v2) {
+                    case 3:
+                    case 5: {
+                        size_t r92 = load_size(r16);
+                        if (!((r92 != 0) ? (((uint64_t)r92 + (uint64_t)(size_t)v3) <= (uint64_t)(size_t)r4_4_0_copyload) : 0)) goto then_8;
+                        if (!((v3 == 0) | (r4 ? (r74 == v3) : 0))) goto then_8;
+                        break;
+                    }
+                    case 4:
+                    case 6:
+                    case 7:
+                    case 9:
+                        if (!((r4 & ((v3 - 1) < r4_4_0_copyload)) ? (r74 == v3) : 0)) goto then_8;
+                        break;
+                    case 0:
+                    case 1:
+                    case 2:
+                    case 8:
+                    case 10:
+                    case 11:
+                    case 12: break;
+                    default: never();
+                    }
+                    *a0 = 0;
+                    memcpy(a0 + 8, r3, 24);
+                    store32(a0 + 32, r4_0_0_copyload);
+                    store32(a0 + 36, r4_3_0_copyload);
+                    store32(a0 + 40, r4_4_0_copyload);
+                    store32(a0 + 44, r4_5_0_copyload);
+                    return;
+                }
+            }
+        }
+    }
+then_8:
+    *a0 = 1;
+    a0[1] = 2;
+    return;
+}
+#endif
 
+#ifndef DFU_READ
 /* dfu_asks::asking::Asking::carry_out: crates/dfu_asks/src/carry.rt */
-static void dfu_asks_asking_Asking_carry_out(unsigned char *a0, unsigned char *a1, unsigned char *a2, uint8_t a3, uint16_t a4, unsigned char *a5, size_t a6, unsigned char *a7, size_t a8, unsigned char *a9, uint64_t a10, unsigned char *a11, unsigned char *a12, unsigned char *a13, size_t a14) {
+static void dfu_asks_asking_Asking_carry_out(unsigned char *a0, unsigned char *a1, unsigned char *a2, uint8_t a3, uint16_t a4, unsigned char *a5, size_t a6, unsigned char *a7, size_t a8, unsigned char *a9, size_t a10, unsigned char *a11, unsigned char *a12, unsigned char *a13, size_t a14) {
     _Alignas(8) unsigned char r0[16];
-    _Alignas(4) unsigned char r5[4];
+    unsigned char *const r3 = r0;
     uint32_t r1_517_4_copyload, r1_16_12_copyload, r1_19_16_copyload, r14, r14_2, r5_5_0, r23, r5_15_0, r27, r12_0_0_copyload, r5_21_0, r5_15_0_2;
     uint32_t r5_5_0_2;
     uint16_t r1_11_8_copyload, r1_15_8_copyload;
-    size_t r1, a1_a0_3, r29, r11_3_0_copyload, a1_a0_4, r3_0, r5_18_0, r35_1344_1, r35_1344_0;
+    size_t r1, a1_a0_3, r29, r11_3_0_copyload, a1_a0_4, r3_0, r5_18_0, r35_1345_1, r35_1345_0;
     uint8_t r5_0_0, r5_8_0, r16_0_0_0_extract_trunc25, r5_8_0_2, r35_0_1, r35_7_1, r35_0_0, r35_7_0;
     unsigned char *r49;
     uint8_t r1_0_0_copyload = *a2;
@@ -2302,7 +2747,7 @@ static void dfu_asks_asking_Asking_carry_out(unsigned char *a0, unsigned char *a
         struct i8_i64 r99 = dfu_asks_asking_Asking_give(a1, r1_3_1_copyload, (uint16_t)((a3 & 1) ? a4 : 0), a13);
         r35_0_0 = 1;
         r35_7_0 = r99.a;
-        r35_1344_0 = (size_t)r99.b;
+        r35_1345_0 = (size_t)r99.b;
         break;
     }
     case 1: {
@@ -2317,7 +2762,7 @@ static void dfu_asks_asking_Asking_carry_out(unsigned char *a0, unsigned char *a
         store32(a1 + 60, r1_19_16_copyload);
         r35_0_0 = 1;
         r35_7_0 = 0;
-        r35_1344_0 = 0;
+        r35_1345_0 = 0;
         break;
     }
     case 2: {
@@ -2330,8 +2775,8 @@ static void dfu_asks_asking_Asking_carry_out(unsigned char *a0, unsigned char *a
             uint8_t r0_0_0_copyload = a11[16];
             uint32_t r1_0_0_copyload_2 = load32(a11 + 20);
             uint32_t switch_load = (uint32_t)switch_table_dfu_asks_next_piece_numbered_piece[(size_t)r0_0_0_copyload];
-            size_t r5_0_0_copyload = load_size(a11);
-            memmove(a13, (unsigned char *)(uintptr_t)r5_0_0_copyload + (size_t)((r34 + r1_517_4_copyload) + (umax32(r1_0_0_copyload_2, switch_load) << 1)), a1_a0_3);
+            size_t r3_0_0_copyload = load_size(a11);
+            memmove(a13, (unsigned char *)(uintptr_t)r3_0_0_copyload + (size_t)((r34 + r1_517_4_copyload) + (umax32(r1_0_0_copyload_2, switch_load) << 1)), a1_a0_3);
         }
         uint8_t r174 = a1_a0_3 < r1;
         a1[48] = (uint8_t)(r174 ? 2 : 11);
@@ -2342,7 +2787,7 @@ static void dfu_asks_asking_Asking_carry_out(unsigned char *a0, unsigned char *a
         store32(a1 + 60, 0);
         r35_0_0 = 1;
         r35_7_0 = 1;
-        r35_1344_0 = a1_a0_3;
+        r35_1345_0 = a1_a0_3;
         break;
     }
     case 3:
@@ -2402,10 +2847,10 @@ static void dfu_asks_asking_Asking_carry_out(unsigned char *a0, unsigned char *a
             size_t r26 = load_size(a1 + 72);
             uint8_t r37 = a1[85];
             size_t r13_0_0_copyload = load_size(a11);
-            store32(r5, 0xffffffffU);
-            dfu_suffix_crc_Crc_update_small(r5, (unsigned char *)(uintptr_t)r13_0_0_copyload + (size_t)((umax32(r1_0_0_copyload_3, switch_load_2) << 1) + r16), (uint64_t)(size_t)r22 - (uint64_t)r26);
-            dfu_suffix_crc_Crc_update_small(r5, a9, (size_t)umin64(a10, r26));
-            uint32_t r1_2 = load32(r5);
+            store32(r3, 0xffffffffU);
+            dfu_suffix_crc_Crc_update_small(r3, (unsigned char *)(uintptr_t)r13_0_0_copyload + (size_t)((umax32(r1_0_0_copyload_3, switch_load_2) << 1) + r16), (size_t)r22 - r26);
+            dfu_suffix_crc_Crc_update_small(r3, a9, umin_size(a10, r26));
+            uint32_t r1_2 = load32(r3);
             r5_0_0 = 1;
             r23 = r16;
             r5_8_0 = (uint8_t)(r37 + 1);
@@ -2416,8 +2861,8 @@ static void dfu_asks_asking_Asking_carry_out(unsigned char *a0, unsigned char *a
         }
         default: never();
         }
-        size_t r5_0_0_copyload_2 = load_size(a11);
-        uint8_t r5_8_0_in_in = *((unsigned char *)(uintptr_t)r5_0_0_copyload_2 + (size_t)r5_5_0);
+        size_t r3_0_0_copyload_2 = load_size(a11);
+        uint8_t r5_8_0_in_in = *((unsigned char *)(uintptr_t)r3_0_0_copyload_2 + (size_t)r5_5_0);
         r16_0_0_0_extract_trunc25 = 0;
         r5_21_0 = 0;
         r5_18_0 = 0;
@@ -2446,7 +2891,7 @@ dfu_asks_asking_Asking_begin_job_exit:
                 size_t r1_3 = (size_t)r37_2;
                 r11_3_0_copyload = load_size(a11 + 8);
                 size_t r41 = load_size(a1 + 64);
-                uint32_t r22_2 = ((r37_2 & 32767) | (((r37_2 >> 15) % r12_0_0_copyload) << 15)) % r12_0_0_copyload;
+                uint32_t r22_2 = ((r37_2 & 16383) | (((r37_2 >> 14) % r12_0_0_copyload) << 14)) % r12_0_0_copyload;
                 a1_a0_4 = (size_t)umin64(r11_3_0_copyload, (uint64_t)(size_t)((r22_2 == 0) ? 0 : umin_size((size_t)(r12_0_0_copyload - r22_2), r41 + r29)) + (uint64_t)r1_3);
                 r3_0 = r1_3;
                 for (;;) {
@@ -2459,14 +2904,14 @@ dfu_asks_asking_Asking_begin_job_exit:
                         r5_5_0_2 = r23;
                         goto join_3;
                     }
-                    uint8_t r16_2 = r49[r3_0];
-                    if (r16_2 != 255) break;
+                    uint8_t r3_0_0_copyload_3 = r49[r3_0];
+                    if (r3_0_0_copyload_3 != 255) break;
                     r3_0 = r3_0 + 1;
                 }
                 struct i8_i64 r83 = dfu_asks_asking_Asking_fail(a1, 1, a3, a4, r49, r11_3_0_copyload, a13);
                 r35_0_1 = 1;
                 r35_7_1 = r83.a;
-                r35_1344_1 = (size_t)r83.b;
+                r35_1345_1 = (size_t)r83.b;
                 goto dfu_asks_asking_Asking_start_exit;
             }
             r16_0_0_0_extract_trunc25 = r5_0_0;
@@ -2496,20 +2941,255 @@ join_3:
         size_t v5 = load_size(r0 + 8);
         r35_0_1 = v3;
         r35_7_1 = v4;
-        r35_1344_1 = v5;
+        r35_1345_1 = v5;
 dfu_asks_asking_Asking_start_exit:
         r35_0_0 = r35_0_1;
         r35_7_0 = r35_7_1;
-        r35_1344_0 = r35_1344_1;
+        r35_1345_0 = r35_1345_1;
         break;
     }
     default: never();
     }
     *a0 = r35_0_0;
     a0[1] = r35_7_0;
-    store_size(a0 + 8, r35_1344_0);
+    store_size(a0 + 8, r35_1345_0);
     return;
 }
+#else
+/* dfu_asks::asking::Asking::carry_out: crates/dfu_asks/src/carry.rt */
+static void dfu_asks_asking_Asking_carry_out(unsigned char *a0, unsigned char *a1, unsigned char *a2, uint8_t a3, uint16_t a4, unsigned char *a5, size_t a6, unsigned char *a7, size_t a8, unsigned char *a9, size_t a10, unsigned char *a11, unsigned char *a12, unsigned char *a13, size_t a14) {
+    _Alignas(1) unsigned char r4[64];
+    _Alignas(8) unsigned char r5[32];
+    unsigned char *const r0 = r5;
+    unsigned char *const r3 = r5;
+    uint32_t r1_517_4_copyload, r1_16_12_copyload, r1_19_16_copyload, r16, r16_7_0_copyload, r16_515_0_copyload, r16_314_0_copyload, r16_0_0_copyload, r12_0_0_copyload;
+    uint16_t r1_11_8_copyload, r1_15_8_copyload;
+    size_t r1, a1_a0_3, r26, r16_6_0_copyload, a1_a0_5, r3_0, r35_1343_1, r35_1343_0;
+    unsigned char *r21, *r25, *r16_2, *r11_3_0_a2_sroa_idx, *r49;
+    uint64_t r29, r5_0;
+    uint8_t r37, r16_4_0_copyload, r35_0_1, r35_7_1, r35_0_0, r35_7_0;
+    uint8_t r1_0_0_copyload = *a2;
+    r1_517_4_copyload = load32(a2 + 4);
+    r1_11_8_copyload = load16(a2 + 8);
+    r1_15_8_copyload = load16(a2 + 10);
+    r1_16_12_copyload = load32(a2 + 12);
+    r1_19_16_copyload = load32(a2 + 16);
+    switch (r1_0_0_copyload) {
+    case 0: {
+        uint8_t r1_3_1_copyload = a2[1];
+        a1[48] = (uint8_t)r1_517_4_copyload;
+        a1[49] = (uint8_t)(r1_517_4_copyload >> 8);
+        store16(a1 + 52, r1_11_8_copyload);
+        store16(a1 + 54, r1_15_8_copyload);
+        store32(a1 + 56, r1_16_12_copyload);
+        store32(a1 + 60, r1_19_16_copyload);
+        struct i8_i64 r99 = dfu_asks_asking_Asking_give(a1, r1_3_1_copyload, (uint16_t)((a3 & 1) ? a4 : 0), a13);
+        r35_0_0 = 1;
+        r35_7_0 = r99.a;
+        r35_1343_0 = (size_t)r99.b;
+        break;
+    }
+    case 1: {
+        size_t a1_a0 = umin_size(umin_size(a8, a6), 4096);
+        memmove(a7, a5, a1_a0);
+        store64(a1 + 64, a1_a0);
+        a1[48] = (uint8_t)r1_517_4_copyload;
+        a1[49] = (uint8_t)(r1_517_4_copyload >> 8);
+        store16(a1 + 52, r1_11_8_copyload);
+        store16(a1 + 54, r1_15_8_copyload);
+        store32(a1 + 56, r1_16_12_copyload);
+        store32(a1 + 60, r1_19_16_copyload);
+        r35_0_0 = 1;
+        r35_7_0 = 0;
+        r35_1343_0 = 0;
+        break;
+    }
+    case 2: {
+        uint32_t r15 = load32(a12 + 12);
+        r1 = (size_t)r1_11_8_copyload;
+        size_t a1_a0_2 = umin_size(r1, (size_t)usub_sat32(r15, r1_517_4_copyload));
+        a1_a0_3 = umin_size(a14, a1_a0_2);
+        if (a1_a0_2 != 0) {
+            uint32_t r34 = load32(a12);
+            dfu_slots_read_read_data(a11, r34, r1_517_4_copyload, a13, a1_a0_3);
+        }
+        uint8_t r174 = a1_a0_3 < r1;
+        a1[48] = (uint8_t)(r174 ? 2 : 11);
+        a1[49] = 0;
+        store32(a1 + 52, (uint32_t)(r174 ? 0 : (r1_517_4_copyload + (uint32_t)r1_11_8_copyload)));
+        store16(a1 + 56, (uint16_t)(r174 ? 0 : r1_15_8_copyload));
+        store16(a1 + 58, 0);
+        store32(a1 + 60, 0);
+        r35_0_0 = 1;
+        r35_7_0 = 1;
+        r35_1343_0 = a1_a0_3;
+        break;
+    }
+    case 3:
+    case 4: {
+        uint8_t r10 = a1[48];
+        switch (r10) {
+        case 3:
+        case 5: {
+            uint32_t r17 = load32(a1 + 52);
+            dfu_asks_asking_Asking_block_job(r5, a1, r17, a11, a12);
+            uint8_t r16_0_0_copyload_pre = *r5;
+            uint32_t r16_314_0_copyload_pre = load32(r5 + 4);
+            uint8_t r16_4_0_copyload_pre = r5[8];
+            uint32_t r16_515_0_copyload_pre = load32(r5 + 12);
+            size_t r16_6_0_copyload_pre = load_size(r5 + 16);
+            uint32_t r16_7_0_copyload_pre = load32(r5 + 24);
+            r16_7_0_copyload = r16_7_0_copyload_pre;
+            r16_6_0_copyload = r16_6_0_copyload_pre;
+            r16_515_0_copyload = r16_515_0_copyload_pre;
+            r16_4_0_copyload = r16_4_0_copyload_pre;
+            r16_314_0_copyload = r16_314_0_copyload_pre;
+            r16_0_0_copyload = (uint32_t)r16_0_0_copyload_pre;
+            break;
+        }
+        case 0:
+        case 1:
+        case 2:
+        case 4:
+        case 6:
+        case 7:
+        case 8:
+        case 9:
+        case 10:
+        case 11:
+        case 12: {
+            r16 = load32(a12 + 4);
+            uint8_t r0_0_0_copyload = a11[16];
+            uint32_t r1_0_0_copyload_2 = load32(a11 + 20);
+            uint32_t switch_load = (uint32_t)switch_table_dfu_asks_next_piece_numbered_piece[(size_t)r0_0_0_copyload];
+            r21 = a1 + 80;
+            uint32_t r22 = load32(r21);
+            r25 = a1 + 72;
+            r26 = load_size(r25);
+            r29 = (uint64_t)(size_t)r22 - (uint64_t)r26;
+            r37 = a1[85];
+            size_t r13_0_0_copyload = load_size(a11);
+            r16_2 = (unsigned char *)(uintptr_t)r13_0_0_copyload + (size_t)((umax32(r1_0_0_copyload_2, switch_load) << 1) + r16);
+            store32(r3, 0xffffffffU);
+            memset(r4, 0, 64);
+            r5_0 = 0;
+            while (r5_0 < r29) {
+                size_t a1_a0_4 = (size_t)umin64(r29 - r5_0, 64);
+                DFU_READ(r16_2 + (size_t)r5_0, r4, a1_a0_4);
+                dfu_suffix_crc_Crc_update_small(r3, r4, a1_a0_4);
+                r5_0 = (uint64_t)a1_a0_4 + r5_0;
+            }
+            dfu_suffix_crc_Crc_update_small(r3, a9, umin_size(a10, r26));
+            uint32_t r1_2 = load32(r3);
+            size_t r23 = load_size(r25);
+            uint32_t r25_2 = load32(r21);
+            r16_7_0_copyload = r25_2;
+            r16_6_0_copyload = r23;
+            r16_515_0_copyload = r1_2;
+            r16_4_0_copyload = (uint8_t)(r37 + 1);
+            r16_314_0_copyload = r16;
+            r16_0_0_copyload = 1;
+            break;
+        }
+        default: never();
+        }
+        if (r16_7_0_copyload != 0) {
+            size_t r11_0_0_copyload = load_size(a11);
+            r11_3_0_a2_sroa_idx = a11 + 8;
+            r12_0_0_copyload = load32(a1 + 44);
+            r49 = (unsigned char *)(uintptr_t)r11_0_0_copyload;
+            if (r12_0_0_copyload != 0) {
+                size_t r11_3_0_copyload = load_size(r11_3_0_a2_sroa_idx);
+                uint32_t r23_2 = load32(a12 + 4);
+                uint8_t r0_0_0_copyload_2 = a11[16];
+                uint32_t r1_0_0_copyload_3 = load32(a11 + 20);
+                uint32_t switch_load_2 = (uint32_t)switch_table_dfu_asks_next_piece_numbered_piece[(size_t)r0_0_0_copyload_2];
+                uint32_t r27 = load32(a1 + 80);
+                size_t r29_2 = load_size(a1 + 72);
+                uint32_t r37_2 = ((r27 + r23_2) + (umax32(r1_0_0_copyload_3, switch_load_2) << 1)) - (uint32_t)r29_2;
+                size_t r1_3 = (size_t)r37_2;
+                size_t r41 = load_size(a1 + 64);
+                uint32_t r22_2 = ((r37_2 & 16383) | (((r37_2 >> 14) % r12_0_0_copyload) << 14)) % r12_0_0_copyload;
+                a1_a0_5 = (size_t)umin64(r11_3_0_copyload, (uint64_t)(size_t)((r22_2 == 0) ? 0 : umin_size((size_t)(r12_0_0_copyload - r22_2), r41 + r29_2)) + (uint64_t)r1_3);
+                r3_0 = r1_3;
+                for (;;) {
+                    if (r3_0 >= a1_a0_5) goto join_3;
+                    uint8_t r15_2 = dfu_slots_read_flash_byte_at(r49, r3_0);
+                    if (r15_2 != 255) break;
+                    r3_0 = r3_0 + 1;
+                }
+                size_t r26_0_0_copyload = load_size(a11);
+                size_t r26_3_0_copyload = load_size(r11_3_0_a2_sroa_idx);
+                struct i8_i64 r83 = dfu_asks_asking_Asking_fail(a1, 1, a3, a4, (unsigned char *)(uintptr_t)r26_0_0_copyload, r26_3_0_copyload, a13);
+                r35_0_1 = 1;
+                r35_7_1 = r83.a;
+                r35_1343_1 = (size_t)r83.b;
+                goto dfu_asks_asking_Asking_start_exit;
+            }
+        }
+join_3:
+        store64(a1 + 72, r16_6_0_copyload);
+        store32(a1 + 80, r16_7_0_copyload);
+        store32(a1 + 104, 1);
+        store32(a1 + 108, r16_0_0_copyload);
+        store32(a1 + 112, r16_314_0_copyload);
+        a1[116] = r16_4_0_copyload;
+        memset(a1 + 117, 0, 3);
+        store32(a1 + 120, r16_515_0_copyload);
+        store16(a1 + 124, a3);
+        store16(a1 + 126, a4);
+        store32(a1 + 128, 0);
+        size_t r33_0_0_copyload = load_size(a11);
+        size_t r33_3_0_copyload = load_size(a11 + 8);
+        dfu_asks_asking_Asking_advance(r0, a1, a7, a8, a9, a10, (unsigned char *)(uintptr_t)r33_0_0_copyload, r33_3_0_copyload, a13);
+        uint8_t v3 = *r0;
+        uint8_t v4 = r0[1];
+        size_t v5 = load_size(r0 + 8);
+        r35_0_1 = v3;
+        r35_7_1 = v4;
+        r35_1343_1 = v5;
+dfu_asks_asking_Asking_start_exit:
+        r35_0_0 = r35_0_1;
+        r35_7_0 = r35_7_1;
+        r35_1343_0 = r35_1343_1;
+        break;
+    }
+    default: never();
+    }
+    *a0 = r35_0_0;
+    a0[1] = r35_7_0;
+    store_size(a0 + 8, r35_1343_0);
+    return;
+}
+
+/* dfu_asks::asking::Asking::block_job: crates/dfu_asks/src/start.rt */
+static void dfu_asks_asking_Asking_block_job(unsigned char *a0, unsigned char *a1, uint32_t a2, unsigned char *a3, unsigned char *a4) {
+    uint32_t r14, r45_sink;
+    uint8_t sink;
+    size_t r43_sink;
+    r14 = load32(a4 + 4);
+    if (a2 == 0) {
+        uint8_t r2 = dfu_slots_read_byte_at(a3, r14);
+        sink = r2 == 165;
+        r43_sink = 0;
+        r45_sink = 0;
+    }
+    else {
+        size_t r43 = load_size(a1 + 72);
+        uint32_t r45 = load32(a1 + 80);
+        sink = 0;
+        r43_sink = r43;
+        r45_sink = r45;
+    }
+    store32(a0, 0);
+    store32(a0 + 4, r14);
+    a0[8] = sink;
+    store32(a0 + 12, 0);
+    store_size(a0 + 16, r43_sink);
+    store32(a0 + 24, r45_sink);
+    return;
+}
+#endif
 
 /* dfu_device::table::decide: crates/dfu_device/src/table.rt */
 static void dfu_device_table_decide(unsigned char *a0, unsigned char *a1, unsigned char *a2, unsigned char *a3) {
@@ -3103,7 +3783,7 @@ static void dfu_device_table_decide(unsigned char *a0, unsigned char *a1, unsign
 /* dfu_device_c::power::start: crates/dfu_device_c/src/power.rt */
 static uint32_t dfu_device_c_power_start(unsigned char *a0, unsigned char *a1, unsigned char *a2, size_t a3, uint32_t a4) {
     _Alignas(4) unsigned char r7[52];
-    _Alignas(4) unsigned char r8[18];
+    unsigned char *const r8 = r7;
     uint32_t common_ret_op;
     dfu_core_config_settings_of(r7, a0);
     uint8_t r14 = *r7;
@@ -3126,6 +3806,26 @@ static uint32_t dfu_device_c_power_start(unsigned char *a0, unsigned char *a1, u
     }
     return common_ret_op;
 }
+#ifdef DFU_READ
+
+/* dfu_asks::blank::is_erased: crates/dfu_asks/src/blank.rt */
+static uint8_t dfu_asks_blank_is_erased(unsigned char *a0, size_t a2, uint64_t a3) {
+    uint64_t r3_6_0;
+    unsigned char *r3_0_0_in;
+    uint8_t r7;
+    r3_6_0 = a3;
+    r3_0_0_in = a0 + a2;
+    for (;;) {
+        r7 = r3_6_0 == 0;
+        if (r7) break;
+        uint8_t r37 = dfu_slots_read_flash_byte_at(r3_0_0_in, 0);
+        if (r37 != 255) break;
+        r3_6_0 = r3_6_0 - 1;
+        r3_0_0_in = r3_0_0_in + 1;
+    }
+    return r7;
+}
+#endif
 
 /* dfu_core_code: crates/dfu_device_c/src/tells.rt */
 int32_t dfu_core_code(const struct dfu_record *record) {
@@ -3151,7 +3851,7 @@ int32_t dfu_core_image(const struct dfu_config *config, const uint8_t *flash, si
     size_t a2 = (size_t)size;
     unsigned char *a3 = (unsigned char *)(uintptr_t)place;
     _Alignas(4) unsigned char r5[52];
-    _Alignas(4) unsigned char r10[18];
+    unsigned char *const r10 = r5;
     uint8_t r3_2_0_copyload;
     uint32_t r3_31_0_copyload, common_ret_op;
     dfu_core_config_settings_of(r5, a0);
@@ -3361,9 +4061,9 @@ int32_t dfu_core_format_start(const struct dfu_config *config, struct dfu_record
     size_t a3 = (size_t)size;
     unsigned char *a4 = (unsigned char *)(uintptr_t)image;
     size_t a5 = (size_t)length;
-    _Alignas(4) unsigned char r8[52];
-    _Alignas(8) unsigned char r7[24];
-    unsigned char *const r3 = r7;
+    _Alignas(8) unsigned char r8[52];
+    unsigned char *const r7 = r8;
+    unsigned char *const r3 = r8;
     unsigned char *r13;
     uint32_t r5_31_0_copyload, common_ret_op;
     uint8_t r5_2_0_copyload;
@@ -3410,8 +4110,8 @@ int32_t dfu_core_format_took(const struct dfu_config *config, struct dfu_record 
     size_t a5 = (size_t)length;
     uint32_t a6 = failed;
     _Alignas(8) unsigned char r3[112];
+    unsigned char *const r7 = r3;
     _Alignas(8) unsigned char r5[112];
-    _Alignas(4) unsigned char r7[52];
     _Alignas(4) unsigned char r8[28];
     _Alignas(4) unsigned char r6[24];
     unsigned char *r4, *r13, *r30;
@@ -3615,6 +4315,7 @@ dfu_device_c_format_dfu_core_format_next_exit:
     return signed32(common_ret_op);
 }
 
+#ifndef DFU_READ
 /* dfu_core_next: crates/dfu_device_c/src/calls.rt */
 int32_t dfu_core_next(const struct dfu_config *config, const struct dfu_record *record, const uint8_t *block, size_t most, const uint8_t *flash, size_t size, struct dfu_ask *ask) {
     unsigned char *a0 = (unsigned char *)(uintptr_t)config;
@@ -3625,10 +4326,10 @@ int32_t dfu_core_next(const struct dfu_config *config, const struct dfu_record *
     size_t a5 = (size_t)size;
     unsigned char *a6 = (unsigned char *)(uintptr_t)ask;
     _Alignas(8) unsigned char r5[144];
+    unsigned char *const r7 = r5;
     _Alignas(8) unsigned char r10[112];
-    _Alignas(8) unsigned char r7[24];
     _Alignas(4) unsigned char r18[16];
-    _Alignas(4) unsigned char r16[12];
+    unsigned char *const r15 = r18;
     unsigned char *r4, *r13, *r26, *r62, *v2;
     uint16_t r54;
     uint8_t r5_0_0_copyload, r11_0_0_copyload;
@@ -3691,19 +4392,19 @@ int32_t dfu_core_next(const struct dfu_config *config, const struct dfu_record *
                     r11_8_0_copyload = load_size(r10 + 88);
                     uint8_t r72 = dfu_asks_next_and_took_is_sound(r6_0_0_copyload, r69);
                     if (r72) {
-                        size_t r2412 = a5 >> 1;
-                        a1_2 = (size_t)((r11_6_0_copyload < (uint64_t)r2412) ? 0 : r2412);
-                        if ((uint64_t)(a1_2 + r2412) >= ((uint64_t)r11_8_0_copyload + r11_6_0_copyload)) {
-                            uint8_t r45 = r13[a1_2];
-                            if (r45 == 165) {
+                        size_t r2313 = a5 >> 1;
+                        a1_2 = (size_t)((r11_6_0_copyload < (uint64_t)r2313) ? 0 : r2313);
+                        if ((uint64_t)(a1_2 + r2313) >= ((uint64_t)r11_8_0_copyload + r11_6_0_copyload)) {
+                            uint8_t r3_0_0_copyload = r13[a1_2];
+                            if (r3_0_0_copyload == 165) {
                                 store_size(r7, (size_t)(uintptr_t)r13);
                                 store_size(r7 + 8, a5);
                                 r7[16] = r5_0_0_copyload;
                                 store32(r7 + 20, r6_0_0_copyload);
-                                dfu_slots_places_check(r16, r7);
-                                uint8_t r65 = *r16;
-                                if (r65 != 0) goto dfu_asks_next_and_took_is_spare_exit_thread;
-                                uint32_t r8_2_0_copyload = load32(r16 + 8);
+                                dfu_slots_places_check(r15, r7);
+                                uint8_t r64 = *r15;
+                                if (r64 != 0) goto dfu_asks_next_and_took_is_spare_exit_thread;
+                                uint32_t r8_2_0_copyload = load32(r15 + 8);
                                 if (a1_2 != (size_t)r8_2_0_copyload) goto dfu_asks_asking_Asking_next_exit_thread37;
                             }
                             dfu_asks_cut_fill(r10, r62);
@@ -3726,6 +4427,119 @@ dfu_asks_asking_Asking_next_exit_thread37:
 dfu_device_c_calls_dfu_core_next_exit:
     return signed32(common_ret_op);
 }
+#else
+/* dfu_core_next: crates/dfu_device_c/src/calls.rt */
+int32_t dfu_core_next(const struct dfu_config *config, const struct dfu_record *record, const uint8_t *block, size_t most, const uint8_t *flash, size_t size, struct dfu_ask *ask) {
+    unsigned char *a0 = (unsigned char *)(uintptr_t)config;
+    unsigned char *a1 = (unsigned char *)(uintptr_t)record;
+    unsigned char *a2 = (unsigned char *)(uintptr_t)block;
+    size_t a3 = (size_t)most;
+    unsigned char *a4 = (unsigned char *)(uintptr_t)flash;
+    size_t a5 = (size_t)size;
+    unsigned char *a6 = (unsigned char *)(uintptr_t)ask;
+    _Alignas(8) unsigned char r5[144];
+    unsigned char *const r7 = r5;
+    _Alignas(8) unsigned char r10[112];
+    _Alignas(4) unsigned char r18[16];
+    unsigned char *const r15 = r18;
+    unsigned char *r4, *r13, *r26, *r62, *v2;
+    uint16_t r54;
+    uint8_t r5_0_0_copyload, r11_0_0_copyload;
+    uint32_t r6_0_0_copyload, common_ret_op;
+    uint64_t r11_6_0_copyload;
+    size_t r11_8_0_copyload, a1_2;
+    r4 = a2;
+    r13 = a4;
+    r26 = r5 + 1;
+    *r26 = 4;
+    dfu_core_keeping_found(a0, a1, a3, r5);
+    uint8_t r32 = *r5;
+    if (r32 != 0) {
+        uint8_t r17_0_0_copyload = *r26;
+        uint32_t switch_load = (uint32_t)switch_table_dfu_core_numbers_Refusal_number[(size_t)r17_0_0_copyload];
+        common_ret_op = switch_load;
+    }
+    else {
+        if (wide(a5) > 0xffffffffU) common_ret_op = 0xfffffffcU;
+        else {
+            r54 = load16(a0 + 12);
+            r62 = a6 + 12;
+            v2 = r18 + 8;
+            store32(v2, 0);
+            uint8_t r29 = r5[112];
+            if (r29 == 1) {
+                size_t r1 = (size_t)r54;
+                uint32_t r13_3_9_0_copyload = load32(r5 + 136);
+                uint32_t r13_3_7_0_copyload = load32(r5 + 128);
+                uint8_t r13_3_5_0_copyload = r5[124];
+                uint32_t r13_3_4_0_copyload = load32(r5 + 120);
+                uint8_t r13_3_0_0_copyload = r5[116];
+                r5_0_0_copyload = r5[48];
+                r6_0_0_copyload = load32(r5 + 52);
+                uint32_t r17 = load32(r5 + 88);
+                size_t r8 = load_size(r5 + 80);
+                size_t r26_2 = load_size(r5 + 72);
+                *r10 = r5_0_0_copyload;
+                memset(r10 + 1, 0, 3);
+                store32(r10 + 4, r6_0_0_copyload);
+                store32(r10 + 8, r17);
+                store32(r10 + 12, 0);
+                store64(r10 + 16, (size_t)(uintptr_t)(r4 + r1));
+                store64(r10 + 24, (size_t)umin64((uint64_t)a3 - (uint64_t)r1, r8));
+                store64(r10 + 32, (size_t)(uintptr_t)r4);
+                store64(r10 + 40, umin_size(r1, r26_2));
+                store64(r10 + 48, (size_t)r13_3_9_0_copyload);
+                memset(r10 + 56, 0, 40);
+                r10[96] = 4;
+                memset(r10 + 97, 0, 15);
+                store32(r18, (uint32_t)r13_3_0_0_copyload);
+                store32(r18 + 4, r13_3_4_0_copyload);
+                *v2 = r13_3_5_0_copyload;
+                store32(r18 + 12, r13_3_7_0_copyload);
+                uint8_t r57 = dfu_asks_next_piece_next_piece(r18, r10);
+                if (r57) {
+                    unsigned char *r69 = r10 + 72;
+                    r11_0_0_copyload = *r69;
+                    r11_6_0_copyload = load64(r10 + 80);
+                    r11_8_0_copyload = load_size(r10 + 88);
+                    uint8_t r72 = dfu_asks_next_and_took_is_sound(r6_0_0_copyload, r69);
+                    if (r72) {
+                        size_t r2313 = a5 >> 1;
+                        a1_2 = (size_t)((r11_6_0_copyload < (uint64_t)r2313) ? 0 : r2313);
+                        if ((uint64_t)(a1_2 + r2313) >= ((uint64_t)r11_8_0_copyload + r11_6_0_copyload)) {
+                            uint8_t r44 = dfu_slots_read_flash_byte_at(r13, a1_2);
+                            if (r44 == 165) {
+                                store_size(r7, (size_t)(uintptr_t)r13);
+                                store_size(r7 + 8, a5);
+                                r7[16] = r5_0_0_copyload;
+                                store32(r7 + 20, r6_0_0_copyload);
+                                dfu_slots_places_check(r15, r7);
+                                uint8_t r64 = *r15;
+                                if (r64 != 0) goto dfu_asks_next_and_took_is_spare_exit_thread;
+                                uint32_t r8_2_0_copyload = load32(r15 + 8);
+                                if (a1_2 != (size_t)r8_2_0_copyload) goto dfu_asks_asking_Asking_next_exit_thread37;
+                            }
+                            dfu_asks_cut_fill(r10, r62);
+                            store32(a6, (uint32_t)((r11_0_0_copyload & 1) ? 1 : 2));
+                            store32(a6 + 4, (uint32_t)r11_6_0_copyload);
+                            store32(a6 + 8, (uint32_t)r11_8_0_copyload);
+                            common_ret_op = 0;
+                            goto dfu_device_c_calls_dfu_core_next_exit;
+                        }
+dfu_asks_next_and_took_is_spare_exit_thread:
+dfu_asks_asking_Asking_next_exit_thread37:
+                        common_ret_op = 0xfffffffcU;
+                        goto dfu_device_c_calls_dfu_core_next_exit;
+                    }
+                }
+            }
+            common_ret_op = 0xfffffffcU;
+        }
+    }
+dfu_device_c_calls_dfu_core_next_exit:
+    return signed32(common_ret_op);
+}
+#endif
 
 /* dfu_core_took: crates/dfu_device_c/src/calls.rt */
 int32_t dfu_core_took(const struct dfu_config *config, struct dfu_record *record, uint8_t *block, size_t most, const uint8_t *flash, size_t size, uint32_t failed, uint8_t *out, size_t room) {
@@ -3779,7 +4593,7 @@ int32_t dfu_core_took(const struct dfu_config *config, struct dfu_record *record
                 r9_113_0_copyload = load16(r7 + 134);
                 r9_13_0_r65_sroa_idx = r7 + 136;
                 r9_13_0_copyload = load32(r9_13_0_r65_sroa_idx);
-                r91 = dfu_asks_asking_Asking_look_at(r58, r65, r4, r1, r19, r21, r13, a5);
+                r91 = dfu_asks_asking_Asking_look_at(r58, r65, r4, r1, r19, capped_size(r21), r13, a5);
                 r92 = (size_t)r91.a;
                 if (r92 != 0) {
                     if (!(r92_not & (r91.b & 1))) {
@@ -3792,7 +4606,7 @@ int32_t dfu_core_took(const struct dfu_config *config, struct dfu_record *record
                         store32(r65, (uint32_t)r9_0_0_copyload);
                         store16(r9_9_0_r65_sroa_idx, r9_9_0_copyload);
                         store32(r9_13_0_r65_sroa_idx, r9_13_0_copyload + (uint32_t)r92);
-                        dfu_asks_asking_Asking_advance(r40, r58, r4, r1, r19, r21, r13, a5, r22);
+                        dfu_asks_asking_Asking_advance(r40, r58, r4, r1, r19, capped_size(r21), r13, a5, r22);
                         uint8_t r0_1928_8_copyload32 = *r40;
                         uint8_t r0_26_9_copyload37 = r40[1];
                         size_t r0_3339_16_copyload43 = load_size(r40 + 8);
@@ -3936,6 +4750,7 @@ int32_t dfu_core_refuse_close(const struct dfu_config *config, struct dfu_record
     return signed32(common_ret_op);
 }
 
+#ifndef DFU_READ
 /* dfu_core_candidate: crates/dfu_device_c/src/image.rt */
 int32_t dfu_core_candidate(const struct dfu_config *config, const struct dfu_record *record, const uint8_t *flash, size_t size, struct dfu_place *place) {
     unsigned char *a0 = (unsigned char *)(uintptr_t)config;
@@ -4018,7 +4833,92 @@ int32_t dfu_core_candidate(const struct dfu_config *config, const struct dfu_rec
 dfu_device_c_image_dfu_core_candidate_exit:
     return signed32(common_ret_op);
 }
+#else
+/* dfu_core_candidate: crates/dfu_device_c/src/image.rt */
+int32_t dfu_core_candidate(const struct dfu_config *config, const struct dfu_record *record, const uint8_t *flash, size_t size, struct dfu_place *place) {
+    unsigned char *a0 = (unsigned char *)(uintptr_t)config;
+    unsigned char *a1 = (unsigned char *)(uintptr_t)record;
+    unsigned char *a2 = (unsigned char *)(uintptr_t)flash;
+    size_t a3 = (size_t)size;
+    unsigned char *a4 = (unsigned char *)(uintptr_t)place;
+    _Alignas(8) unsigned char r3[144];
+    _Alignas(8) unsigned char r3_2[24];
+    _Alignas(4) unsigned char r13[20];
+    unsigned char *r4, *r19;
+    uint32_t r11_0_0_copyload, r4_2_0_copyload, v4, common_ret_op;
+    uint8_t r10_0_0_copyload, r2_0_0, r13_0_0_copyload_sink;
+    r4 = a2;
+    r19 = r3 + 1;
+    *r19 = 4;
+    dfu_core_keeping_found(a0, a1, 4352, r3);
+    uint8_t r22 = *r3;
+    if (r22 != 0) {
+        uint8_t r13_0_0_copyload = *r19;
+        r13_0_0_copyload_sink = r13_0_0_copyload;
+    }
+    else {
+        uint8_t r2 = r3[112];
+        if (r2 == 1) r2_0_0 = 2;
+        else {
+            if (wide(a3) > 0xffffffffU) r2_0_0 = 3;
+            else {
+                r11_0_0_copyload = load32(r3 + 52);
+                r10_0_0_copyload = r3[48];
+                store_size(r3_2, (size_t)(uintptr_t)r4);
+                store_size(r3_2 + 8, a3);
+                r3_2[16] = r10_0_0_copyload;
+                store32(r3_2 + 20, r11_0_0_copyload);
+                dfu_asks_noted_look(r13, r3_2, r3 + 92);
+                uint8_t r65 = *r13;
+                if (r65 != 1) r2_0_0 = 3;
+                else {
+                    r4_2_0_copyload = load32(r13 + 8);
+                    uint8_t v3 = r3[56];
+                    v4 = load32(r3 + 60);
+                    switch (v3) {
+                    case 6:
+                    case 7:
+                    case 9: {
+                        uint32_t r4_3_0_copyload = load32(r13 + 12);
+                        if (r4_3_0_copyload >= v4) {
+                            size_t v5 = (size_t)r10_0_0_copyload;
+                            uint32_t switch_load = (uint32_t)switch_table_dfu_asks_next_piece_numbered_piece[v5];
+                            uint32_t switch_load_2 = (uint32_t)switch_table_dfu_core_candidate[v5];
+                            store32(a4, (umax32(r11_0_0_copyload, switch_load) << 1) + r4_2_0_copyload);
+                            store32(a4 + 4, switch_load_2 & v4);
+                            common_ret_op = 0;
+                            goto dfu_device_c_image_dfu_core_candidate_exit;
+                        }
+                        r2_0_0 = 4;
+                        break;
+                    }
+                    case 0:
+                    case 1:
+                    case 2:
+                    case 3:
+                    case 4:
+                    case 5:
+                    case 8:
+                    case 10:
+                    case 11:
+                    case 12:
+                        common_ret_op = 0xffffffecU;
+                        goto dfu_device_c_image_dfu_core_candidate_exit;
+                    default: never();
+                    }
+                }
+            }
+        }
+        r13_0_0_copyload_sink = r2_0_0;
+    }
+    uint32_t switch_load_3 = (uint32_t)switch_table_dfu_core_numbers_Refusal_number[(size_t)r13_0_0_copyload_sink];
+    common_ret_op = switch_load_3;
+dfu_device_c_image_dfu_core_candidate_exit:
+    return signed32(common_ret_op);
+}
+#endif
 
+#ifndef DFU_READ
 /* dfu_core_elapse: crates/dfu_device_c/src/calls.rt */
 int32_t dfu_core_elapse(const struct dfu_config *config, struct dfu_record *record, uint8_t *block, size_t most, const uint8_t *flash, size_t size, uint32_t ms) {
     unsigned char *a0 = (unsigned char *)(uintptr_t)config;
@@ -4031,8 +4931,8 @@ int32_t dfu_core_elapse(const struct dfu_config *config, struct dfu_record *reco
     _Alignas(8) unsigned char r5[144];
     _Alignas(8) unsigned char r19_2[48];
     _Alignas(8) unsigned char r23[48];
+    unsigned char *const r29 = r23;
     _Alignas(4) unsigned char r12[24];
-    _Alignas(8) unsigned char r29[16];
     _Alignas(1) unsigned char r13_2[6];
     unsigned char *r4, *r13, *r35, *r44, *r19, *r5_2, *v3, *r0_6_0_a0_sroa_idx;
     size_t r1;
@@ -4175,7 +5075,7 @@ int32_t dfu_core_elapse(const struct dfu_config *config, struct dfu_record *reco
                 store32(r12 + 8, r18_16_0);
                 store32(r12 + 12, r18_21_0);
                 store32(r12 + 16, r18_26_0);
-                dfu_asks_asking_Asking_carry_out(r29, r44, r12, 0, 0, PLACE(static_2), 0, r4, r1, r19, r21, r5_2, v3, r13_2, 6);
+                dfu_asks_asking_Asking_carry_out(r29, r44, r12, 0, 0, PLACE(static_2), 0, r4, r1, r19, capped_size(r21), r5_2, v3, r13_2, 6);
                 uint8_t v9 = *r29;
                 dfu_core_keeping_keep(r44, a1);
                 common_ret_op = (uint32_t)((v9 == 0) ? 0xfffffff5U : 0);
@@ -4190,6 +5090,180 @@ int32_t dfu_core_elapse(const struct dfu_config *config, struct dfu_record *reco
 dfu_device_c_calls_dfu_core_elapse_exit:
     return signed32(common_ret_op);
 }
+#else
+/* dfu_core_elapse: crates/dfu_device_c/src/calls.rt */
+int32_t dfu_core_elapse(const struct dfu_config *config, struct dfu_record *record, uint8_t *block, size_t most, const uint8_t *flash, size_t size, uint32_t ms) {
+    unsigned char *a0 = (unsigned char *)(uintptr_t)config;
+    unsigned char *a1 = (unsigned char *)(uintptr_t)record;
+    unsigned char *a2 = (unsigned char *)(uintptr_t)block;
+    size_t a3 = (size_t)most;
+    unsigned char *a4 = (unsigned char *)(uintptr_t)flash;
+    size_t a5 = (size_t)size;
+    uint32_t a6 = ms;
+    _Alignas(8) unsigned char r5[144];
+    _Alignas(8) unsigned char r19_2[48];
+    _Alignas(8) unsigned char r23[48];
+    unsigned char *const r29 = r23;
+    _Alignas(4) unsigned char r12[24];
+    _Alignas(1) unsigned char r13_2[6];
+    unsigned char *r4, *r13, *r35, *r44, *r19, *r5_2, *v3, *r0_6_0_a0_sroa_idx;
+    size_t r1;
+    uint64_t r21, r21_2, r16, r19_3;
+    uint32_t r2_2, r2_3, v5, v6, v7, r18_1148_0, r18_16_0, r18_21_0, r18_26_0, common_ret_op;
+    uint8_t r11_2_0_copyload, r11_3_0_copyload, v4, r18_0_0, r18_0_0_copyload_sink;
+    r4 = a2;
+    r13 = a4;
+    r35 = r5 + 1;
+    *r35 = 4;
+    dfu_core_keeping_found(a0, a1, a3, r5);
+    uint8_t r42 = *r5;
+    if (r42 != 0) {
+        uint8_t r18_0_0_copyload = *r35;
+        r18_0_0_copyload_sink = r18_0_0_copyload;
+    }
+    else {
+        r44 = r5 + 8;
+        uint16_t r59 = load16(a0 + 12);
+        r1 = (size_t)r59;
+        r19 = r4 + r1;
+        r21 = (uint64_t)a3 - (uint64_t)r1;
+        store32(r12, 0);
+        uint8_t r2 = r5[112];
+        if (r2 == 1) r18_0_0_copyload_sink = 2;
+        else {
+            dfu_asks_asking_Asking_see(r19_2, r44, r1, r13, a5);
+            uint8_t r1_0_0_copyload = *r19_2;
+            if (r1_0_0_copyload == 0) {
+                r5_2 = r19_2 + 8;
+                v3 = r19_2 + 32;
+                memcpy(r23, r5 + 14, 10);
+                r2_2 = load32(r5 + 28);
+                r2_3 = load32(r5 + 32);
+                r0_6_0_a0_sroa_idx = r23 + 24;
+                memcpy(r0_6_0_a0_sroa_idx, r5 + 36, 12);
+                r11_2_0_copyload = r23[2];
+                r11_3_0_copyload = r23[3];
+                v4 = r5[56];
+                v5 = load32(r5 + 60);
+                v6 = load32(r5 + 64);
+                v7 = load32(r5 + 68);
+                switch (v4) {
+                case 1:
+                    r21_2 = (uint64_t)(size_t)v6 + (uint64_t)(size_t)a6;
+                    if (a6 == 0) {
+                        r18_0_0 = 0;
+                        r18_1148_0 = 1;
+                        r18_16_0 = v5;
+                        r18_21_0 = v6;
+                        r18_26_0 = 0;
+                    }
+                    else {
+                        if (r11_3_0_copyload & 1) {
+                            r18_0_0 = 0;
+                            r18_1148_0 = 2;
+                            r18_16_0 = 0;
+                            r18_21_0 = 0;
+                            r18_26_0 = 0;
+                        }
+                        else {
+                            if (r21_2 < (uint64_t)(size_t)umax32(v5, 1)) {
+                                r18_0_0 = 0;
+                                r18_1148_0 = 1;
+                                r18_16_0 = v5;
+                                r18_21_0 = (uint32_t)r21_2;
+                                r18_26_0 = 0;
+                            }
+                            else {
+                                r18_0_0 = 0;
+                                r18_1148_0 = 0;
+                                r18_16_0 = 0;
+                                r18_21_0 = 0;
+                                r18_26_0 = 0;
+                            }
+                        }
+                    }
+                    break;
+                case 5: {
+                    size_t r95 = load_size(r5 + 72);
+                    r16 = (uint64_t)(size_t)v7 + (uint64_t)(size_t)a6;
+                    uint32_t r21_3 = dfu_device_time_table_block_ms(r0_6_0_a0_sroa_idx, r2_2, v5, r95);
+                    if ((a6 == 0) ? 1 : (r16 < (uint64_t)(size_t)r21_3)) {
+                        r18_0_0 = 0;
+                        r18_1148_0 = 5;
+                        r18_16_0 = v5;
+                        r18_21_0 = v6 & 0xffffU;
+                        r18_26_0 = (uint32_t)r16;
+                    }
+                    else {
+                        r18_0_0 = 3;
+                        r18_1148_0 = v5;
+                        r18_16_0 = (v6 & 0xffffU) | 0x10000U;
+                        r18_21_0 = 0;
+                        r18_26_0 = 0;
+                    }
+                    break;
+                }
+                case 9: {
+                    r19_3 = (uint64_t)(size_t)v6 + (uint64_t)(size_t)a6;
+                    uint32_t r24 = dfu_device_time_table_image_ms(r0_6_0_a0_sroa_idx, r2_3, v5);
+                    if ((a6 == 0) ? 1 : (r19_3 < (uint64_t)(size_t)r24)) {
+                        r18_0_0 = 0;
+                        r18_1148_0 = 9;
+                        r18_16_0 = v5;
+                        r18_21_0 = (uint32_t)r19_3;
+                        r18_26_0 = 0;
+                    }
+                    else {
+                        r18_0_0 = 4;
+                        r18_1148_0 = v5;
+                        r18_16_0 = (uint32_t)((r11_2_0_copyload & 1) ? 8 : 10);
+                        r18_21_0 = 0;
+                        r18_26_0 = 0;
+                    }
+                    break;
+                }
+                case 0:
+                case 2:
+                case 3:
+                case 4:
+                case 6:
+                case 7:
+                case 8:
+                case 10:
+                case 11:
+                case 12: {
+                    uint8_t v8 = r5[57];
+                    r18_0_0 = 0;
+                    r18_1148_0 = ((uint32_t)v8 << 8) | (uint32_t)v4;
+                    r18_16_0 = v5;
+                    r18_21_0 = v6;
+                    r18_26_0 = v7;
+                    break;
+                }
+                default: never();
+                }
+                *r12 = r18_0_0;
+                store32(r12 + 4, r18_1148_0);
+                store32(r12 + 8, r18_16_0);
+                store32(r12 + 12, r18_21_0);
+                store32(r12 + 16, r18_26_0);
+                memset(r13_2, 0, 6);
+                dfu_asks_asking_Asking_carry_out(r29, r44, r12, 0, 0, PLACE(static_2), 0, r4, r1, r19, capped_size(r21), r5_2, v3, r13_2, 6);
+                uint8_t v9 = *r29;
+                dfu_core_keeping_keep(r44, a1);
+                common_ret_op = (uint32_t)((v9 == 0) ? 0xfffffff5U : 0);
+                goto dfu_device_c_calls_dfu_core_elapse_exit;
+            }
+            uint8_t r1_3_1_copyload = r19_2[1];
+            r18_0_0_copyload_sink = (uint8_t)((uint32_t)0x4040302U >> (((uint32_t)r1_3_1_copyload << 3) & 31));
+        }
+    }
+    uint32_t switch_load = (uint32_t)switch_table_dfu_core_numbers_Refusal_number[(size_t)r18_0_0_copyload_sink];
+    common_ret_op = switch_load;
+dfu_device_c_calls_dfu_core_elapse_exit:
+    return signed32(common_ret_op);
+}
+#endif
 
 /* dfu_core_usb_reset: crates/dfu_device_c/src/calls.rt */
 int32_t dfu_core_usb_reset(const struct dfu_config *config, struct dfu_record *record, uint8_t *block, size_t most, const uint8_t *flash, size_t size) {
@@ -4259,12 +5333,12 @@ int32_t dfu_core_handle(const struct dfu_config *config, struct dfu_record *reco
     size_t a10 = (size_t)room;
     _Alignas(8) unsigned char r9[144];
     _Alignas(8) unsigned char r12[48];
+    unsigned char *const r10 = r12;
     _Alignas(8) unsigned char r27[48];
-    _Alignas(4) unsigned char r21_2[24];
-    _Alignas(4) unsigned char r10[24];
+    _Alignas(8) unsigned char r21_2[24];
+    unsigned char *const r0 = r21_2;
+    unsigned char *const r12_2 = r21_2;
     _Alignas(4) unsigned char r1_2[16];
-    _Alignas(8) unsigned char r0[16];
-    _Alignas(8) unsigned char r12_2[8];
     _Alignas(4) unsigned char r13_2[6];
     unsigned char *r4, *r13, *r22, *r31, *r59, *r68, *r19, *r5, *v7;
     uint16_t r4_2, r9_0, r9_0_2, r16_24_0;
@@ -4383,7 +5457,7 @@ arm_8:
                         store32(r10 + 8, r16_12_0);
                         store32(r10 + 12, r16_15_0);
                         store32(r10 + 16, r16_18_0);
-                        dfu_asks_asking_Asking_carry_out(r0, r68, r10, 1, r16_24_0, r22, a8, r4, r1, r19, r21, r5, v7, r31, a10);
+                        dfu_asks_asking_Asking_carry_out(r0, r68, r10, 1, r16_24_0, r22, a8, r4, r1, r19, capped_size(r21), r5, v7, r31, a10);
                         uint8_t v22 = *r0;
                         v23 = r0[1];
                         v24 = load_size(r0 + 8);
@@ -4468,17 +5542,18 @@ int32_t dfu_core_closes(const struct dfu_config *config, const struct dfu_record
     return signed32(common_ret_op);
 }
 
+#ifndef DFU_READ
 /* dfu_core_is_blank: crates/dfu_device_c/src/blank.rt */
 int32_t dfu_core_is_blank(const struct dfu_config *config, const uint8_t *flash, size_t size) {
     unsigned char *a0 = (unsigned char *)(uintptr_t)config;
     unsigned char *a1 = (unsigned char *)(uintptr_t)flash;
     size_t a2 = (size_t)size;
-    _Alignas(4) unsigned char r7[52];
-    _Alignas(8) unsigned char r5[24];
-    unsigned char *r4, *r9_0_0_in, *r9_0_0_in_2;
+    _Alignas(8) unsigned char r7[52];
+    unsigned char *const r5 = r7;
+    unsigned char *r4, *r3_0_0_in, *r3_0_0_in_2;
     uint8_t r3_2_0_copyload;
     uint32_t r1_4_0, common_ret_op;
-    uint64_t r26, r23, r23_2;
+    uint64_t r26, r3_6_0, r3_6_0_2;
     uint8_t r7_2;
     r4 = a1;
     dfu_core_config_settings_of(r7, a0);
@@ -4487,7 +5562,7 @@ int32_t dfu_core_is_blank(const struct dfu_config *config, const uint8_t *flash,
     else {
         r3_2_0_copyload = r7[44];
         uint32_t r3_31_0_copyload = load32(r7 + 48);
-        uint8_t or_cond = (r3_31_0_copyload < 0x20001U) & ((r3_31_0_copyload & 255) == 0);
+        uint8_t or_cond = (r3_31_0_copyload < 0x40001U) & ((r3_31_0_copyload & 255) == 0);
         r1_4_0 = (uint32_t)(or_cond ? r3_31_0_copyload : 0);
         if (!((wide(a2) < 0x100000000ULL) & or_cond)) common_ret_op = 0xfffffffdU;
         else {
@@ -4499,26 +5574,26 @@ int32_t dfu_core_is_blank(const struct dfu_config *config, const uint8_t *flash,
             else {
                 uint32_t switch_load = (uint32_t)switch_table_dfu_asks_next_piece_numbered_piece[(size_t)r3_2_0_copyload];
                 r26 = (uint64_t)(size_t)umax32(r1_4_0, switch_load) << 1;
-                r9_0_0_in = r4;
-                r23 = r26;
-                while (r23 != 0) {
-                    uint8_t r2 = *r9_0_0_in;
-                    if (r2 != 255) {
+                r3_6_0 = r26;
+                r3_0_0_in = r4;
+                while (r3_6_0 != 0) {
+                    uint8_t r3_0_0_copyload = *r3_0_0_in;
+                    if (r3_0_0_copyload != 255) {
                         common_ret_op = 0;
                         goto dfu_device_c_blank_dfu_core_is_blank_exit;
                     }
-                    r9_0_0_in = r9_0_0_in + 1;
-                    r23 = r23 - 1;
+                    r3_6_0 = r3_6_0 - 1;
+                    r3_0_0_in = r3_0_0_in + 1;
                 }
-                r9_0_0_in_2 = r4 + (a2 >> 1);
-                r23_2 = r26;
+                r3_6_0_2 = r26;
+                r3_0_0_in_2 = r4 + (a2 >> 1);
                 for (;;) {
-                    r7_2 = r23_2 == 0;
+                    r7_2 = r3_6_0_2 == 0;
                     if (r7_2) break;
-                    uint8_t r2_2 = *r9_0_0_in_2;
-                    if (r2_2 != 255) break;
-                    r9_0_0_in_2 = r9_0_0_in_2 + 1;
-                    r23_2 = r23_2 - 1;
+                    uint8_t r3_0_0_copyload_2 = *r3_0_0_in_2;
+                    if (r3_0_0_copyload_2 != 255) break;
+                    r3_6_0_2 = r3_6_0_2 - 1;
+                    r3_0_0_in_2 = r3_0_0_in_2 + 1;
                 }
                 common_ret_op = (uint32_t)r7_2;
             }
@@ -4527,6 +5602,49 @@ int32_t dfu_core_is_blank(const struct dfu_config *config, const uint8_t *flash,
 dfu_device_c_blank_dfu_core_is_blank_exit:
     return signed32(common_ret_op);
 }
+#else
+/* dfu_core_is_blank: crates/dfu_device_c/src/blank.rt */
+int32_t dfu_core_is_blank(const struct dfu_config *config, const uint8_t *flash, size_t size) {
+    unsigned char *a0 = (unsigned char *)(uintptr_t)config;
+    unsigned char *a1 = (unsigned char *)(uintptr_t)flash;
+    size_t a2 = (size_t)size;
+    _Alignas(8) unsigned char r7[52];
+    unsigned char *const r5 = r7;
+    unsigned char *r4;
+    uint8_t r3_2_0_copyload;
+    uint32_t r1_4_0, common_ret_op;
+    uint64_t r26;
+    r4 = a1;
+    dfu_core_config_settings_of(r7, a0);
+    uint8_t r14 = *r7;
+    if (r14 != 1) common_ret_op = 0xfffffffeU;
+    else {
+        r3_2_0_copyload = r7[44];
+        uint32_t r3_31_0_copyload = load32(r7 + 48);
+        uint8_t or_cond = (r3_31_0_copyload < 0x40001U) & ((r3_31_0_copyload & 255) == 0);
+        r1_4_0 = (uint32_t)(or_cond ? r3_31_0_copyload : 0);
+        if (!((wide(a2) < 0x100000000ULL) & or_cond)) common_ret_op = 0xfffffffdU;
+        else {
+            store_size(r5 + 8, a2);
+            r5[16] = r3_2_0_copyload;
+            store32(r5 + 20, r1_4_0);
+            uint8_t r10 = dfu_slots_layout_is_sized(r5);
+            if (!r10) common_ret_op = 0xfffffffaU;
+            else {
+                uint32_t switch_load = (uint32_t)switch_table_dfu_asks_next_piece_numbered_piece[(size_t)r3_2_0_copyload];
+                r26 = (uint64_t)(size_t)umax32(r1_4_0, switch_load) << 1;
+                uint8_t r31 = dfu_asks_blank_is_erased(r4, 0, r26);
+                if (!r31) common_ret_op = 0;
+                else {
+                    uint8_t r50 = dfu_asks_blank_is_erased(r4, a2 >> 1, r26);
+                    common_ret_op = (uint32_t)r50;
+                }
+            }
+        }
+    }
+    return signed32(common_ret_op);
+}
+#endif
 
 /* dfu_core_would_stall: crates/dfu_device_c/src/stalls.rt */
 int32_t dfu_core_would_stall(const struct dfu_config *config, const struct dfu_record *record, size_t size, const uint8_t setup[8]) {
@@ -4534,11 +5652,11 @@ int32_t dfu_core_would_stall(const struct dfu_config *config, const struct dfu_r
     unsigned char *a1 = (unsigned char *)(uintptr_t)record;
     size_t a2 = (size_t)size;
     unsigned char *a3 = (unsigned char *)(uintptr_t)setup;
-    _Alignas(4) unsigned char r7[68];
+    _Alignas(8) unsigned char r7[68];
+    unsigned char *const r17 = r7;
+    unsigned char *const r18 = r7;
     _Alignas(8) unsigned char r12[48];
-    _Alignas(4) unsigned char r17[24];
     _Alignas(4) unsigned char r1[16];
-    _Alignas(8) unsigned char r18[8];
     _Alignas(4) unsigned char r10[6];
     _Alignas(4) unsigned char r16_2[6];
     uint32_t common_ret_op;

@@ -277,7 +277,7 @@ static const uint8_t switch_table_dfu_host_name_1[11] = {
 static uint8_t dfu_host_c_watching_is_other(unsigned char *a0, unsigned char *a1);
 static void dfu_formats_dfuse_file_read(unsigned char *a0, unsigned char *a1, size_t a2);
 static void dfu_suffix_parse_read_small(unsigned char *a0, unsigned char *a1, size_t a2);
-static void dfu_suffix_crc_Crc_update_small(unsigned char *a0, unsigned char *a1, uint64_t a2);
+static void dfu_suffix_crc_Crc_update_small(unsigned char *a0, unsigned char *a1, size_t a2);
 static void dfu_formats_dfuse_headings_take_heading(unsigned char *a0, unsigned char *a1, size_t a2);
 static void dfu_formats_dfuse_elements_take_element(unsigned char *a0, unsigned char *a1, size_t a2);
 static void dfu_formats_memory_map_Map_read(unsigned char *a0, unsigned char *a1, size_t a2);
@@ -375,8 +375,8 @@ static uint8_t dfu_host_c_watching_is_other(unsigned char *a0, unsigned char *a1
 static void dfu_formats_dfuse_file_read(unsigned char *a0, unsigned char *a1, size_t a2) {
     _Alignas(8) unsigned char r9[72];
     unsigned char *const r5 = r9;
+    unsigned char *const r5_2 = r9;
     _Alignas(8) unsigned char r8[48];
-    unsigned char *const r5_2 = r8;
     unsigned char *v1, *r5_2_0_r25_sroa_idx, *r5_32_0_r25_sroa_idx, *r5_4_0_r25_sroa_idx, *r5_5_0_r25_sroa_idx, *r5_5_3_0_r5_5_0_r25_sroa_idx_sroa_idx, *r4_2_0_r19_sroa_idx, *r4_3_0_r19_sroa_idx, *r21;
     size_t r2_0, wide_1311, r19, r3_0_0, r3_5_0, r5_5_0_0_copyload, r5_5_3_0_copyload, r3_0_0_2, r3_5_0_2, r6_26_0, r6_27_0;
     uint16_t r7_0_0, r7_0_0_2, r7_0_0_3, r6_17_1_0, r6_17_8_0, r6_17_9_0;
@@ -391,7 +391,7 @@ static void dfu_formats_dfuse_file_read(unsigned char *a0, unsigned char *a1, si
         case 3: {
             v1 = a1 + a2;
             store32(r5_2, 0xffffffffU);
-            dfu_suffix_crc_Crc_update_small(r5_2, a1, (uint64_t)a2 - 4);
+            dfu_suffix_crc_Crc_update_small(r5_2, a1, a2 - 4);
             uint32_t r15 = load32u(v1 - 4);
             uint32_t r1 = load32(r5_2);
             if (r15 == r1) {
@@ -793,20 +793,22 @@ static void dfu_suffix_parse_read_small(unsigned char *a0, unsigned char *a1, si
 }
 
 /* dfu_suffix::crc::Crc::update_small: crates/dfu_suffix/src/crc.rt */
-static void dfu_suffix_crc_Crc_update_small(unsigned char *a0, unsigned char *a1, uint64_t a2) {
-    uint64_t r4_0;
+static void dfu_suffix_crc_Crc_update_small(unsigned char *a0, unsigned char *a1, size_t a2) {
+    size_t r4_0;
     uint32_t r3_0;
     uint32_t r5 = load32(a0);
     r4_0 = 0;
     r3_0 = r5;
-    while (r4_0 != a2) {
-        uint8_t r23 = a1[(size_t)r4_0];
-        uint32_t r6 = r3_0 ^ (uint32_t)r23;
-        uint32_t r20 = load32(PLACE(static_0) + (size_t)((r6 << 2) & 60));
-        uint32_t r23_2 = (r6 >> 4) ^ r20;
-        uint32_t r20_2 = load32(PLACE(static_0) + (size_t)((r23_2 << 2) & 60));
-        r4_0 = r4_0 + 1;
-        r3_0 = (r23_2 >> 4) ^ r20_2;
+    if (r4_0 != a2) {
+        do {
+            uint8_t r23 = a1[r4_0];
+            uint32_t r6 = r3_0 ^ (uint32_t)r23;
+            uint32_t r20 = load32(PLACE(static_0) + (size_t)((r6 << 2) & 60));
+            uint32_t r23_2 = (r6 >> 4) ^ r20;
+            uint32_t r20_2 = load32(PLACE(static_0) + (size_t)((r23_2 << 2) & 60));
+            r4_0 = r4_0 + 1;
+            r3_0 = (r23_2 >> 4) ^ r20_2;
+        } while (r4_0 != a2);
     }
     store32(a0, r3_0);
     return;
@@ -905,16 +907,16 @@ static void dfu_formats_dfuse_elements_take_element(unsigned char *a0, unsigned 
 
 /* dfu_formats::memory::map::Map::read */
 static void dfu_formats_memory_map_Map_read(unsigned char *a0, unsigned char *a1, size_t a2) {
-    _Alignas(2) unsigned char r17_11[782];
+    _Alignas(8) unsigned char r17_11[782];
+    unsigned char *const r1 = r17_11;
+    unsigned char *const r12 = r17_11;
+    unsigned char *const r4 = r17_11;
+    unsigned char *const r5 = r17_11;
+    unsigned char *const r14 = r17_11;
     _Alignas(8) unsigned char r3[776];
+    unsigned char *const r9 = r3;
+    unsigned char *const r0_20 = r3;
     _Alignas(2) unsigned char r0_20_8[776];
-    _Alignas(8) unsigned char r9[776];
-    _Alignas(8) unsigned char r0_20[776];
-    _Alignas(8) unsigned char r1[768];
-    unsigned char *const r12 = r1;
-    unsigned char *const r4 = r1;
-    unsigned char *const r5 = r1;
-    _Alignas(8) unsigned char r14[32];
     size_t r19, wide_1311, r23, r7_3_0_copyload, r2_0, r5_0_0, r1_0, r8_17_0_0, r9_2, r11_2, r0_131_0;
     unsigned char *r16, *r4_0_0_in, *r11_3_0_r3_sroa_idx, *r20, *r3_3_0_r27_sroa_idx, *r3_4_0_r27_sroa_idx, *r16_2, *r3_3_0_r23_sroa_idx, *r3_4_0_r23_sroa_idx, *r43, *r5_3_0_r43_sroa_idx, *r5_3_3_0_r5_3_0_r43_sroa_idx_sroa_idx;
     unsigned char *r29_2, *r27_2, *r58139, *r16_4, *r17_11_8_r60_sroa_idx, *r26, *r16_5, *r10, *r14_2, *r23_2;
@@ -944,11 +946,13 @@ static void dfu_formats_memory_map_Map_read(unsigned char *a0, unsigned char *a1
                 r23 = r23 - 1;
                 r3_0 = r3_0 + 1;
             }
-            while (r4_0 != r3_0) {
-                uint64_t r27 = r4_0 + 1;
-                uint8_t r29 = r16[(size_t)r4_0];
-                r3_0_2 = (uint64_t)((r29 == 32) ? r3_0_2 : r27);
-                r4_0 = r27;
+            if (r4_0 != r3_0) {
+                do {
+                    uint64_t r27 = r4_0 + 1;
+                    uint8_t r29 = r16[(size_t)r4_0];
+                    r3_0_2 = (uint64_t)((r29 == 32) ? r3_0_2 : r27);
+                    r4_0 = r27;
+                } while (r4_0 != r3_0);
             }
             uint64_t r47 = r3_0 + 1;
             dfu_formats_memory_place_take_address(r14, r16 + (size_t)r47, (uint64_t)r19 - r47);
@@ -1719,7 +1723,7 @@ static void dfu_host_c_reports_report_at(unsigned char *a0, uint64_t a1, uint32_
 /* dfu_host_c::holding::session_of: crates/dfu_host_c/src/holding.rt */
 static void dfu_host_c_holding_session_of(unsigned char *a0, unsigned char *a1, unsigned char *a2, size_t a3) {
     _Alignas(4) unsigned char r31[3];
-    _Alignas(4) unsigned char r36_2[3];
+    unsigned char *const r36_2 = r31;
     size_t wide_16916, r3_12_0_0, r3_12_6_0, r3_7_0_0;
     uint8_t v0;
     uint32_t r36, r40, r6_158_0, r6_106_0, r6_106_0_2, r6_158_0_2, r79;
@@ -2143,19 +2147,12 @@ static void dfu_host_task_download(unsigned char *a0, size_t a1, size_t a3) {
 /* dfu_host::task::send: crates/dfu_host/src/task.rt */
 static void dfu_host_task_send(unsigned char *a0, unsigned char *a1, size_t a3) {
     _Alignas(4) unsigned char r12[10];
-    _Alignas(4) unsigned char r10[6];
-    uint8_t r2 = *a1;
-    uint16_t v0 = load16(a1 + 2);
-    uint16_t v1 = load16(a1 + 4);
-    store16(r10, r2);
-    store16(r10 + 2, v0);
-    store16(r10 + 4, v1);
-    dfu_wire_requests_Request_setup(r12, r10);
+    dfu_wire_requests_Request_setup(r12, a1);
     uint8_t r24 = *r12;
     if (r24 != 1) trap();
-    uint64_t v3 = load64a2(r12 + 2);
+    uint64_t v1 = load64a2(r12 + 2);
     *a0 = 0;
-    store64u(a0 + 1, v3);
+    store64u(a0 + 1, v1);
     store_size(a0 + 24, a3);
     return;
 }
@@ -2290,20 +2287,18 @@ static void dfu_host_c_beginning_start(unsigned char *a0, unsigned char *a1) {
 /* dfu_host_c::beginning::install: crates/dfu_host_c/src/beginning.rt */
 static uint32_t dfu_host_c_beginning_install(unsigned char *a0, unsigned char *a1, size_t a2, unsigned char *a3, size_t a4, unsigned char *a5, uint32_t a6, uint16_t a7, uint8_t a8) {
     _Alignas(8) unsigned char r11[64];
-    _Alignas(8) unsigned char r8[48];
+    unsigned char *const r8 = r11;
+    unsigned char *const r14 = r11;
     _Alignas(8) unsigned char r10[40];
+    unsigned char *const r8_3 = r10;
     unsigned char *const r8_2 = r10;
-    _Alignas(2) unsigned char r5_26[26];
-    _Alignas(4) unsigned char r14[12];
-    _Alignas(2) unsigned char r5[6];
-    uint64_t v2;
+    unsigned char *const r5_26 = r10;
     unsigned char *r14_0_3_0_r8_sroa_idx;
-    size_t v3, sink40, r5_1136_0;
-    uint16_t v4, v10, sink39, sink36, sink, r1_2_0_copyload, sink39_2, sink36_2, sink_2, r5_18_0, r5_24_0, r5_32_0;
+    uint16_t v4, v10, sink39, sink36, sink, sink39_2, sink36_2, sink_2, r5_18_0, r5_24_0, r5_32_0;
     uint8_t v6, v8, r5_0_1, r5_6_1, sink38, sink37, r5_0_2, r5_6_2, sink38_2, sink37_2, r5_0_0, r5_6_0;
     uint8_t r5_20_0, r5_22_0;
+    size_t sink40, sink40_2, r5_1136_0;
     uint32_t sink35, sink35_2, r5_30_0, common_ret_op;
-    memcpy(r5, a5, 6);
     dfu_host_c_file_file_in(r10, a1, a2);
     uint8_t r23 = *r10;
     if (r23 != 0) {
@@ -2318,17 +2313,16 @@ static uint32_t dfu_host_c_beginning_install(unsigned char *a0, unsigned char *a
             common_ret_op = (uint32_t)0xffffffe1U - (uint32_t)r9_0_0_copyload;
         }
         else {
-            v2 = load64a2(r14 + 2);
+            uint64_t v2 = load64a2(r14 + 2);
             memcpy(r8, r10 + 8, 32);
             r14_0_3_0_r8_sroa_idx = r8 + 32;
             store64(r14_0_3_0_r8_sroa_idx, v2);
-            v3 = (size_t)(v2 >> 48);
-            v4 = (uint16_t)v3;
+            v4 = (uint16_t)(size_t)(v2 >> 48);
             v6 = (uint8_t)(size_t)(v2 >> 16);
             v8 = (uint8_t)(size_t)(v2 >> 24);
             v10 = (uint16_t)(size_t)(v2 >> 32);
             if (a8) {
-                dfu_host_refusing_goal_to_install(r8_2, r8, r14_0_3_0_r8_sroa_idx, r5, 1);
+                dfu_host_refusing_goal_to_install(r8_2, r8, r14_0_3_0_r8_sroa_idx, a5, 1);
                 uint8_t r1_0_0_copyload = *r8_2;
                 if (r1_0_0_copyload == 0) {
                     uint8_t r6 = r8_2[8];
@@ -2366,11 +2360,25 @@ static uint32_t dfu_host_c_beginning_install(unsigned char *a0, unsigned char *a
                 r5_32_0 = sink;
             }
             else {
-                r1_2_0_copyload = load16(r5 + 2);
-                uint64_t r0_3_0_copyload = load64(r8 + 8);
-                if (r0_3_0_copyload == 0) {
-                    r5_0_2 = 1;
+                dfu_host_refusing_goal_to_install(r8_3, r8, r14_0_3_0_r8_sroa_idx, a5, 0);
+                uint8_t r1_0_0_copyload_2 = *r8_3;
+                if (r1_0_0_copyload_2 == 0) {
+                    uint8_t r6_2 = r8_3[8];
+                    r5_0_2 = 0;
                     r5_6_2 = 0;
+                    sink40_2 = (size_t)r6_2;
+                    sink39_2 = v4;
+                    sink38_2 = v6;
+                    sink37_2 = v8;
+                    sink36_2 = v10;
+                    sink35_2 = umax32(a6, 1);
+                    sink_2 = a7;
+                }
+                else {
+                    uint8_t r1_3_1_copyload_2 = r8_3[1];
+                    r5_0_2 = 1;
+                    r5_6_2 = r1_3_1_copyload_2;
+                    sink40_2 = 0;
                     sink39_2 = 0;
                     sink38_2 = 0;
                     sink37_2 = 0;
@@ -2378,71 +2386,10 @@ static uint32_t dfu_host_c_beginning_install(unsigned char *a0, unsigned char *a
                     sink35_2 = 0;
                     sink_2 = 0;
                 }
-                else {
-                    uint16_t r1_3_0_copyload = load16(r5 + 4);
-                    uint16_t r7_3_0_copyload = load16(r8 + 20);
-                    if (!((r7_3_0_copyload == 0xffffU) | (r7_3_0_copyload == r1_3_0_copyload))) {
-                        r5_0_2 = 1;
-                        r5_6_2 = 1;
-                        sink39_2 = 0;
-                        sink38_2 = 0;
-                        sink37_2 = 0;
-                        sink36_2 = 0;
-                        sink35_2 = 0;
-                        sink_2 = 0;
-                    }
-                    else {
-                        uint16_t r7_2_0_copyload = load16(r8 + 18);
-                        if (!((r7_2_0_copyload == 0xffffU) | (r7_2_0_copyload == r1_2_0_copyload))) {
-                            r5_0_2 = 1;
-                            r5_6_2 = 1;
-                            sink39_2 = 0;
-                            sink38_2 = 0;
-                            sink37_2 = 0;
-                            sink36_2 = 0;
-                            sink35_2 = 0;
-                            sink_2 = 0;
-                        }
-                        else {
-                            if (!(v2 & 1)) {
-                                r5_0_2 = 1;
-                                r5_6_2 = 2;
-                                sink39_2 = 0;
-                                sink38_2 = 0;
-                                sink37_2 = 0;
-                                sink36_2 = 0;
-                                sink35_2 = 0;
-                                sink_2 = 0;
-                            }
-                            else {
-                                if (v3 == 0) {
-                                    r5_0_2 = 1;
-                                    r5_6_2 = 4;
-                                    sink39_2 = 0;
-                                    sink38_2 = 0;
-                                    sink37_2 = 0;
-                                    sink36_2 = 0;
-                                    sink35_2 = 0;
-                                    sink_2 = 0;
-                                }
-                                else {
-                                    r5_0_2 = 0;
-                                    r5_6_2 = 0;
-                                    sink39_2 = v4;
-                                    sink38_2 = v6;
-                                    sink37_2 = v8;
-                                    sink36_2 = v10;
-                                    sink35_2 = umax32(a6, 1);
-                                    sink_2 = a7;
-                                }
-                            }
-                        }
-                    }
-                }
                 memset(r5_26, 0, 26);
                 r5_0_0 = r5_0_2;
                 r5_6_0 = r5_6_2;
-                r5_1136_0 = 0;
+                r5_1136_0 = sink40_2;
                 r5_18_0 = sink39_2;
                 r5_20_0 = sink38_2;
                 r5_22_0 = sink37_2;
@@ -2524,17 +2471,17 @@ static void dfu_host_refusing_goal_to_install(unsigned char *a0, unsigned char *
 static void dfu_host_session_Session_on_result(unsigned char *a0, unsigned char *a1, uint8_t a2) {
     _Alignas(8) unsigned char r17_2[32];
     unsigned char *const r1_3 = r17_2;
+    unsigned char *const r1_2 = r17_2;
     unsigned char *const r5 = r17_2;
+    unsigned char *const r1_4 = r17_2;
     unsigned char *const r4 = r17_2;
     _Alignas(8) unsigned char r0[32];
-    _Alignas(8) unsigned char r1_2[32];
-    _Alignas(8) unsigned char r1_4[24];
-    unsigned char *const r2 = r1_4;
-    _Alignas(8) unsigned char r23[24];
+    unsigned char *const r23 = r0;
     _Alignas(8) unsigned char r24[24];
+    unsigned char *const r10_2 = r24;
+    unsigned char *const r2 = r24;
     _Alignas(8) unsigned char r25[24];
     _Alignas(8) unsigned char r26[24];
-    _Alignas(8) unsigned char r10_2[24];
     _Alignas(8) unsigned char r12_2[16];
     _Alignas(4) unsigned char r27_4[2];
     _Alignas(4) unsigned char r28_4[2];
@@ -3370,8 +3317,8 @@ static uint8_t core_cmp_slices_groups_equal_i8_core_cmp_numbers_U8PartialEq(unsi
 /* dfu_host::progress::Progress::restarted: crates/dfu_host/src/progress.rt */
 static void dfu_host_progress_Progress_restarted(unsigned char *a0, unsigned char *a1) {
     _Alignas(8) unsigned char r0[32];
+    unsigned char *const r5 = r0;
     _Alignas(8) unsigned char r1[32];
-    _Alignas(8) unsigned char r5[32];
     _Alignas(8) unsigned char r3[24];
     _Alignas(8) unsigned char r7[24];
     _Alignas(8) unsigned char r8[24];
@@ -3449,11 +3396,11 @@ static void dfu_host_task_Task_on_status(unsigned char *a0, unsigned char *a1, u
     _Alignas(8) unsigned char r5_3[24];
     unsigned char *const r7_2 = r5_3;
     unsigned char *const r5 = r5_3;
-    _Alignas(8) unsigned char r14[24];
+    unsigned char *const r14 = r5_3;
     _Alignas(4) unsigned char r9[12];
     unsigned char *const r11 = r9;
     unsigned char *const r10_2 = r9;
-    _Alignas(4) unsigned char r12[12];
+    unsigned char *const r12 = r9;
     uint8_t v0, r1_4_0_copyload, v14, v15, r1_7_0_copyload, v23, v24, v30, v31, r3_0_0, r3_4_0, r29_0_0;
     uint8_t r29_5_0;
     uint64_t v1, v11, r29_17_0;
@@ -3758,22 +3705,19 @@ dfu_host_task_Task_confirmed_exit:
 /* dfu_host::task::Task::troubled: crates/dfu_host/src/ending.rt */
 static void dfu_host_task_Task_troubled(unsigned char *a0, unsigned char *a1, unsigned char *a2) {
     _Alignas(8) unsigned char r6[24];
-    _Alignas(8) unsigned char r9[24];
+    unsigned char *const r9 = r6;
     _Alignas(4) unsigned char r10[12];
-    _Alignas(4) unsigned char r12[12];
-    uint8_t r1_0_0_copyload, r1_4_0_copyload, v4, v5, v11, v12;
+    uint8_t r1_0_0_copyload, v4, v5, v11, v12;
     unsigned char *r1_3_0_a2_sroa_idx;
     uint32_t v1, v3, v7, v9;
     size_t v2, v8;
     uint16_t v10;
     r1_0_0_copyload = *a2;
     r1_3_0_a2_sroa_idx = a2 + 1;
-    r1_4_0_copyload = a2[8];
+    uint8_t r1_4_0_copyload = a2[8];
     memset(r9, 0, 24);
     if (r1_4_0_copyload != 10) {
-        memcpy(r12 + 1, r1_3_0_a2_sroa_idx, 7);
-        r12[8] = r1_4_0_copyload;
-        dfu_host_task_Task_listed(r6, a1, r12);
+        dfu_host_task_Task_listed(r6, a1, a2);
         uint8_t pre16 = *r6;
         uint8_t pre17 = r6[1];
         uint16_t pre18 = load16(r6 + 2);
@@ -4112,15 +4056,8 @@ arm_2:
 /* dfuse_host::asking::ask: crates/dfuse_host/src/asking.rt */
 static void dfuse_host_asking_ask(unsigned char *a0, unsigned char *a1) {
     _Alignas(8) unsigned char r8[8];
-    _Alignas(4) unsigned char r1[6];
-    uint8_t r2 = *a1;
-    store16(r1, r2);
-    uint16_t v0 = load16(a1 + 2);
-    store16(r1 + 2, v0);
-    uint16_t v1 = load16(a1 + 4);
-    store16(r1 + 4, v1);
     store64(r8, 0);
-    dfuse_host_asking_setup_of(r8, r1);
+    dfuse_host_asking_setup_of(r8, a1);
     uint64_t r0_3_1_copyload = load64(r8);
     *a0 = 0;
     store64u(a0 + 1, r0_3_1_copyload);
@@ -4133,18 +4070,11 @@ static void dfuse_host_asking_ask(unsigned char *a0, unsigned char *a1) {
 /* dfuse_host::asking::setup_of: crates/dfuse_host/src/asking.rt */
 static void dfuse_host_asking_setup_of(unsigned char *a0, unsigned char *a1) {
     _Alignas(4) unsigned char r10[10];
-    _Alignas(4) unsigned char r8[6];
-    uint8_t r2 = *a1;
-    uint16_t v0 = load16(a1 + 2);
-    uint16_t v1 = load16(a1 + 4);
-    store16(r8, r2);
-    store16(r8 + 2, v0);
-    store16(r8 + 4, v1);
-    dfu_wire_requests_Request_setup(r10, r8);
+    dfu_wire_requests_Request_setup(r10, a1);
     uint8_t r21 = *r10;
     if (r21 != 1) trap();
-    uint64_t v3 = load64a2(r10 + 2);
-    store64(a0, v3);
+    uint64_t v1 = load64a2(r10 + 2);
+    store64(a0, v1);
     return;
 }
 
@@ -4428,14 +4358,10 @@ static struct ptr_i64 dfuse_host_plan_Plan_bytes_in(unsigned char *a0, uint64_t 
 
 /* dfuse_host::plan::Plan::read_bytes: crates/dfuse_host/src/asking.rt */
 static struct ptr_i64 dfuse_host_plan_Plan_read_bytes(unsigned char *a0, unsigned char *a1) {
-    _Alignas(8) unsigned char r1[24];
     uint8_t r2 = *a1;
-    store_size(r1, (size_t)r2);
     uint64_t v0 = load64(a1 + 8);
-    uint64_t v1 = load64(a1 + 16);
-    store64(r1 + 16, v1);
     uint64_t spec_select = (uint64_t)((r2 == 6) ? 0 : v0);
-    uint64_t r12 = dfuse_host_plan_Plan_end_of_work(a0, r1);
+    uint64_t r12 = dfuse_host_plan_Plan_end_of_work(a0, a1);
     uint64_t r15 = dfuse_host_plan_Plan_read_end(a0, spec_select, r12);
     struct ptr_i64 r18 = dfuse_host_plan_Plan_bytes_in(a0, spec_select, r15);
     return r18;
@@ -4802,20 +4728,15 @@ static void dfu_host_c_dfuse_holding_record_of(unsigned char *a0, unsigned char 
 
 /* dfuse_host::session::Session::restarted_once: crates/dfuse_host/src/session.rt */
 static void dfuse_host_session_Session_restarted_once(unsigned char *a0, unsigned char *a1, unsigned char *a2) {
-    _Alignas(8) unsigned char r3[104];
     _Alignas(8) unsigned char r0[104];
-    _Alignas(8) unsigned char r6[104];
+    unsigned char *const r1_0 = r0;
     _Alignas(8) unsigned char r10[104];
-    _Alignas(8) unsigned char r1_0[100];
-    _Alignas(8) unsigned char r4[56];
-    _Alignas(8) unsigned char r3_2[56];
-    _Alignas(8) unsigned char r8[56];
-    _Alignas(8) unsigned char r6_2[24];
-    _Alignas(8) unsigned char r9[24];
+    unsigned char *const r4 = r10;
+    unsigned char *const r8 = r10;
+    _Alignas(8) unsigned char r3[56];
     uint16_t r1_5_0_copyload;
     uint8_t r2_0_0_copyload, r2_5_0_copyload, r2_7_0_copyload, v0, v1, v2;
     uint64_t r2_38_0_copyload, r2_4_0_copyload, r2_69_0_copyload;
-    size_t r15;
     memcpy(r1_0, a1, 100);
     r1_5_0_copyload = load16(a1 + 100);
     r2_0_0_copyload = *a2;
@@ -4826,16 +4747,13 @@ static void dfuse_host_session_Session_restarted_once(unsigned char *a0, unsigne
     r2_7_0_copyload = a2[40];
     memset(r8, 0, 56);
     if (r1_5_0_copyload == 0) {
-        memcpy(r6, a1, 100);
         *r8 = 1;
         r8[1] = 5;
-        dfuse_host_session_Session_spent(r0, r6, r8, 0);
+        dfuse_host_session_Session_spent(r0, a1, r8, 0);
     }
     else {
-        memcpy(r3, a1, 100);
-        r15 = (size_t)r2_0_0_copyload;
         if ((uint8_t)(r2_7_0_copyload + 249) >= 2) {
-            store_size(r4 + 8, r15);
+            store_size(r4 + 8, (size_t)r2_0_0_copyload);
             store64(r4 + 16, r2_38_0_copyload);
             store64(r4 + 24, r2_4_0_copyload);
             memset(r4 + 32, 0, 24);
@@ -4844,13 +4762,8 @@ static void dfuse_host_session_Session_restarted_once(unsigned char *a0, unsigne
             v2 = 0;
         }
         else {
-            store_size(r6_2, r15);
-            store64(r6_2 + 8, r2_38_0_copyload);
-            store64(r6_2 + 16, r2_4_0_copyload);
-            store_size(r9, r15);
-            store64(r9 + 8, r2_38_0_copyload);
-            struct i8_i64 r35 = dfuse_host_plan_Plan_command_of(r3, r9, r2_5_0_copyload, r2_69_0_copyload);
-            dfuse_host_plan_Plan_unsure(r4, r3, r6_2, r35.a);
+            struct i8_i64 r35 = dfuse_host_plan_Plan_command_of(a1, a2, r2_5_0_copyload, r2_69_0_copyload);
+            dfuse_host_plan_Plan_unsure(r4, a1, a2, r35.a);
             uint8_t pre = *r4;
             uint8_t pre10 = r4[1];
             uint8_t pre11 = r4[2];
@@ -4858,12 +4771,12 @@ static void dfuse_host_session_Session_restarted_once(unsigned char *a0, unsigne
             v1 = pre10;
             v2 = pre;
         }
-        *r3_2 = v2;
-        r3_2[1] = v1;
-        r3_2[2] = v0;
-        memcpy(r3_2 + 8, r4 + 8, 48);
+        *r3 = v2;
+        r3[1] = v1;
+        r3[2] = v0;
+        memcpy(r3 + 8, r4 + 8, 48);
         memcpy(r10, r1_0, 100);
-        dfuse_host_session_Session_spent(r0, r10, r3_2, (uint16_t)(r1_5_0_copyload + 0xffffU));
+        dfuse_host_session_Session_spent(r0, r10, r3, (uint16_t)(r1_5_0_copyload + 0xffffU));
     }
     memcpy(a0, r0, 104);
     return;
@@ -5327,21 +5240,14 @@ join_4:
 /* dfuse_host::plan::Plan::unsure_of: crates/dfuse_host/src/sending.rt */
 static void dfuse_host_plan_Plan_unsure_of(unsigned char *a0, unsigned char *a1, unsigned char *a2, uint8_t a3, uint64_t a4) {
     _Alignas(8) unsigned char r0[56];
-    _Alignas(8) unsigned char r1[24];
-    uint8_t r2 = *a2;
-    store_size(r1, (size_t)r2);
-    uint64_t v0 = load64(a2 + 8);
-    store64(r1 + 8, v0);
-    uint64_t v1 = load64(a2 + 16);
-    store64(r1 + 16, v1);
-    struct i8_i64 r15 = dfuse_host_plan_Plan_command_of(a1, r1, a3, a4);
-    dfuse_host_plan_Plan_unsure(r0, a1, r1, r15.a);
-    uint8_t v2 = *r0;
-    *a0 = v2;
-    uint8_t v3 = r0[1];
-    a0[1] = v3;
-    uint8_t v4 = r0[2];
-    a0[2] = v4;
+    struct i8_i64 r15 = dfuse_host_plan_Plan_command_of(a1, a2, a3, a4);
+    dfuse_host_plan_Plan_unsure(r0, a1, a2, r15.a);
+    uint8_t v0 = *r0;
+    *a0 = v0;
+    uint8_t v1 = r0[1];
+    a0[1] = v1;
+    uint8_t v2 = r0[2];
+    a0[2] = v2;
     memcpy(a0 + 8, r0 + 8, 48);
     return;
 }
@@ -5528,7 +5434,7 @@ int32_t dfuse_file_image(const uint8_t *file, size_t length, uint8_t setting, st
     unsigned char *a5 = (unsigned char *)(uintptr_t)count;
     _Alignas(8) unsigned char r4[72];
     unsigned char *const r4_2 = r4;
-    _Alignas(8) unsigned char r10[32];
+    unsigned char *const r10 = r4;
     _Alignas(8) unsigned char r8_4[24];
     unsigned char *r13, *r32, *r1_5_0_r32_sroa_idx, *r1_63_0_r32_sroa_idx, *r1_7_0_r32_sroa_idx, *r1_8_0_r32_sroa_idx, *r1_8_5_0_r1_8_0_r32_sroa_idx_sroa_idx, *r26, *v1, *r4_7_8_sroa_idx;
     uint8_t r5_0_0, r5_0_0_2, r35;
@@ -6090,8 +5996,8 @@ int32_t dfu_host_abort(struct dfu_session *session, const uint8_t *payload, size
     unsigned char *a1 = (unsigned char *)(uintptr_t)payload;
     size_t a2 = (size_t)length;
     _Alignas(8) unsigned char r4[72];
+    unsigned char *const r7 = r4;
     _Alignas(8) unsigned char r3[64];
-    _Alignas(8) unsigned char r7[48];
     unsigned char *r1;
     uint32_t common_ret_op;
     dfu_host_c_holding_session_of(r4, a0, (unsigned char *)((uintptr_t)a1 + (uintptr_t)(size_t)((a1 == NULL) ? 4096 : 0)), a2);
@@ -6120,14 +6026,14 @@ int32_t dfu_host_next(const struct dfu_session *session, const uint8_t *payload,
     size_t a2 = (size_t)length;
     unsigned char *a3 = (unsigned char *)(uintptr_t)action;
     _Alignas(8) unsigned char r4[72];
+    unsigned char *const r18 = r4;
     _Alignas(8) unsigned char r3[64];
-    _Alignas(8) unsigned char r18[32];
     _Alignas(4) unsigned char r19[6];
+    unsigned char *const r45 = r19;
     _Alignas(4) unsigned char r23[6];
     _Alignas(4) unsigned char r27[6];
     _Alignas(4) unsigned char r31[6];
     _Alignas(4) unsigned char r35[6];
-    _Alignas(4) unsigned char r45[6];
     uint8_t v1, v2, v15;
     uint16_t v3, r16;
     uint64_t v5, v16, v21, r14_18_0;
@@ -6318,7 +6224,7 @@ int32_t dfuse_read_file(const uint8_t *file, size_t length, struct dfuse_file *o
     unsigned char *a2 = (unsigned char *)(uintptr_t)out;
     _Alignas(8) unsigned char r4[72];
     unsigned char *const r4_2 = r4;
-    _Alignas(8) unsigned char r5[32];
+    unsigned char *const r5 = r4;
     uint16_t r3_0_0_copyload, r3_3_0_copyload, r3_4_0_copyload;
     uint8_t r3_5_0_copyload, r1_0_0_copyload, r1_0_0_in, r1_0_0;
     size_t r3_61_0_copyload, r3_7_0_copyload, r1_9_0, r1_14_0;
@@ -6392,7 +6298,7 @@ int32_t dfu_host_upload(struct dfu_session *session, const uint8_t *descriptor, 
     uint32_t a3 = actions;
     uint16_t a4 = restarts;
     _Alignas(8) unsigned char r7[64];
-    _Alignas(4) unsigned char r9[12];
+    unsigned char *const r9 = r7;
     uint8_t r4_4_0_copyload, r4_5_0_copyload;
     uint16_t r4_6_0_copyload, r4_7_0_copyload;
     uint32_t common_ret_op;
@@ -6477,9 +6383,9 @@ int32_t dfu_host_take(struct dfu_session *session, const uint8_t *payload, size_
     unsigned char *a6 = (unsigned char *)(uintptr_t)bytes;
     size_t a7 = (size_t)count;
     _Alignas(8) unsigned char r9[72];
+    unsigned char *const r0 = r9;
+    unsigned char *const r16 = r9;
     _Alignas(8) unsigned char r7[64];
-    _Alignas(8) unsigned char r0[48];
-    _Alignas(8) unsigned char r16[24];
     _Alignas(8) unsigned char r18[24];
     unsigned char *r13, *r22, *r16_sink3_gep, *r16_sink3_gep15, *r16_sink3_gep18, *r16_sink3_gep21, *r16_sink3_phi, *r16_sink3_phi17, *r16_sink3;
     uint64_t r30, r14_0;
@@ -6870,20 +6776,20 @@ int32_t dfuse_next(const struct dfuse_session *session, const uint8_t *map, size
     size_t a6 = (size_t)room;
     unsigned char *a7 = (unsigned char *)(uintptr_t)action;
     _Alignas(8) unsigned char r9[800];
+    unsigned char *const r10 = r9;
+    unsigned char *const r0 = r9;
+    unsigned char *const r14 = r9;
+    unsigned char *const r12_5 = r9;
     _Alignas(8) unsigned char r7[792];
-    _Alignas(8) unsigned char r10[112];
-    _Alignas(8) unsigned char r0[32];
-    unsigned char *const r14 = r0;
     _Alignas(8) unsigned char r15[32];
     _Alignas(8) unsigned char r1_3[24];
     unsigned char *const r1_2 = r1_3;
-    _Alignas(8) unsigned char r1[24];
-    _Alignas(4) unsigned char r16_2[6];
+    unsigned char *const r1 = r1_3;
+    unsigned char *const r16_2 = r1_3;
     _Alignas(4) unsigned char r16[6];
     _Alignas(4) unsigned char r17_2[6];
     _Alignas(4) unsigned char r18[6];
     _Alignas(4) unsigned char r19[6];
-    _Alignas(4) unsigned char r12_5[5];
     unsigned char *r22, *r28, *v18;
     uint16_t r8_3_0_copyload;
     uint8_t r8_72_0_copyload, r8_10_0_copyload;
@@ -7079,12 +6985,12 @@ int32_t dfuse_begin(struct dfuse_session *session, const uint8_t *map, size_t ma
     size_t a4 = (size_t)elements;
     unsigned char *a5 = (unsigned char *)(uintptr_t)plan;
     _Alignas(8) unsigned char r11[800];
+    unsigned char *const r9_2 = r11;
+    unsigned char *const r8_6_0 = r11;
     _Alignas(8) unsigned char r5[792];
-    _Alignas(8) unsigned char r9_2[104];
     _Alignas(8) unsigned char r20[64];
-    _Alignas(2) unsigned char r8_6_0[46];
-    _Alignas(2) unsigned char r16_5[46];
-    _Alignas(8) unsigned char r4[40];
+    unsigned char *const r16_5 = r20;
+    unsigned char *const r4 = r20;
     _Alignas(8) unsigned char r8_6_10[24];
     _Alignas(4) unsigned char r11_3[3];
     unsigned char *r13, *r25, *r0_3_0_a0_sroa_idx, *r0_4_0_a0_sroa_idx, *r16_5_8_r52_sroa_idx;
@@ -7247,41 +7153,41 @@ int32_t dfuse_take(struct dfuse_session *session, const uint8_t *map, size_t map
     unsigned char *a6 = (unsigned char *)(uintptr_t)bytes;
     size_t a7 = (size_t)count;
     _Alignas(8) unsigned char r10[800];
+    unsigned char *const r11 = r10;
+    unsigned char *const r3 = r10;
+    unsigned char *const r17 = r10;
     _Alignas(8) unsigned char r7[792];
-    _Alignas(8) unsigned char r11[112];
-    _Alignas(8) unsigned char r3[104];
     _Alignas(8) unsigned char r4_2[104];
-    unsigned char *const r11_2 = r4_2;
-    unsigned char *const r12_5 = r4_2;
-    unsigned char *const r10_3 = r4_2;
-    unsigned char *const r10_2 = r4_2;
-    unsigned char *const r12_3 = r4_2;
-    unsigned char *const r9_3 = r4_2;
+    unsigned char *const r9_2 = r4_2;
+    unsigned char *const r5_2 = r4_2;
+    unsigned char *const r12 = r4_2;
     unsigned char *const r5 = r4_2;
+    unsigned char *const r1 = r4_2;
     unsigned char *const r4 = r4_2;
-    _Alignas(8) unsigned char r9_2[104];
-    unsigned char *const r14_3 = r9_2;
-    unsigned char *const r14_2 = r9_2;
-    unsigned char *const r1_9 = r9_2;
-    unsigned char *const r1_7 = r9_2;
-    unsigned char *const r1_4 = r9_2;
-    unsigned char *const r1_2 = r9_2;
-    unsigned char *const r1 = r9_2;
-    _Alignas(8) unsigned char r5_2[104];
-    unsigned char *const r12_4 = r5_2;
-    unsigned char *const r12_2 = r5_2;
-    _Alignas(8) unsigned char r12[104];
     _Alignas(8) unsigned char r8[104];
-    _Alignas(8) unsigned char r17[64];
-    _Alignas(8) unsigned char r7_2[56];
-    unsigned char *const r13 = r7_2;
-    unsigned char *const r1_6 = r7_2;
-    _Alignas(8) unsigned char r13_2[56];
-    _Alignas(8) unsigned char r2_2[48];
-    unsigned char *const r1_8 = r2_2;
-    unsigned char *const r1_5 = r2_2;
-    _Alignas(8) unsigned char r2[48];
-    unsigned char *const r1_3 = r2;
+    _Alignas(8) unsigned char r11_2[56];
+    unsigned char *const r14_3 = r11_2;
+    unsigned char *const r12_5 = r11_2;
+    unsigned char *const r10_3 = r11_2;
+    unsigned char *const r10_2 = r11_2;
+    unsigned char *const r12_3 = r11_2;
+    unsigned char *const r9_3 = r11_2;
+    unsigned char *const r7_2 = r11_2;
+    unsigned char *const r13_2 = r11_2;
+    unsigned char *const r2 = r11_2;
+    unsigned char *const r1_9 = r11_2;
+    unsigned char *const r1_6 = r11_2;
+    unsigned char *const r1_5 = r11_2;
+    unsigned char *const r1_3 = r11_2;
+    _Alignas(8) unsigned char r14_2[56];
+    unsigned char *const r12_2 = r14_2;
+    unsigned char *const r2_2 = r14_2;
+    unsigned char *const r13 = r14_2;
+    unsigned char *const r1_8 = r14_2;
+    unsigned char *const r1_7 = r14_2;
+    unsigned char *const r1_2 = r14_2;
+    _Alignas(8) unsigned char r12_4[56];
+    unsigned char *const r1_4 = r12_4;
     unsigned char *r22, *r31, *r23, *r23_2;
     size_t r3_16_0_0, r3_16_8_0, r18, r9_21_8_copyload25, r9_1321_8_copyload22, r17_83_8_copyload241, r17_46230_8_copyload232, r17_83_8_copyload242, r17_46230_8_copyload233, r17_46230_0, r17_83_0;
     uint8_t r3_9_0_0, r5_0_0_copyload, r5_10_0_copyload, r5_14_0_copyload, r5_5_3_0, r5_5_7_0, r5_0_0, r13_10_3_0, r13_10_9_0, r13_0_0, r13_6_0, r17_10_3_0;

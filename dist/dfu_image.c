@@ -264,9 +264,11 @@ static void dfu_formats_images_digits_bytes_at(unsigned char *a0, uint64_t a1, u
     }
     memset(r1, 0, 260);
     r2_0 = 0;
-    while (r2_0 != 260) {
-        r1[r2_0] = 0;
-        r2_0 = r2_0 + 1;
+    if (r2_0 != 260) {
+        do {
+            r1[r2_0] = 0;
+            r2_0 = r2_0 + 1;
+        } while (r2_0 != 260);
     }
     memcpy(r3, r1, 256);
     uint32_t r0_0_4_0_copyload22 = load32u(r1 + 256);
@@ -339,16 +341,13 @@ static uint8_t dfu_formats_images_digits_hex_digit(uint8_t a0) {
 /* dfu_formats::images::gathering::Gathering::add: crates/dfu_formats/src/images/gathering.rt */
 static void dfu_formats_images_gathering_Gathering_add(unsigned char *a0, unsigned char *a1, uint64_t a2, uint64_t a3, unsigned char *a4, uint64_t a5, unsigned char *a6) {
     _Alignas(8) unsigned char r24[32];
-    _Alignas(8) unsigned char r2_2[24];
-    _Alignas(8) unsigned char r4[24];
-    _Alignas(8) unsigned char r17[24];
-    _Alignas(8) unsigned char r18[24];
-    _Alignas(8) unsigned char r5[24];
-    _Alignas(8) unsigned char r7[24];
-    _Alignas(8) unsigned char r25[24];
+    unsigned char *const r2_2 = r24;
+    unsigned char *const r4 = r24;
+    unsigned char *const r17 = r24;
+    unsigned char *const r18 = r24;
+    unsigned char *const r7 = r24;
     _Alignas(8) unsigned char r26[24];
-    _Alignas(8) unsigned char r11[24];
-    _Alignas(4) unsigned char r9_4_5[23];
+    unsigned char *const r9_4_5 = r26;
     _Alignas(1) unsigned char r2[1];
     uint32_t r1_0_0_0_0_copyload, r1_0_0_5_0_copyload, r10_0_0_copyload, r10_3_0_copyload, r27_5_1, r27_9_1, r0_7_0, r0_14_0;
     uint64_t r1_0_0_6_0_copyload, r1_0_0_7_0_copyload, r1_0_5_0_copyload, r1_0_8_0_copyload, r1_0_9_0_copyload, r1_6_0_copyload, r1, r39, r1_2, r10_4_0_copyload, r10_5_0_copyload, r1_3;
@@ -381,11 +380,7 @@ static void dfu_formats_images_gathering_Gathering_add(unsigned char *a0, unsign
         return;
     }
     if (((uint64_t)0x1000000U - r1_6_0_copyload) < a5) {
-        store32(r11, r1_0_0_0_0_copyload);
-        store32(r11 + 4, r1_0_0_5_0_copyload);
-        store64(r11 + 8, r1_0_0_6_0_copyload);
-        store64(r11 + 16, r1_0_0_7_0_copyload);
-        std_alloc_vec_Vec_drop(r11, a6);
+        std_alloc_vec_Vec_drop(a1, a6);
         if (r1_0_9_0_copyload != 0) {
             r1 = load64(a6 + 16);
             if ((a6 + (size_t)r1) == (unsigned char *)(uintptr_t)r1_0_6_0_copyload) store64(a6, r1);
@@ -396,10 +391,6 @@ static void dfu_formats_images_gathering_Gathering_add(unsigned char *a0, unsign
         store64(a0 + 16, a2);
         return;
     }
-    store32(r5, r1_0_0_0_0_copyload);
-    store32(r5 + 4, r1_0_0_5_0_copyload);
-    store64(r5 + 8, r1_0_0_6_0_copyload);
-    store64(r5 + 16, r1_0_0_7_0_copyload);
     store64(r7, r1_0_6_0_copyload);
     r10_5_4_0_r7_sroa_idx = r7 + 8;
     store64(r10_5_4_0_r7_sroa_idx, r1_0_8_0_copyload);
@@ -432,7 +423,7 @@ static void dfu_formats_images_gathering_Gathering_add(unsigned char *a0, unsign
                 r1_2 = load64(a6 + 16);
                 if ((a6 + (size_t)r1_2) == (unsigned char *)(uintptr_t)r29_0_0_copyload) store64(a6, r1_2);
             }
-            std_alloc_vec_Vec_drop(r5, a6);
+            std_alloc_vec_Vec_drop(a1, a6);
             r0_0_0_0 = 1;
             r0_7_0 = 0;
             r0_14_0 = 0;
@@ -447,14 +438,10 @@ static void dfu_formats_images_gathering_Gathering_add(unsigned char *a0, unsign
         }
     }
     else {
-        store32(r25, r1_0_0_0_0_copyload);
-        store32(r25 + 4, r1_0_0_5_0_copyload);
-        store64(r25 + 8, r1_0_0_6_0_copyload);
-        store64(r25 + 16, r1_0_0_7_0_copyload);
         store_size(r26, r1_0_6_0_copyload);
         store64(r26 + 8, r1_0_8_0_copyload);
         store64(r26 + 16, r1_0_9_0_copyload);
-        dfu_formats_images_gathering_completed(r24, r25, (size_t)r1_0_5_0_copyload, r26, a6);
+        dfu_formats_images_gathering_completed(r24, a1, (size_t)r1_0_5_0_copyload, r26, a6);
         uint8_t r79 = *r24;
         r80 = r24 + 8;
         if (r79 != 0) {
@@ -587,8 +574,8 @@ dfu_formats_images_gathering_begun_exit:
 /* std_alloc::vec::Vec::extend_from_slice::<#6d41a9629075949b> */
 static uint8_t std_alloc_vec_Vec_extend_from_slice(unsigned char *a0, unsigned char *a1, uint64_t a2, unsigned char *a3) {
     unsigned char *r1, *r15, *r12;
-    uint64_t r38, r16, r0_0;
-    size_t r13_wide;
+    uint64_t r38, r16;
+    size_t r13_wide, r0_0;
     uint8_t r0_0_0;
     uint8_t r23 = std_alloc_vec_Vec_grow(a0, a2, a3);
     if (!r23) r0_0_0 = 1;
@@ -603,10 +590,12 @@ static uint8_t std_alloc_vec_Vec_extend_from_slice(unsigned char *a0, unsigned c
         if (((uint64_t)(size_t)(uintptr_t)r12 - (uint64_t)(size_t)(uintptr_t)a1) >= a2) memmove(r12, a1, (size_t)a2);
         else {
             r0_0 = 0;
-            while (r0_0 != a2) {
-                uint8_t r26 = a1[(size_t)r0_0];
-                r12[(size_t)r0_0] = r26;
-                r0_0 = r0_0 + 1;
+            if ((uint64_t)r0_0 != a2) {
+                do {
+                    uint8_t r26 = a1[r0_0];
+                    r12[r0_0] = r26;
+                    r0_0 = r0_0 + 1;
+                } while ((uint64_t)r0_0 != a2);
             }
         }
         store64(a0, r13_wide);
@@ -731,7 +720,7 @@ static struct i8_ptr std_heap_GlobalAllocator_allocate(uint64_t a1, unsigned cha
 /* dfu_formats::images::gathering::completed: crates/dfu_formats/src/images/gathering.rt */
 static void dfu_formats_images_gathering_completed(unsigned char *a0, unsigned char *a1, size_t a2, unsigned char *a3, unsigned char *a4) {
     _Alignas(8) unsigned char r1_3[32];
-    _Alignas(8) unsigned char r8[32];
+    unsigned char *const r8 = r1_3;
     _Alignas(8) unsigned char r3[24];
     _Alignas(8) unsigned char r2[16];
     uint32_t r1_0_0_copyload, r1_4_0_copyload, r4, r14_4_0, r14_7_0;
@@ -929,15 +918,10 @@ static void core_slots_raw_move_up_dfu_formats_images_element_Element(unsigned c
 
 /* dfu_formats::images::ihex::based: crates/dfu_formats/src/images/ihex.rt */
 static void dfu_formats_images_ihex_based(unsigned char *a0, uint64_t a1, size_t a2, unsigned char *a3, unsigned char *a4, unsigned char *a5) {
-    _Alignas(8) unsigned char r24[24];
-    uint32_t r1_0_0_copyload, r1_4_0_copyload, r4_4_0, r4_7_0;
-    uint64_t r1_5_0_copyload, r1_6_0_0_copyload, r1_6_7_0_copyload, r1, r4_9_0_0, r4_9_3_0, r4_9_5_0, r4_9_6_0, r4_9_7_0, r4_8_0;
     size_t r1_6_5_0_copyload, r4_9_4_0, r4_0_0_0, r4_98_0, r4_12_0;
+    uint64_t r1_6_7_0_copyload, r1, r4_9_0_0, r4_9_3_0, r4_9_5_0, r4_9_6_0, r4_9_7_0, r4_8_0;
+    uint32_t r4_4_0, r4_7_0;
     uint8_t r4_10_0, r4_13_0, r4_14_0;
-    r1_0_0_copyload = load32(a3);
-    r1_4_0_copyload = load32(a3 + 4);
-    r1_5_0_copyload = load64(a3 + 8);
-    r1_6_0_0_copyload = load64(a3 + 16);
     r1_6_5_0_copyload = load_size(a3 + 32);
     r1_6_7_0_copyload = load64(a3 + 48);
     size_t r5_4_0_copyload = load_size(a4 + 16);
@@ -948,6 +932,10 @@ static void dfu_formats_images_ihex_based(unsigned char *a0, uint64_t a1, size_t
         uint64_t r1_6_8_0_copyload = load64(a3 + 56);
         uint64_t r1_6_6_0_copyload = load64(a3 + 40);
         uint64_t r1_6_4_0_copyload = load64(a3 + 24);
+        uint64_t r1_6_0_0_copyload = load64(a3 + 16);
+        uint64_t r1_5_0_copyload = load64(a3 + 8);
+        uint32_t r1_4_0_copyload = load32(a3 + 4);
+        uint32_t r1_0_0_copyload = load32(a3);
         size_t r5_0_0_copyload = load_size(a4 + 8);
         unsigned char *r39 = (unsigned char *)(uintptr_t)r5_0_0_copyload;
         uint8_t r46 = *r39;
@@ -969,11 +957,7 @@ static void dfu_formats_images_ihex_based(unsigned char *a0, uint64_t a1, size_t
         r4_14_0 = r1_9_0_copyload & 1;
     }
     else {
-        store32(r24, r1_0_0_copyload);
-        store32(r24 + 4, r1_4_0_copyload);
-        store64(r24 + 8, r1_5_0_copyload);
-        store64(r24 + 16, r1_6_0_0_copyload);
-        std_alloc_vec_Vec_drop(r24, a5);
+        std_alloc_vec_Vec_drop(a3, a5);
         if (r1_6_7_0_copyload == 0) {
             r4_9_0_0 = 0;
             r4_9_3_0 = 0;
@@ -1052,17 +1036,15 @@ static void dfu_formats_images_ihex_based(unsigned char *a0, uint64_t a1, size_t
 /* dfu_formats::images::gathering::Gathering::finish: crates/dfu_formats/src/images/gathering.rt */
 static void dfu_formats_images_gathering_Gathering_finish(unsigned char *a0, unsigned char *a1, unsigned char *a2) {
     _Alignas(8) unsigned char r9[32];
-    _Alignas(8) unsigned char r10[24];
+    unsigned char *const r20 = r9;
     _Alignas(8) unsigned char r11[24];
-    _Alignas(8) unsigned char r20[24];
     unsigned char *r26, *r4, *r26_2;
     size_t r6_0_0_copyload, r31, r0_0_0_0;
     uint64_t r6_3_0_copyload, r6_4_0_copyload, r4_0, r3_0, r17_8_0, r17_9_0, sink;
     uint32_t r5_0_0_0_extract_trunc, r5_0_5_0_extract_trunc, r1, r17_4_0, r17_7_0;
     size_t r1_3_0_copyload = load_size(a1 + 24);
-    memcpy(r10, a1, 24);
     memcpy(r11, a1 + 32, 24);
-    dfu_formats_images_gathering_completed(r9, r10, r1_3_0_copyload, r11, a2);
+    dfu_formats_images_gathering_completed(r9, a1, r1_3_0_copyload, r11, a2);
     uint8_t r25 = *r9;
     r26 = r9 + 8;
     if (r25 != 0) {
@@ -1173,57 +1155,57 @@ int32_t dfu_image_take(const uint8_t *file, size_t length, uint32_t format, uint
     unsigned char *const r0_3 = r19;
     unsigned char *const r0 = r19;
     unsigned char *const r11_2 = r19;
+    unsigned char *const r8_5 = r19;
+    unsigned char *const r11_4 = r19;
+    unsigned char *const r8_4 = r19;
+    unsigned char *const r9_2 = r19;
+    unsigned char *const r9 = r19;
     unsigned char *const r4_6 = r19;
+    unsigned char *const r26_2 = r19;
+    unsigned char *const r28_3 = r19;
+    unsigned char *const r22_3 = r19;
+    unsigned char *const r24_3 = r19;
+    unsigned char *const r26 = r19;
+    unsigned char *const r18_2 = r19;
+    unsigned char *const r20_2 = r19;
+    unsigned char *const r22_4 = r19;
     unsigned char *const r21_3 = r19;
+    unsigned char *const r25 = r19;
+    unsigned char *const r27 = r19;
+    unsigned char *const r29_2 = r19;
+    unsigned char *const r11_3 = r19;
+    unsigned char *const r23_4 = r19;
+    unsigned char *const r21 = r19;
+    unsigned char *const r23 = r19;
+    unsigned char *const r11 = r19;
+    unsigned char *const r23_2 = r19;
+    unsigned char *const r30 = r19;
+    unsigned char *const r31 = r19;
     _Alignas(8) unsigned char r5_3[280];
     unsigned char *const r5_2 = r5_3;
     unsigned char *const r25_2 = r5_3;
     unsigned char *const r21_4 = r5_3;
+    unsigned char *const r0_2 = r5_3;
+    unsigned char *const r7 = r5_3;
     _Alignas(8) unsigned char r11_8[256];
-    unsigned char *const r8_5 = r11_8;
-    unsigned char *const r8_4 = r11_8;
     unsigned char *const r12_2 = r11_8;
+    unsigned char *const r7_2 = r11_8;
+    unsigned char *const r8_3 = r11_8;
     unsigned char *const r23_3 = r11_8;
+    unsigned char *const r32 = r11_8;
     _Alignas(8) unsigned char r12[96];
-    unsigned char *const r11_4 = r12;
-    unsigned char *const r9_2 = r12;
-    unsigned char *const r7 = r12;
+    unsigned char *const r13_5 = r12;
     _Alignas(8) unsigned char r13_3[96];
-    unsigned char *const r13_5 = r13_3;
-    unsigned char *const r7_2 = r13_3;
-    unsigned char *const r22_3 = r13_3;
+    unsigned char *const r22_2 = r13_3;
     _Alignas(8) unsigned char r17[72];
-    unsigned char *const r0_2 = r17;
-    unsigned char *const r8_3 = r17;
-    unsigned char *const r24_3 = r17;
     _Alignas(8) unsigned char r18[64];
-    unsigned char *const r26_2 = r18;
-    unsigned char *const r26 = r18;
-    unsigned char *const r22_2 = r18;
-    _Alignas(8) unsigned char r9[64];
-    unsigned char *const r28_3 = r9;
-    unsigned char *const r18_2 = r9;
-    unsigned char *const r25 = r9;
     _Alignas(8) unsigned char r20_9[48];
-    unsigned char *const r20_2 = r20_9;
-    unsigned char *const r27 = r20_9;
     _Alignas(8) unsigned char r13_2[40];
-    unsigned char *const r22_4 = r13_2;
-    unsigned char *const r29_2 = r13_2;
     _Alignas(8) unsigned char r8[32];
-    unsigned char *const r11_3 = r8;
-    _Alignas(8) unsigned char r23_4[24];
-    unsigned char *const r29 = r23_4;
+    _Alignas(8) unsigned char r29[24];
     _Alignas(8) unsigned char r20[24];
     _Alignas(8) unsigned char r22[24];
     _Alignas(8) unsigned char r8_2[24];
-    _Alignas(8) unsigned char r21[24];
-    _Alignas(8) unsigned char r23[24];
-    _Alignas(8) unsigned char r11[24];
-    _Alignas(8) unsigned char r23_2[24];
-    _Alignas(8) unsigned char r30[24];
-    _Alignas(8) unsigned char r31[24];
-    _Alignas(8) unsigned char r32[24];
     _Alignas(2) unsigned char r20_15[6];
     _Alignas(4) unsigned char r11_6[3];
     _Alignas(8) unsigned char r2[1];
@@ -1250,23 +1232,22 @@ int32_t dfu_image_take(const uint8_t *file, size_t length, uint32_t format, uint
     uint32_t r4_0_5, r0_25_0, r0_13_0, r0_13_0_3, r0_13_0_2, r14_6_0_0, r14_6_0_0107_2, r14_12_0108, r14_6_0_0107, r0_9_8_copyload14, r0_5_8_copyload12, r2_4_01_4;
     uint32_t r4_0_6_0_3, r14_1222_0118, r14_1222_0100, r5_10_2, r5_19_2, r2_4_0_in, r5_10_0, r5_19_0, r1_24, r6_8_0, r6_10_0_3, r21_0_0_2;
     uint32_t switch_offset, r21_0_0, common_ret_op;
-    size_t wide_1543, r4_0_8_9_0, r4_6_0, r4_810_0, r6_0_0, r8_3_0_0_copyload, r9_22_90, r50, r20_95_0, r20_12_0, r15_43_1169, r15_34_1167;
-    size_t r15_26_1163, r4_0_8_9_0_2, r6_0_0_2, r8_3_0_0_copyload_2, r1_0, r71, r4_0_3, r16_44_1, r16_44_2, r16_44_0, r15_26_1162, r529;
-    size_t r4_12_0, r6_0, r4_0_0_0_4, r87, r93, r0_31_8_1245, r52, r67, r4_13_0, r14_13_8_copyload29, r4_0_0_0_5, r35;
-    size_t r63_2, r69_2, r14_14_6_0113, r7_0_0_0_insert109, r6_0_0_3, r44_3, r21_12_0_2, r21_12_0;
+    size_t wide_1543, r4_0_8_9_0, r4_6_0, r4_810_0, r6_0_0, r8_3_0_0_copyload, r9_22_90, r50, r4_0, r20_95_0, r20_12_0, r15_43_1169;
+    size_t r15_34_1167, r15_26_1163, r4_0_8_9_0_2, r6_0_0_2, r8_3_0_0_copyload_2, r1_0, r71, r4_0_2, r4_0_3, r16_44_1, r16_44_2, r16_44_0;
+    size_t r15_26_1162, r529, r4_12_0, r6_0, r4_0_0_0_4, r87, r93, r0_31_8_1245, r52, r67, r4_13_0, r14_13_8_copyload29;
+    size_t r4_0_0_0_5, r35, r63_2, r69_2, r14_14_6_0113, r7_0_0_0_insert109, r6_0_0_3, r44_3, r21_12_0_2, r21_12_0;
     uint64_t r4_0_8_0_0, r4_0_8_6_0, r4_0_8_13_0, r4_0_8_17_0, r4_0_8_20_0, r4_0_7_0, r5_0, r6_4_0, r8_3_3_0_copyload, r46, r11_7_8_copyload43, r4_2;
-    uint64_t r4_0, r38, r1, r20_8_0, r1_2, r1_3, r15_32_1166, r15_30_1165, r15_28_1164, r15_24_1162, r15_20_1161, r15_15_0160;
-    uint64_t r1_4, r1_5, r1_6, r1_7, r0_21_0_2, r0_21_0, r6_14_0, r0_3_7_0_copyload, r0_3_6_0_copyload, r4_0_8_0_0_2, r4_0_8_6_0_2, r4_0_8_13_0_2;
-    uint64_t r4_0_8_17_0_2, r4_0_8_20_0_2, r4_0_7_0_2, r4_810_0_2, r5_0_2, r6_4_0_2, r8_3_3_0_copyload_2, r46_2, r5_0_0_copyload_2, r4_3, r4_0_2, r3_0_3;
-    uint64_t r137, r1_8, r16_27_1, r16_35_1, r16_42_1, r16_46_1, r16_48_1, r16_50_1, r16_61_1, r1_9, r1_10, r16_27_2;
-    uint64_t r16_35_2, r16_42_2, r16_46_2, r16_48_2, r16_50_2, r16_61_2, r16_27_0, r16_35_0, r16_42_0, r16_46_0, r16_48_0, r16_50_0;
-    uint64_t r16_61_0, r15_43_1168, r15_32_1165, r15_30_1164, r15_28_1163, r15_24_1161, r15_20_1160, r15_15_0159, r1_11, r1_12, r1_13, r1_14;
-    uint64_t r7_9_0, r1_15, r0_22_0_2, r0_22_0, r6_14_0_2, r0_3_7_0_copyload_2, r0_3_6_0_copyload_2, r14_22_0_0_0, r14_22_0_6_0, r4_7_0_2, r4_14_0, r4_16_0;
-    uint64_t r4_17_0, r0_28_0, r0_31_11_1248, r0_31_10_1247, r0_31_9_1246, r0_31_0_9_1244, r0_31_0_0_1243, r1_sink_2, r1_sink, r14_17_0109, r0_11_8_copyload18, r0_10_8_copyload16;
-    uint64_t r4_11_0_0, r4_11_5_0, r4_8_0, r4_15_0, r4_17_0_2, r4_18_0, r14_14_0_0_0, r14_14_0_6_0, r14_13_0119, r14_14_9_0116, r14_14_8_0115, r14_14_7_0114;
-    uint64_t r1_22, r1_23, r14_13_0101, r5_21_2, r5_22_2, r5_21_0, r5_22_0, r6_5_0, r7_0, r8_0, r46_3, r79;
-    uint64_t r6, r119, r29_4, r0_0, r6_2, r8_14_28, r1_26, r1_27, r1_28, r1_29, r1_30, r1_31;
-    uint64_t r21_71_0_2, r21_71_0;
+    uint64_t r38, r1, r20_8_0, r1_2, r1_3, r15_32_1166, r15_30_1165, r15_28_1164, r15_24_1162, r15_20_1161, r15_15_0160, r1_4;
+    uint64_t r1_5, r1_6, r1_7, r0_21_0_2, r0_21_0, r6_14_0, r0_3_7_0_copyload, r0_3_6_0_copyload, r4_0_8_0_0_2, r4_0_8_6_0_2, r4_0_8_13_0_2, r4_0_8_17_0_2;
+    uint64_t r4_0_8_20_0_2, r4_0_7_0_2, r4_810_0_2, r5_0_2, r6_4_0_2, r8_3_3_0_copyload_2, r46_2, r5_0_0_copyload_2, r4_3, r3_0_3, r137, r1_8;
+    uint64_t r16_27_1, r16_35_1, r16_42_1, r16_46_1, r16_48_1, r16_50_1, r16_61_1, r1_9, r1_10, r16_27_2, r16_35_2, r16_42_2;
+    uint64_t r16_46_2, r16_48_2, r16_50_2, r16_61_2, r16_27_0, r16_35_0, r16_42_0, r16_46_0, r16_48_0, r16_50_0, r16_61_0, r15_43_1168;
+    uint64_t r15_32_1165, r15_30_1164, r15_28_1163, r15_24_1161, r15_20_1160, r15_15_0159, r1_11, r1_12, r1_13, r1_14, r7_9_0, r1_15;
+    uint64_t r0_22_0_2, r0_22_0, r6_14_0_2, r0_3_7_0_copyload_2, r0_3_6_0_copyload_2, r14_22_0_0_0, r14_22_0_6_0, r4_7_0_2, r4_14_0, r4_16_0, r4_17_0, r0_28_0;
+    uint64_t r0_31_11_1248, r0_31_10_1247, r0_31_9_1246, r0_31_0_9_1244, r0_31_0_0_1243, r1_sink_2, r1_sink, r14_17_0109, r0_11_8_copyload18, r0_10_8_copyload16, r4_11_0_0, r4_11_5_0;
+    uint64_t r4_8_0, r4_15_0, r4_17_0_2, r4_18_0, r14_14_0_0_0, r14_14_0_6_0, r14_13_0119, r14_14_9_0116, r14_14_8_0115, r14_14_7_0114, r1_22, r1_23;
+    uint64_t r14_13_0101, r5_21_2, r5_22_2, r5_21_0, r5_22_0, r6_5_0, r7_0, r8_0, r46_3, r79, r6, r119;
+    uint64_t r29_4, r0_0, r6_2, r8_14_28, r1_26, r1_27, r1_28, r1_29, r1_30, r1_31, r21_71_0_2, r21_71_0;
     uint64_t r4_12_0_0, r15_52_1172;
     uint8_t r4_7_0, r4_9_0, r4_11_0, r37, r11_3_8_copyload40, r107, r115, r77, r20_10_0, r20_13_0, r20_14_0, r15_49_1171;
     uint8_t r15_46_1170, r15_37_1168, r36_2, r37_2, r49, v6, switch_tableidx, r58, r16_0_0_1, r16_0_0_2, r16_0_0_0, r36_4;
@@ -1464,10 +1445,12 @@ dfu_formats_images_ihex_spelled_exit:
                     }
                     r4_0 = 0;
                     r3_0 = 0;
-                    while (r4_0 != r4_2) {
-                        uint8_t r24 = r5_2[(size_t)r4_0];
-                        r4_0 = r4_0 + 1;
-                        r3_0 = r3_0 + (uint32_t)r24;
+                    if ((uint64_t)r4_0 != r4_2) {
+                        do {
+                            uint8_t r24 = r5_2[r4_0];
+                            r4_0 = r4_0 + 1;
+                            r3_0 = r3_0 + (uint32_t)r24;
+                        } while ((uint64_t)r4_0 != r4_2);
                     }
                     if ((r3_0 & 255) != 0) {
                         r13_6_0_0 = 4;
@@ -1983,10 +1966,12 @@ dfu_formats_images_ihex_read_exit:
                     }
                     r4_0_2 = 0;
                     r3_0_2 = 0;
-                    while (r4_0_2 != r4_3) {
-                        uint8_t r24_2 = r12_4_0_r5_sroa_idx_2[(size_t)r4_0_2];
-                        r4_0_2 = r4_0_2 + 1;
-                        r3_0_2 = r3_0_2 + (uint32_t)r24_2;
+                    if ((uint64_t)r4_0_2 != r4_3) {
+                        do {
+                            uint8_t r24_2 = r12_4_0_r5_sroa_idx_2[r4_0_2];
+                            r4_0_2 = r4_0_2 + 1;
+                            r3_0_2 = r3_0_2 + (uint32_t)r24_2;
+                        } while ((uint64_t)r4_0_2 != r4_3);
                     }
                     if ((r3_0_2 & 255) != 255) {
                         r13_5_0_0 = 4;
@@ -1994,10 +1979,12 @@ dfu_formats_images_ihex_read_exit:
                     }
                     r4_0_3 = 0;
                     r3_0_3 = 0;
-                    while (r4_0_3 != r1_0) {
-                        uint8_t r27_2 = r16_2[r4_0_3];
-                        r4_0_3 = r4_0_3 + 1;
-                        r3_0_3 = (r3_0_3 << 8) | (uint64_t)(size_t)r27_2;
+                    if (r4_0_3 != r1_0) {
+                        do {
+                            uint8_t r27_2 = r16_2[r4_0_3];
+                            r4_0_3 = r4_0_3 + 1;
+                            r3_0_3 = (r3_0_3 << 8) | (uint64_t)(size_t)r27_2;
+                        } while (r4_0_3 != r1_0);
                     }
                     r16_4 = (r12_4_0_r5_sroa_idx_2 + r1_0) + 1;
                     r137 = r4_3 - (uint64_t)r71;

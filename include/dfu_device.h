@@ -24,10 +24,10 @@
  *     }
  *
  * Compile it by `cc -std=c11 -I include yours.c dfu_device.c`. An image is the bytes that the host sends, of any form: hosts leave the
- * suffix of a DFU file out, so the first image has none either. The flash is mapped for reading. It has two slots, each for one image: a
- * download goes to the spare slot, and becomes active in one step at its end, so that whenever power is lost the old image or the whole new
- * one is active. The calls below stand in the order in which a program meets them. RULES, at the end of this file, says what the program
- * must keep to, and what to do on each refusal.
+ * suffix of a DFU file out, so the first image has none either. The flash is mapped for reading, or a function of the program reads it. It
+ * has two slots, each for one image: a download goes to the spare slot, and becomes active in one step at its end, so that whenever power
+ * is lost the old image or the whole new one is active. The calls below stand in the order in which a program meets them. RULES, at the end
+ * of this file, says what the program must keep to, and what to do on each refusal.
  */
 #ifndef DFU_DEVICE_H
 #define DFU_DEVICE_H
@@ -154,7 +154,7 @@ struct dfu_config {
     uint32_t manifest_ms;     /**< the same to put an image in place: 0 to 16,777,215 ms, at least 1 if not tolerant */
     uint32_t least;           /**< the fewest bytes of an image, 1 to 16,777,216; with more than a slot holds, no download can succeed */
     uint32_t unit;            /**< programs are whole multiples of it: 1, 16, 64 or 256 */
-    uint32_t sector;          /**< bytes erased at a time: a multiple of 256 up to 131,072; 0: the flash is written over in place */
+    uint32_t sector;          /**< bytes erased at a time: a multiple of 256 up to 262,144; 0: the flash is written over in place */
     uint16_t erase_ms;        /**< ms to erase a sector: added to busy_ms and manifest_ms for each erase due for this block or image */
     uint16_t program_ms;      /**< ms to program 256 bytes: added in proportion to the bytes that are programmed */
 };
@@ -256,7 +256,7 @@ struct dfu_driver {
 /** @brief A device. The program fills in all but the last two fields. */
 struct dfu_device {
     const struct dfu_config *config; /**< what it is set up with */
-    const uint8_t *flash;            /**< both slots, mapped for reading */
+    const uint8_t *flash;            /**< both slots, mapped for reading; or an address (RULES, DFU_READ) */
     size_t size;                     /**< bytes of flash, DFU_MEDIUM_SIZE */
     uint8_t *block;                  /**< memory in which a block waits to be written, with the rest of those before it */
     size_t most;                     /**< its bytes, at least DFU_BLOCK_SIZE */
@@ -478,6 +478,17 @@ static inline int32_t dfu_device_format_took(struct dfu_device *d, const uint8_t
  * - Flash reads the same each time until the next operation, also where one was broken off. Invalidate caches after each one.
  *   docs/PORTING.md says what is known of flash with ECC whose torn words don't read so.
  * - Nothing but the operations that are asked for changes the flash.
+ * Where the flash is not mapped, as behind SPI:
+ * - DFU_READ. Compile dfu_device.c, dfu_boot.c and each file that includes dfu_home.h with -DDFU_READ=name, the name of a function of the
+ *   program that reads the part: void name(const unsigned char *from, unsigned char *to, size_t count) puts into `to` the `count` bytes of
+ *   the part that are `from - flash` behind its front. `flash` is then any address but 0, with `size` addresses from there on, which nobody
+ *   looks at: 0x90000000, for example.
+ * - With a run area (dfu_install.h) that function reads the run area too, and the image in its slot. It tells them apart by `from`, because
+ *   `run` and `flash` are ranges of addresses of their own. Of those that are mapped it copies the bytes from there.
+ * - That function has no error to return. Where the part does not answer it asks again, and at last it resets the processor, which is a
+ *   loss of power. It may keep bytes that it read until the next operation: a read-back asks for them one by one.
+ * - An image at flash[place.at] is read by the program itself, before it starts it from memory, for example. The formats in memory
+ *   (dfu_memory_format, dfu_trial_format_memory) are for a build without DFU_READ.
  *
  * On a refusal stall the request, or after a refused dfu_device_work the next one, and:
  * - DFU_NO_CONFIG, DFU_NO_BLOCK, DFU_NO_ROOM, DFU_WRONG_SIZE, DFU_TOO_LARGE, DFU_NO_STATUS: mend the program.
@@ -504,7 +515,7 @@ static inline int32_t dfu_device_format_took(struct dfu_device *d, const uint8_t
  * Proved is that each call dfu_core_* returns, and touches only its memory. If the program keeps to the above, it answers as Fustrelan's
  * device table says, and over lists of these calls, with losses of power and writes that fail or are torn, an image stays active. It is
  * proved of the source in Rattle, from which dfu_device.c was translated; nothing proves compiler and translator. The inline calls
- * dfu_device_* are only tested, and the driver is yours.
+ * dfu_device_* are only tested, and the driver is yours, and so is the function that DFU_READ names.
  *
  * Memory: sizeof(struct dfu_device), 96 bytes with pointers of 32 bits, and the two buffers: in all, with a unit of 16, 240 bytes for
  * blocks of 64, 2,160 for 1,024, and 8,304 for 4,096. */

@@ -60,6 +60,14 @@
 extern "C" {
 #endif
 
+#ifdef DFU_READ
+/** @brief The program's, which reads flash that is not mapped (dfu_device.h, RULES). */
+void DFU_READ(const unsigned char *from, unsigned char *to, size_t count);
+#define DFU_HOME_READ_LENGTH(from, to) DFU_READ(from, to, 4)
+#else
+#define DFU_HOME_READ_LENGTH(from, to) ((to)[0] = (from)[0], (to)[1] = (from)[1], (to)[2] = (from)[2], (to)[3] = (from)[3])
+#endif
+
 /** @brief Where the data of the first slot begin in the flash, for which images are linked: behind its gate and its header. */
 #define DFU_HOME_AT(unit, sector) (2 * DFU_GATE(unit, sector))
 
@@ -85,7 +93,9 @@ static inline int32_t dfu_home_settle(const struct dfu_device *d, struct dfu_pla
         n = dfu_home_next(d, &record, &ask);
     }
     if (n == 0) {
-        const uint8_t *length = d->flash + DFU_GATE(d->config->unit, d->config->sector) + 4; /* in the header of the first slot */
+        const uint8_t *const header = d->flash + DFU_GATE(d->config->unit, d->config->sector); /* of the first slot */
+        uint8_t length[4];
+        DFU_HOME_READ_LENGTH(header + 4, length);
         place->at = DFU_HOME_AT(d->config->unit, d->config->sector);
         place->length = DFU_TO(uint32_t, length[0]) | DFU_TO(uint32_t, length[1]) << 8 | DFU_TO(uint32_t, length[2]) << 16 |
                         DFU_TO(uint32_t, length[3]) << 24;

@@ -28,8 +28,8 @@ extern "C" {
 #define DFU_FILL_NONE 256
 
 /* Refusals of a file, in this order: a number of no format; of the file the first fault of the first line, block or segment that has one;
- * no bytes; the first gap from the lowest address on, or too many bytes; too short a room. docs/REFUSALS.md says of each exactly when
- * (`image_of`). taken.from is the line from 1, the block or segment from 0, or the address that is named here, and else 0. */
+ * no bytes; the first gap from the lowest address on, or too many bytes; too short a room. The manual dfu(1) says of each exactly when
+ * (REFUSALS). taken.from is the line from 1, the block or segment from 0, or the address that is named here, and else 0. */
 enum {
     DFU_TAKE_NO_FORMAT = -101,         /* format is none of DFU_LOOKS_IHEX to DFU_LOOKS_ELF */
     DFU_TAKE_NO_ROOM = -102,           /* the image has taken.length bytes, and the room fewer */

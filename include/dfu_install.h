@@ -34,7 +34,7 @@ enum dfu_install_result {
 
 /** @brief Memory of a run area between two calls. */
 struct dfu_run_area {
-    uint32_t sector; /**< bytes of a sector: a multiple of 256 up to 131,072 */
+    uint32_t sector; /**< bytes of a sector: a multiple of 256 up to 262,144 */
     uint32_t last;   /**< private: where the last operation went, if it worked; DFU_NOWHERE after each loss of power */
 };
 
@@ -61,7 +61,7 @@ extern "C" {
 
 /** @brief A run area. The program fills it in. */
 struct dfu_install {
-    const uint8_t *run;              /**< the run area, mapped for reading */
+    const uint8_t *run;              /**< the run area, mapped for reading; or an address (RULES of dfu_device.h, DFU_READ) */
     size_t size;                     /**< bytes of it, a multiple of its sector */
     struct dfu_run_area area;        /**< the size of a sector, and DFU_NOWHERE */
     const struct dfu_driver *driver; /**< what writes it; NULL if the program carries out the operations itself */
@@ -73,7 +73,7 @@ struct dfu_install {
 static inline int32_t dfu_install_settle(struct dfu_install *i, const uint8_t *image, size_t length);
 
 /** @brief Hands out the operation that is due next, so that the run area comes to hold the image.
- * @param image  the image that is to be started, `length` bytes
+ * @param image  the image that is to be started, `length` bytes: flash + place.at
  * @param ask    an erase of a whole sector, or a program of 256 bytes: `at` is an offset in the run area
  * @return 0: the run area holds the whole image, which may be started; DFU_WRITE_PENDING: ask has the operation that is due;
  *         DFU_WRONG_SIZE (such a sector or size isn't allowed), DFU_NO_IMAGE, DFU_TOO_LARGE (the image has more than size bytes), and

@@ -74,7 +74,7 @@ extern "C" {
 
 /** @brief Images on trial. The program fills in all but the last field. */
 struct dfu_trial {
-    const uint8_t *flash;            /**< both slots, mapped for reading */
+    const uint8_t *flash;            /**< both slots, as in struct dfu_device */
     size_t size;                     /**< bytes of flash, as in struct dfu_device */
     const struct dfu_driver *driver; /**< what writes it; NULL if the program carries out the operations itself */
     struct dfu_tries tries;          /**< unit, sector and tries */

@@ -1,5 +1,5 @@
 /* SPDX-License-Identifier: MIT OR Apache-2.0 */
-/* Next steps that are more exact than those of the tables of next.c, and the line to type, which repeats the words of the command line. */
+/* Next steps more specific than those in the tables of next.c, and the command to type next, made from the words of the command line. */
 #include "advice.h"
 #include "../common/text.h"
 

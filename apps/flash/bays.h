@@ -16,6 +16,10 @@
 /* The exit status if nothing tells the device from the one before, because it has no serial number. */
 #define BAY_TAKEN 102
 
+/* The exit status if a board came back of which it isn't known that it is the one of before, so that it must have another entry of
+   --stamp. Nothing was sent to it. */
+#define BAY_NEXT 103
+
 enum bay_state {
     BAY_FREE, /* a device that comes is another one */
     BAY_BUSY, /* a process is at work */

@@ -13,9 +13,12 @@ struct crew {
     int count;
     int64_t came_ms;          /* when the last device came or ended */
     int worst;                /* the exit status so far: the highest, but 8 only if no device has another than 0 and 8; */
-    unsigned flashed, failed; /* of so many devices */
+    unsigned flashed, failed; /* of so many devices; */
+    unsigned taken;           /* and so many have the whole image, those that are unconfirmed too */
     uint16_t vendor, product; /* which they are for */
     bool is_json, is_out;     /* whether all records came to standard output */
+    const struct words *words;
+    struct image *image;
 };
 
 void crew_make(struct crew *crew, const struct words *words);

@@ -1,6 +1,7 @@
 /* SPDX-License-Identifier: MIT OR Apache-2.0 */
 /* Which options of dfu-util are taken, which are passed over, since they aren't needed here, and which are refused. */
 #include "dfu_util.h"
+#include "advice.h"
 
 #include <ctype.h>
 #include <stddef.h>
@@ -87,10 +88,16 @@ static bool is_passed(int option, const char *value)
     return true;
 }
 
+static bool refuse_number(void)
+{
+    advice_is("name its path by --path, as --list shows it");
+    return words_refuse("-n of dfu-util is --path PATH here, which stays the same when the device is plugged in again", "");
+}
+
 bool dfu_util_is_same(int option, const char *value)
 {
     if (option == 'n')
-        return words_refuse("-n of dfu-util is --path PATH here, which stays the same when the device is plugged in again", "");
+        return refuse_number();
     if ((option == 'a' || option == 'i' || option == 't') && has_base(value))
         return words_refuse("-a, -i and -t take decimal numbers, with no 0 in front", value);
     return is_passed(option, value);

@@ -2,7 +2,9 @@
 /* Values as dfu-util 0.11 reads them: identifiers with fewer digits or none, a serial number for each mode, and an address with what
    is to be done there. */
 #include "dfu_util.h"
+#include "advice.h"
 #include "standard.h"
+#include "usage.h"
 #include "values.h"
 
 #include <ctype.h>
@@ -109,8 +111,10 @@ static bool is_harmless(const char *text)
 {
     for (const char *at = strchr(text, ':'); at != NULL; at = strchr(at + 1, ':'))
         for (size_t number = 0; number < sizeof modifiers / sizeof *modifiers; number++)
-            if (is_modifier(at + 1, modifiers[number].word))
+            if (is_modifier(at + 1, modifiers[number].word)) {
+                advice_is("leave that word out");
                 return words_refuse(modifiers[number].answer, text);
+            }
     return true;
 }
 
@@ -125,8 +129,10 @@ bool dfu_util_address(const char *text, struct words *words)
         words->leaves = true;
         return true;
     }
-    if (!value_is_hexadecimal(text, &words->address, &rest))
+    if (!value_is_hexadecimal(text, &words->address, &rest)) {
+        usage_advise_address("-s", text);
         return words_refuse("-s takes an address as 0x08000000, which may have :leave or a length after it", text);
+    }
     words->has_address = words->stays = words->is_to_end = true;
     while (*rest == ':') {
         if (is_modifier(rest + 1, "leave")) {

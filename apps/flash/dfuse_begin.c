@@ -22,8 +22,8 @@ static int32_t file_refusal(struct session *session)
     return dfu_host_download(&none, session->file, session->file_length, any, sizeof any, &session->ids, 1, 0);
 }
 
-/* As many actions as a clean session takes for elements of so many bytes, many times over: for losses, restarts, and a device that is asked
-   often. A page of two elements counts twice. */
+/* Sets the limits of the session, unless the command line did: many times the actions of a clean session, because losses, restarts and a
+   device that is asked often cost more of them. A page of two elements counts twice. */
 static void take_limits(struct session *session, uint64_t pages, uint64_t length, uint64_t elements)
 {
     uint64_t blocks = length / session->dfuse.plan.transfer + elements + pages + 3;

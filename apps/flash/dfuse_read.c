@@ -17,12 +17,14 @@
 /* Ways for the upload to go on after a request: with the next one, from its beginning, or not at all, with a report or another end. */
 enum next { NEXT_ON, NEXT_ANEW, NEXT_OVER };
 
+/* Ends the upload in this way, without a report of the host. */
 static enum next over(struct session *session, enum end end)
 {
     session->end = end;
     return NEXT_OVER;
 }
 
+/* Ends the upload with a report, by the numbers of dfuse_host.h. */
 static enum next report(struct session *session, uint32_t value, uint32_t more)
 {
     session->dfuse.done = (struct dfuse_action){.what = DFU_DONE, .value = value, .more = more};

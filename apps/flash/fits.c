@@ -1,8 +1,10 @@
 /* SPDX-License-Identifier: MIT OR Apache-2.0 */
 /* Which options go together. */
 #include "words.h"
+#include "advice.h"
+#include "../common/text.h"
 
-#include <stddef.h>
+#include <stdio.h>
 
 /* Returns whether the options go with --all. Each device is flashed by itself, so no option may name one. */
 static bool is_fit_for_all(const struct words *words)
@@ -11,8 +13,10 @@ static bool is_fit_for_all(const struct words *words)
         return words_refuse("--log goes with --all alone; of one device --verbose=FILE makes a log", "");
     if (!words->all)
         return true;
-    if (words->job != JOB_DOWNLOAD || words->dry_run || words->path != NULL || words->serial != NULL)
+    if (words->job != JOB_DOWNLOAD || words->dry_run || words->path != NULL || words->serial != NULL) {
+        advice_is(words->job == JOB_DOWNLOAD ? "for one device leave out --all, else --path, --serial and --dry-run" : "leave out --all");
         return words_refuse("--all goes with a FILE, and with no --path, --serial or --dry-run", "");
+    }
     return (!words->verbose && words->log == NULL) || words_refuse("--all makes logs by --log FOLDER, and not by --verbose", "");
 }
 
@@ -40,16 +44,67 @@ static bool is_fit_for_station(const struct words *words)
     bool is_session = words->job == JOB_DOWNLOAD || words->job == JOB_UPLOAD || words->job == JOB_DETACH;
     if ((words->report != NULL || words->ports != NULL) && (!is_session || words->dry_run))
         return words_refuse("--report and --ports go with a FILE, --upload or --detach, and with no --dry-run", "");
-    if (words->boards != 0 && !words->all)
+    if (words->boards != 0 && !words->all) {
+        if (words->job == JOB_DOWNLOAD)
+            advice_run("--all");
         return words_refuse("--count goes with --all", "");
-    if ((words->stamp != NULL) != (words->stamp_bytes != 0))
+    }
+    if ((words->stamp != NULL) != (words->stamp_bytes != 0)) {
+        advice_is(words->stamp != NULL ? "add --stamp-at PLACE:BYTES, as --stamp-at 0x40:16"
+                                       : "add --stamp LIST, a file with a line for each board");
         return words_refuse("--stamp and --stamp-at go together", "");
+    }
     if (words->stamp != NULL && words->job != JOB_DOWNLOAD)
         return words_refuse("--stamp goes with a FILE that is flashed", "");
-    if (words->stamp != NULL && words->retry != 0)
-        return words_refuse("--retry doesn't go with --stamp: a board that went may have its entry, and another may come in its place", "");
     return words->retry == 0 || (words->job == JOB_DOWNLOAD && !words->dry_run)
            || words_refuse("--retry goes with a FILE that is flashed", "");
+}
+
+/* The first option that doesn't go with --demo, or NULL. */
+static const char *not_for_demo(const struct words *words)
+{
+    const struct {
+        bool is_given;
+        const char *name;
+    } all[] = {
+        {words->all, "--all"},
+        {words->has_ids, "--device"},
+        {words->path != NULL, "--path"},
+        {words->serial != NULL, "--serial"},
+        {words->interface >= 0, "--interface"},
+        {words->alternate >= 0 || words->setting != NULL, "--alt"},
+        {words->wait, "--wait"},
+        {words->timeout != 0, "--timeout"},
+        {words->has_limits, "--limits"},
+        {words->dry_run, "--dry-run"},
+        {words->transfer != 0, "--transfer-size"},
+        {words->verbose || words->log != NULL, "--verbose"},
+        {words->stamp != NULL, "--stamp"},
+        {words->stamp_bytes != 0, "--stamp-at"},
+        {words->report != NULL, "--report"},
+        {words->ports != NULL, "--ports"},
+        {words->boards != 0, "--count"},
+        {words->retry != 0, "--retry"},
+    };
+    for (size_t at = 0; at < sizeof all / sizeof *all; at++)
+        if (all[at].is_given)
+            return all[at].name;
+    return NULL;
+}
+
+/* Says what to type for --demo. */
+static bool refuse_for_demo(const struct words *words)
+{
+    char line[1100], file[1000] = "";
+    bool has_file = words->file != NULL && text_word(words->file, file, sizeof file);
+    snprintf(line, sizeof line, "run: dfu-flash --demo%s%s%s%s", words->json ? " --json" : "", words->quiet ? " --quiet" : "",
+             has_file              ? " "
+             : words->file != NULL ? " FILE"
+                                   : "",
+             has_file ? file : "");
+    advice_is(line);
+    return words_refuse("--demo goes with a FILE, --json and --quiet alone, because its one board is simulated; leave out",
+                        not_for_demo(words));
 }
 
 /* Returns whether the options go with the job: a download, an upload, a list or a detach. */
@@ -57,10 +112,6 @@ bool words_fit(const struct words *words)
 {
     bool has_session = words->has_limits || words->dry_run || words->transfer != 0;
     bool has_trace = words->verbose || words->log != NULL;
-    bool has_choice = words->has_ids || words->path != NULL || words->serial != NULL || words->interface >= 0 || words->alternate >= 0
-                      || words->setting != NULL;
-    bool has_station = words->stamp != NULL || words->stamp_bytes != 0 || words->report != NULL || words->ports != NULL
-                       || words->boards != 0 || words->retry != 0;
     if (words->force && words->job != JOB_UPLOAD)
         return words_refuse("--force goes with --upload alone", "");
     if (!words->verify && words->job != JOB_DOWNLOAD)
@@ -69,9 +120,8 @@ bool words_fit(const struct words *words)
         return words_refuse("--raw goes with a FILE that is downloaded", "");
     if (words->job == JOB_LIST && (has_session || words->quiet || has_trace || words->wait || words->timeout != 0))
         return words_refuse("--list goes with what chooses devices, and with --json, alone", "");
-    if (words->job == JOB_DEMO
-        && (has_session || has_choice || has_trace || words->wait || words->timeout != 0 || words->all || has_station))
-        return words_refuse("--demo goes with a FILE, --json and --quiet alone: its board is simulated", "");
+    if (words->job == JOB_DEMO && not_for_demo(words) != NULL)
+        return refuse_for_demo(words);
     if (words->job == JOB_DETACH && has_session)
         return words_refuse("--detach goes with no --limits, --dry-run or --transfer-size", "");
     return is_fit_for_station(words) && is_fit_for_dfuse(words) && is_fit_for_all(words);

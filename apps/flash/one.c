@@ -3,6 +3,7 @@
 #define _POSIX_C_SOURCE 200809L
 #include "one.h"
 #include "advice.h"
+#include "again.h"
 #include "bays.h"
 #include "clock.h"
 #include "device.h"
@@ -27,8 +28,9 @@
 #include <stdlib.h>
 #include <string.h>
 
-#define WORK_AGAIN 101 /* in place of a status: the session is to be made once more */
-#define RETRY_S 30     /* for a device that is to be tried again to come back */
+#define RETRY_S 30 /* for a device that is to be tried again to come back */
+
+static bool is_again_now; /* there was a session before, in this process */
 
 static struct device device;
 static struct session session;
@@ -110,6 +112,31 @@ static int32_t take_stamp(const struct words *words, struct image *image)
     return 0;
 }
 
+/* Clears the session, but for its log and what is kept of the tries. */
+static void forget(void)
+{
+    struct log log = session.wire.trace.log;
+    uint32_t tries = session.tries;
+    bool had_sent = session.had_sent || session.watch.sent != 0 || session.dfuse.watch.sent != 0;
+    memset(&session, 0, sizeof session);
+    session.wire.trace.log = log;
+    session.tries = tries;
+    session.had_sent = had_sent;
+    session.wire.device = &device;
+    session.file = no_file;
+    session.kept = no_room;
+}
+
+/* The device is back where it was. Returns 0, or BAY_NEXT if the first process has to give it another entry of --stamp. */
+static int begin_again(const struct words *words, struct image *image, struct wanted *wanted)
+{
+    bool is_next = words->stamp != NULL && !again_is_same(&session);
+    if (is_next)
+        again_leave_entry(&session, words);
+    forget();
+    return is_next && words->bay != NULL ? BAY_NEXT : take_file(words, image, wanted);
+}
+
 /* Sends nothing: file and device are looked for, and the session begins, or is refused. */
 static int prepare(const struct words *words, struct image *image, struct wanted *wanted)
 {
@@ -120,6 +147,12 @@ static int prepare(const struct words *words, struct image *image, struct wanted
     if (words->job == JOB_UPLOAD && !file_may_make(words->file, words->force))
         return say_none(words, STATUS_FILE);
     status = device_choose(&device, wanted);
+    if (is_again_now && status != STATUS_DONE)
+        return work_end(&session, words);
+    if (is_again_now)
+        status = begin_again(words, image, wanted);
+    if (status == BAY_NEXT)
+        return status;
     if (words->bay != NULL && session.tries == 0)
         same = status == STATUS_DONE ? bay_verdict(words->bay, &device.info) : bay_is_early(words->bay) ? BAY_SAME : 0;
     if (same != 0)
@@ -151,19 +184,6 @@ static void print_serials(void)
             worker_print_serial(mode, session.first[mode].serial);
 }
 
-/* Clears the session, but for its log and the number of tries. */
-static void forget(void)
-{
-    struct log log = session.wire.trace.log;
-    uint32_t tries = session.tries;
-    memset(&session, 0, sizeof session);
-    session.wire.trace.log = log;
-    session.tries = tries;
-    session.wire.device = &device;
-    session.file = no_file;
-    session.kept = no_room;
-}
-
 /* Flashes it, and once more as long as that is asked for: then the device is waited for where it was. */
 static int flash_again(const struct words *words, struct image *image, struct wanted *wanted, enum progress_style style)
 {
@@ -174,7 +194,7 @@ static int flash_again(const struct words *words, struct image *image, struct wa
         memcpy(path, device.path, sizeof path);
         again.path = has_ports(path) ? path : words->path;
         device_drop(&device);
-        forget();
+        is_again_now = true;
         device.patience.is_asked = true;
         device.patience.seconds = words->patience > RETRY_S ? words->patience : RETRY_S;
         *wanted = wanted_of(&again);
@@ -189,6 +209,8 @@ int one_run(const struct words *words, struct image *image, enum progress_style 
     int error, status;
     memset(&device, 0, sizeof device);
     memset(&session, 0, sizeof session);
+    session.tries = words->tries;
+    session.had_sent = words->tries > 0;
     forget();
     error = transport->begin(&device.usb);
     record_of(&device.info, &session.wire.trace.log);

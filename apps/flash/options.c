@@ -89,12 +89,16 @@ static const struct option *option_of(const char *name)
     return NULL;
 }
 
-/* The option that a word is like; NULL if none is, or two are. */
+/* The option that a word is like, or of which it is the beginning; NULL if none is, or two are. A download is meant by --dowload, which is
+   as near to --upload. */
 static const char *nearest(const char *word)
 {
+    static const char download[] = "download";
     const char *best = NULL;
     size_t best_far = strlen(word) / 3 + 1;
     bool is_one = false;
+    if (distance(word, download) <= 1 || (strlen(word) > 2 && strncmp(download, word, strlen(word)) == 0))
+        return download;
     for (const struct option *option = options; option->name != NULL; option++) {
         size_t far = distance(word, option->name);
         if (far > best_far || (far == best_far && best != NULL && !is_one))

@@ -1,6 +1,7 @@
 /* SPDX-License-Identifier: MIT OR Apache-2.0 */
 /* Reads the file of a download. */
 #include "files.h"
+#include "advice.h"
 #include "say.h"
 #include "terminal.h"
 
@@ -33,6 +34,8 @@ bool file_read(const char *name, uint8_t **bytes, size_t *length)
     if (!is_read) {
         int error = errno;
         say_failed(file == stdin ? "standard input" : name, " can't be read", strerror(error));
+        if (error == ENOENT)
+            advice_is("check its name, and which folder you are in, and run it again");
         free(*bytes);
         *bytes = NULL;
     }

@@ -17,7 +17,7 @@ void reader_begin(struct reader *reader, int from);
 /* Reads what has come, and hands each line that is whole to `take`. Of a line that is too long the front is kept. */
 void reader_read(struct reader *reader, void (*take)(void *with, const char *line), void *with);
 
-/* Closes it, and gives back what it took. */
+/* Closes the pipe, and frees the part of a line that was kept. */
 void reader_drop(struct reader *reader);
 
 #endif

@@ -5,7 +5,6 @@
 #include "clock.h"
 #include "json.h"
 #include "next.h"
-#include "stamp.h"
 #include "standard.h"
 #include "station.h"
 #include "status.h"
@@ -110,8 +109,7 @@ static void begin_line(void)
         say_text(stdout, "", station_port(each.path), " ");
     if (each.info->serial[0] != '\0')
         say_text(stdout, "serial ", each.info->serial, " ");
-    if (stamp_taken() != NULL)
-        say_text(stdout, "stamp ", stamp_taken(), " ");
+    station_print();
     printf("%.1f s ", each_seconds());
 }
 

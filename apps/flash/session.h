@@ -67,7 +67,8 @@ struct session {
     struct dfuse dfuse;        /* of a device that speaks DfuSe */
     uint64_t taken, restarted; /* actions done, and restarts reported */
     int64_t began_ms;
-    uint32_t tries; /* how many sessions there were before, with --retry */
+    uint32_t tries; /* how many sessions there were before, with --retry, */
+    bool had_sent;  /* and whether a block was sent in one of them */
     enum end end;
     struct dfu_action done; /* the report, if `end` is END_REPORT */
     int32_t refusal;        /* why not, if it is END_REFUSED */

@@ -1,6 +1,6 @@
 /* SPDX-License-Identifier: MIT OR Apache-2.0 */
-/* Which entry of the list a board gets. A line of LIST.used is a time, an entry's name, a path and a report, with tabs between; `begun` is
-   the first of a board. */
+/* Chooses the entry of the list for a board. A line of LIST.used has a time, an entry's name, a path and a report, separated by tabs.
+   The first report of each board is `begun`. */
 #include "stamp.h"
 #include "find.h"
 #include "say.h"
@@ -22,11 +22,19 @@ static struct {
     bool is_quiet, is_taken, is_ended;
 } board;
 
-/* A line of LIST.used. An entry that the list no longer has is nobody's. */
+static void mark_used(struct stamp *stamp, const char *lost_at)
+{
+    if (stamp == NULL)
+        return;
+    stamp->state = STAMP_USED;
+    stamp->lost_at = lost_at;
+}
+
+/* A line of LIST.used. An entry that the list no longer has is nobody's; one that it has in another form, such as hexadecimal, is used
+   all the same. */
 static bool take_used(size_t number, char *line, struct stamp **sorted)
 {
-    char *fields[4];
-    struct stamp key = {0}, *wanted = &key, **found;
+    char *fields[4], *lost_at;
     if (*line == '\0' || *line == '#')
         return true;
     for (int at = 0; at < 4; at++) {
@@ -37,12 +45,9 @@ static bool take_used(size_t number, char *line, struct stamp **sorted)
         if ((line == NULL) != (at == 3))
             return stamp_list_fail(".used", number, "it is no time, entry, path and report, with a tab between each");
     }
-    key.name = fields[1];
-    found = bsearch(&wanted, sorted, stamp_list.count, sizeof(struct stamp *), stamp_list_by_name);
-    if (found == NULL)
-        return true;
-    (*found)->state = STAMP_USED;
-    (*found)->lost_at = strcmp(fields[3], "begun") == 0 ? fields[2] : NULL;
+    lost_at = strcmp(fields[3], "begun") == 0 ? fields[2] : NULL;
+    mark_used(stamp_list_written(fields[1], sorted), lost_at);
+    mark_used(stamp_list_named(fields[1], sorted), lost_at);
     return true;
 }
 
@@ -91,7 +96,7 @@ bool stamp_begin(const struct words *words)
     board.is_quiet = words->quiet;
     if (!stamp_list_read())
         return false;
-    sorted = malloc(stamp_list.count * sizeof(struct stamp *));
+    sorted = malloc(2 * stamp_list.count * sizeof(struct stamp *));
     if (sorted == NULL)
         return stamp_list_fail("", 0, "there is no memory");
     is_begun = stamp_list_sort(sorted) && (used_open(stamp_list.file, words->dry_run, &text, &why) || stamp_list_fail(".used", 0, why))
@@ -148,7 +153,7 @@ void stamp_is(struct stamp *stamp, const char *taken_at)
 
 bool stamp_take(const char *path)
 {
-    if (board.mine == NULL)
+    if (board.mine == NULL || board.is_taken)
         return true;
     snprintf(board.path, sizeof board.path, "%s", path);
     if (!add(board.mine->name, path, "begun"))

@@ -84,7 +84,7 @@ int32_t stamp_image(struct image *image, const struct words *words)
     uint8_t bytes[STAMP_BYTES];
     if (words->stamp == NULL)
         return 0;
-    if (words->bay == NULL)
+    if (words->bay == NULL && stamp_next() == NULL)
         stamp_is(stamp_hold(), NULL);
     if (stamp_next() == NULL)
         return REFUSED_NO_STAMP;

@@ -91,7 +91,7 @@ static bool take_line(size_t number, char *line, size_t *room)
     return why == NULL || stamp_list_fail("", number, why);
 }
 
-int stamp_list_by_name(const void *one, const void *other)
+static int by_name(const void *one, const void *other)
 {
     return strcmp((*(struct stamp *const *)one)->name, (*(struct stamp *const *)other)->name);
 }
@@ -106,10 +106,10 @@ static int by_bytes(const void *one, const void *other)
 
 bool stamp_list_sort(struct stamp **sorted)
 {
-    int (*const orders[])(const void *, const void *) = {by_bytes, stamp_list_by_name};
-    for (size_t at = 0; at < stamp_list.count; at++)
-        sorted[at] = &stamp_list.stamps[at];
-    for (int order = 0; order < 2; order++) {
+    int (*const orders[])(const void *, const void *) = {by_name, by_bytes};
+    for (size_t at = 0; at < 2 * stamp_list.count; at++)
+        sorted[at] = &stamp_list.stamps[at % stamp_list.count];
+    for (int order = 0; order < 2; order++, sorted += stamp_list.count) {
         qsort(sorted, stamp_list.count, sizeof(struct stamp *), orders[order]);
         for (size_t at = 1; at < stamp_list.count; at++) {
             char why[80];
@@ -121,6 +121,25 @@ bool stamp_list_sort(struct stamp **sorted)
         }
     }
     return true;
+}
+
+static struct stamp *find(const struct stamp *key, struct stamp **sorted, int (*order)(const void *, const void *))
+{
+    struct stamp **found = bsearch(&key, sorted, stamp_list.count, sizeof(struct stamp *), order);
+    return found == NULL ? NULL : *found;
+}
+
+struct stamp *stamp_list_named(char *name, struct stamp **sorted)
+{
+    const struct stamp key = {.name = name};
+    return find(&key, sorted, by_name);
+}
+
+struct stamp *stamp_list_written(char *text, struct stamp **sorted)
+{
+    const struct stamp key = {.value = text};
+    uint8_t bytes[STAMP_BYTES];
+    return stamp_list_bytes(text, bytes) != NULL ? NULL : find(&key, sorted + stamp_list.count, by_bytes);
 }
 
 bool stamp_list_lines(char *text, void *with, bool (*take)(size_t number, char *line, void *with))

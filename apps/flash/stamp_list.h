@@ -26,11 +26,13 @@ extern struct stamp_list stamp_list;
 /* Reads the file. Returns false, after printing why, if it can't be used. */
 bool stamp_list_read(void);
 
-/* Puts the entries in the order of their names, if no two are the same: neither what is written, nor the name. If two are, that is said. */
+/* Puts the entries in the order of their names, and behind that in the order of what is written: room for both is needed. If two entries
+   have the same name, or would write the same, that is said, and the result is false. */
 bool stamp_list_sort(struct stamp **sorted);
 
-/* Compares two places of that order by the names there. */
-int stamp_list_by_name(const void *one, const void *other);
+/* The entry of this name, and the one that would write this text; NULL if there is none. `sorted` is what stamp_list_sort made. */
+struct stamp *stamp_list_named(char *name, struct stamp **sorted);
+struct stamp *stamp_list_written(char *text, struct stamp **sorted);
 
 /* Writes the bytes of an entry, and 00 behind them up to the end of the place. Returns NULL, or the reason for which it has none. */
 const char *stamp_list_bytes(const char *value, uint8_t bytes[STAMP_BYTES]);

@@ -18,7 +18,8 @@
 
 #define LINE_ROOM 16384
 
-#define COLUMNS "time,status,report,words,image,crc32,vendor,product,release,serial,path,port,seconds"
+#define OLD_COLUMNS "time,status,report,words,image,crc32,vendor,product,release,serial,path,port,seconds"
+#define COLUMNS OLD_COLUMNS ",tries"
 
 static const char *header = COLUMNS "\n";
 static const char stamp_header[] = COLUMNS ",stamp\n"; /* with --stamp */
@@ -28,7 +29,7 @@ static struct {
     int file;
     bool is_open, is_csv, has_image, has_failed;
     const char *image, *code;
-    uint32_t crc;
+    uint32_t crc, tries;
 } station;
 
 /* A line as it grows; one that has no more room is cut, and isn't written. */
@@ -107,6 +108,8 @@ static const char *why_not(const char *front)
     const char *wanted = station.is_csv ? header : json_front;
     if (*front == '\0' || strncmp(front, wanted, strlen(wanted)) == 0)
         return NULL;
+    if (strncmp(front, OLD_COLUMNS, strlen(OLD_COLUMNS)) == 0 && strncmp(front, COLUMNS, strlen(COLUMNS)) != 0 && station.is_csv)
+        return "it is a report of before the column `tries`: name another file";
     if (strncmp(front, COLUMNS "\n", sizeof COLUMNS) == 0 && station.is_csv)
         return "it is a report without the column `stamp`, and --stamp adds one: name another file";
     if (strcmp(front, stamp_header) == 0 && station.is_csv)
@@ -134,6 +137,7 @@ static bool open_report(const char *name)
 bool station_begin(const struct words *words)
 {
     header = words->stamp != NULL ? stamp_header : header;
+    station.image = words->job == JOB_DOWNLOAD ? words->file : NULL;
     return (words->ports == NULL || ports_file_read(words->ports)) && (words->report == NULL || open_report(words->report));
 }
 
@@ -156,10 +160,24 @@ void station_json(const char *path)
     json_text("time", time);
     json_text("port", station_port(path));
     json_text("stamp", stamp_taken());
-    if (!station.has_image)
-        return;
+    if (station.tries > 0)
+        json_number("tries", station.tries);
     json_text("image", station.image);
-    json_hex("crc32", station.crc, 8);
+    if (station.has_image)
+        json_hex("crc32", station.crc, 8);
+}
+
+void station_try(uint32_t number)
+{
+    station.tries = number;
+}
+
+void station_print(void)
+{
+    if (stamp_taken() != NULL)
+        say_text(stdout, "stamp ", stamp_taken(), " ");
+    if (station.tries > 1)
+        printf("tries %" PRIu32 " ", station.tries);
 }
 
 void station_code(const char *name)
@@ -179,7 +197,7 @@ static void put_words(struct line *line, int status, const char *words)
 bool station_add(int status, const char *report, const char *words, const char *path, const struct found *info, double seconds)
 {
     struct line line = {.length = 0};
-    char time[32], number[16], crc[9], ids[3][8] = {"", "", ""}, took[32];
+    char time[32], number[16], crc[9], ids[3][8] = {"", "", ""}, took[32], tries[16];
     bool is_known = info != NULL && (info->vendor != 0 || info->product != 0);
     stamp_end(status, report);
     if (!station.is_open)
@@ -188,6 +206,7 @@ bool station_add(int status, const char *report, const char *words, const char *
     snprintf(number, sizeof number, "%d", status);
     snprintf(crc, sizeof crc, "%08" PRIx32, station.crc);
     snprintf(took, sizeof took, "%.3f", seconds);
+    snprintf(tries, sizeof tries, "%" PRIu32, station.tries);
     for (int at = 0; is_known && at < 3; at++)
         snprintf(ids[at], sizeof ids[at], "%04x", at == 0 ? info->vendor : at == 1 ? info->product : info->release);
     if (!station.is_csv)
@@ -196,7 +215,7 @@ bool station_add(int status, const char *report, const char *words, const char *
     put_member(&line, "status", number, true);
     put_member(&line, "report", report, false);
     put_words(&line, status, words);
-    put_member(&line, "image", station.has_image ? station.image : NULL, false);
+    put_member(&line, "image", station.image, false);
     put_member(&line, "crc32", station.has_image ? crc : NULL, false);
     put_member(&line, "vendor", is_known ? ids[0] : NULL, false);
     put_member(&line, "product", is_known ? ids[1] : NULL, false);
@@ -205,6 +224,7 @@ bool station_add(int status, const char *report, const char *words, const char *
     put_member(&line, "path", path, false);
     put_member(&line, "port", station_port(path), false);
     put_member(&line, "seconds", took, true);
+    put_member(&line, "tries", station.tries > 0 ? tries : NULL, true);
     if (header == stamp_header)
         put_member(&line, "stamp", stamp_taken(), false);
     put(&line, station.is_csv ? "\n" : "}\n", station.is_csv ? 1 : 2);

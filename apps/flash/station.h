@@ -26,6 +26,12 @@ void station_time(char text[32]);
 /* Prints these as members of a record in JSON. */
 void station_json(const char *path);
 
+/* Which session of the board begins: the first is 1, and 0 is none. Records have it as `tries`. */
+void station_try(uint32_t number);
+
+/* Prints, in a line of one of several boards, the entry of --stamp that it has, and how many sessions if there were several. */
+void station_print(void);
+
 /* Keeps the name of the status by which the board refused, or "", for its line in the report. */
 void station_code(const char *name);
 

@@ -20,7 +20,8 @@ enum status {
     STATUS_OTHER = 13,      /* another device came back */
     STATUS_BROKEN = 14,     /* a mistake of this program */
     STATUS_STALLED = 15,    /* the device could not be brought to DFU mode */
-    STATUS_UNRESET = 16     /* a reset is missing, which this system does not make */
+    STATUS_UNRESET = 16,    /* a reset is missing, which this system does not make */
+    STATUS_SHORT = 17       /* fewer boards were flashed than --count asks for */
 };
 
 #endif

@@ -1,8 +1,10 @@
 /* SPDX-License-Identifier: MIT OR Apache-2.0 */
 /* Reads the values of options, and refuses those that an option can't have. */
 #include "values.h"
+#include "advice.h"
 #include "dfu_util.h"
 #include "stamp.h"
+#include "usage.h"
 
 #include <ctype.h>
 #include <errno.h>
@@ -102,8 +104,10 @@ bool value_limits(const char *first, const char *second, struct words *words)
 static bool is_count(const char *what, const char *text, unsigned long most, uint32_t *count)
 {
     unsigned long number;
-    if (!is_number(text, most, &number) || number == 0)
+    if (!is_number(text, most, &number) || number == 0) {
+        advice_is("give it a decimal number behind it");
         return words_refuse(what, text);
+    }
     *count = (uint32_t)number;
     return true;
 }
@@ -168,6 +172,8 @@ bool value_address(const char *text, struct words *words)
 {
     const char *rest;
     words->has_address = value_is_hexadecimal(text, &words->address, &rest) && *rest == '\0';
+    if (!words->has_address)
+        usage_advise_address("--address", text);
     return words->has_address || words_refuse("--address takes an address as 0x08000000", text);
 }
 

@@ -59,7 +59,7 @@ static const struct meaning fetched = {STATUS_UNRESET,
 /* Adds which image the device may have only if a block was sent. */
 void verdict_words(struct verdict *verdict, const struct session *session, const struct meaning *meaning)
 {
-    bool has_sent = (session->dfuse.is_active ? session->dfuse.watch.sent : session->watch.sent) != 0;
+    bool has_sent = session->had_sent || (session->dfuse.is_active ? session->dfuse.watch.sent : session->watch.sent) != 0;
     verdict->status = meaning->status;
     if (meaning->device == NULL)
         snprintf(verdict->words, sizeof verdict->words, "%s", meaning->words);

@@ -6,6 +6,7 @@
 #include "next.h"
 #include "options.h"
 #include "say.h"
+#include "usage.h"
 #include "values.h"
 
 #include <stdio.h>
@@ -15,7 +16,7 @@ bool words_refuse(const char *what, const char *word)
 {
     fprintf(stderr, "dfu-flash: %s", what);
     say_text(stderr, *word != '\0' ? ": " : "", word, "\nSee dfu-flash --help.\n");
-    next_say(advice_or(NULL));
+    next_say(advice_or(usage_step(what)));
     return false;
 }
 
@@ -57,10 +58,13 @@ static bool is_wait(struct words *words, const char *seconds, int count, char **
 /* getopt_long has said which word is none of the options. Of "-list", say, it took the letters one by one. */
 static bool is_no_option(char **texts)
 {
+    bool is_long = strncmp(texts[optind - 1], "--", 2) == 0;
     fputs("See dfu-flash --help.\n", stderr);
-    if (strncmp(texts[optind - 1], "--", 2) == 0)
+    if (is_long)
         advise_word(texts[optind - 1]);
-    next_say(advice_or(NULL));
+    next_say(advice_or(optopt > 0 && strchr(DFU_UTIL_OPTIONS, optopt) != NULL ? "give it its value, as --help has it"
+                       : is_long                                              ? "type one of the options that dfu-flash --help lists"
+                                                                              : "leave out that letter, or see dfu-flash --help"));
     return false;
 }
 

@@ -45,7 +45,8 @@ struct words {
     const char *stamp;          /* the list of --stamp, or NULL; */
     uint64_t stamp_place;       /* and --stamp-at: from where on an entry is written, */
     uint32_t stamp_bytes;       /* and how many bytes it has at most, 0 if it wasn't given */
-    const struct bay *bay;      /* of one of several devices: where it is; else NULL */
+    const struct bay *bay;      /* of one of several devices: where it is; else NULL; */
+    uint32_t tries;             /* and how many sessions another process had there, with --retry and --stamp */
 };
 
 /* Reads the command line into `words`. Returns false, after printing why, if it isn't understood. */

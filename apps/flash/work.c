@@ -10,6 +10,7 @@
 #include "say.h"
 #include "stamp.h"
 #include "standard.h"
+#include "station.h"
 #include "status.h"
 #include "stop.h"
 #include "worker.h"
@@ -53,8 +54,8 @@ void work_ask(struct session *session, const struct words *words)
 /* From here on the entry of --stamp is this board's. The first process of several knows before the record does. */
 static bool take_entry(const struct session *session, const struct words *words)
 {
-    if (words->stamp != NULL && words->bay != NULL)
-        worker_print_taken();
+    if (words->bay != NULL && !worker_print_begun(session->tries + 1, words->stamp != NULL))
+        return false;
     return stamp_take(session->wire.device->path);
 }
 
@@ -69,6 +70,7 @@ int work_begin(struct session *session, const struct words *words)
         session->wire.device->info.access = error;
         return record_none(say_no_access(&session->wire.device->info), words->json);
     }
+    station_try(session->tries + 1);
     if (words->job == JOB_DOWNLOAD && !take_entry(session, words))
         return record_none(STATUS_FILE, words->json);
     stop_catch(words->timeout);
@@ -110,6 +112,12 @@ static bool is_tried_again(struct session *session, const struct words *words, c
         fprintf(stderr, "%sdfu-flash: %s: %s; it is tried again, %u of %u\n", say_mark, verdict->name, verdict->words,
                 (unsigned)session->tries, (unsigned)words->retry);
     return true;
+}
+
+int work_end(struct session *session, const struct words *words)
+{
+    const struct verdict verdict = verdict_of(session);
+    return work_print(session, words, &verdict);
 }
 
 int work_run(struct session *session, const struct words *words, enum progress_style style)

@@ -19,6 +19,9 @@ int work_begin(struct session *session, const struct words *words);
 /* Runs the session from there to the record of its end. */
 int work_run(struct session *session, const struct words *words, enum progress_style style);
 
+/* Prints what a session came to that is not made once more, since the device stayed away. */
+int work_end(struct session *session, const struct words *words);
+
 /* Print what the session came to, or why it is refused. */
 int work_print(const struct session *session, const struct words *words, const struct verdict *verdict);
 int work_refused(const struct session *session, const struct words *words, int32_t refusal);

@@ -23,6 +23,7 @@ struct worker {
     bool is_killed;
     struct stamp *stamp; /* the entry that the device is to get, or NULL, */
     bool has_stamp;      /* and it has it */
+    uint32_t tries;      /* how many sessions the device had */
     bool is_early;       /* it looks whether the device is another one than before, and as a rule it isn't */
 };
 
@@ -45,16 +46,14 @@ void worker_stop(struct worker *worker, int64_t deadline_ms);
 /* Ends it at once. */
 void worker_kill(struct worker *worker);
 
-/* Releases the entry of a process that has ended, if its device didn't take it; else the next record has that entry. */
-void worker_leave_stamp(struct worker *worker);
-
 /* Gives back the memory and streams of a process that has ended. */
 void worker_drop(struct worker *worker);
 
 /* Prints, in that process, how the device was seen in a mode, for the bay. */
 void worker_print_serial(bool is_upgrade, const char *serial);
 
-/* Prints, in that process, that the device takes its entry of --stamp. */
-void worker_print_taken(void);
+/* Prints, in that process, that a session begins: its number, and whether the device takes its entry of --stamp. Returns false if the
+   first process doesn't get that. */
+bool worker_print_begun(uint32_t number, bool has_stamp);
 
 #endif

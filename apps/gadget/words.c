@@ -46,11 +46,16 @@ static const struct option options[] = {
 #define MOST_TRIES 254           /* what a sector has marks for */
 #define BY_ATTRIBUTES UINT32_MAX /* of --manifest that isn't given */
 
-static bool refuse(const char *name, const char *why)
+static bool refuse_to(const char *name, const char *why, const char *next)
 {
     say_wrong(name, why);
-    fputs("See dfu-gadget --help.\n", stderr);
+    fprintf(stderr, "See dfu-gadget --help.\nnext: %s\n", next);
     return false;
+}
+
+static bool refuse(const char *name, const char *why)
+{
+    return refuse_to(name, why, strcmp(name, "usage") == 0 ? "type that line, with your names" : "correct that word");
 }
 
 /* A decimal number, with K or M after it for 1024 or 1048576 of them if it counts bytes. */
@@ -115,7 +120,7 @@ static bool take_attributes(const char *text, uint8_t *attributes)
 static bool take_text(const char *text, const char **place)
 {
     *place = text;
-    return *text != '\0' || refuse(text, "an option has an empty word");
+    return *text != '\0' || refuse_to(text, "an option has an empty word", "give the option its word: in a script a variable may be empty");
 }
 
 static bool take(struct words *words, int code, const char *value)
@@ -148,7 +153,7 @@ static bool take(struct words *words, int code, const char *value)
     case HELP: words->job = JOB_HELP; return true;
     case 'V':
     case VERSION: words->job = JOB_VERSION; return true;
-    default: fputs("See dfu-gadget --help.\n", stderr); return false;
+    default: fputs("See dfu-gadget --help.\nnext: type one of the options that it lists, with its word\n", stderr); return false;
     }
 }
 
@@ -172,7 +177,8 @@ static bool take_job(struct words *words, const char *text)
     for (int at = 0; at < 6; at++)
         if (strcmp(text, names[at]) == 0)
             words->job = (enum job)(JOB_FORMAT + at);
-    return words->job != JOB_NONE || refuse(text, "it is none of format, image, run, start, confirm and end");
+    return words->job != JOB_NONE
+           || refuse_to(text, "it is none of format, image, run, start, confirm and end", "type one of these first, or --help");
 }
 
 /* Returns whether the words go together. */
@@ -181,17 +187,17 @@ static bool is_whole(const struct words *words, bool has_more)
     if (words->job == JOB_NONE || words->medium == NULL || *words->medium == '\0')
         return refuse("usage", "dfu-gadget format|image|run|start|confirm|end MEDIUM ..");
     if (has_more)
-        return refuse(words->medium, "there is a word too many");
+        return refuse_to(words->medium, "there is a word too many", "leave out what is behind it");
     if (words->job == JOB_FORMAT ? words->image == NULL || words->most == 0 : words->force || words->most != 0)
         return refuse("usage", "dfu-gadget format MEDIUM --most BYTES IMAGE; --most and --force go with it alone");
     if (words->job >= JOB_START ? words->tries == 0 : words->job == JOB_IMAGE && words->tries != 0)
         return refuse("usage", "dfu-gadget start|confirm|end MEDIUM .. --tries N; --tries goes with these, format and run");
     if (words->job == JOB_RUN && words->controller == NULL)
-        return refuse("usage", "dfu-gadget run MEDIUM --controller UDC");
+        return refuse_to("usage", "dfu-gadget run MEDIUM --controller UDC", "name the controller: ls /sys/class/udc shows which are there");
     if (words->job == JOB_RUN && (words->attributes & 4) == 0 && words->manifest_ms == 0)
         return refuse("--manifest", "it is at least 1 for a device that isn't tolerant");
     return words->job == JOB_RUN || (words->controller == NULL && words->config == NULL && !words->dry_run)
-           || refuse("usage", "--controller, --config and --dry-run go with run alone");
+           || refuse_to("usage", "--controller, --config and --dry-run go with run alone", "leave them out");
 }
 
 static bool take_at(struct words *words, const char *text)

@@ -107,7 +107,7 @@ export class Board {
     return device === null || await this.clock.limit(device.close(), OPEN_MS).catch(() => {}) !== LATE
   }
 
-  // It left, and that is known.
+  // Forgets the device once it has left and the session knows that.
   letGo() {
     Object.assign(this, { handle: null, hasLeft: false })
   }
@@ -131,14 +131,14 @@ export class Board {
     return this.info.alternate === 0 && closesUnheard() ? 'same' : 'anew'
   }
 
-  // Those that may be it.
+  // Returns the devices of this page that may be the one that left: no bystander, and no other serial number.
   async again() {
     const all = await this.usb.getDevices()
     return all.filter(one => !this.bystanders.has(one) && settingsOf(one).length > 0
       && (this.serial === '' || !one.serialNumber || one.serialNumber === this.serial))
   }
 
-  // One that left may be in the list for a moment, and can't be opened.
+  // Returns whether the device could be opened. The list may have one that left for a moment, and that can't be opened.
   async isOpened(device) {
     try {
       await this.open(device)

@@ -3,7 +3,7 @@
 // of it. A raw image gets its suffix here; with a device of DfuSe it needs none.
 import { DfuseHost, FILE } from './dfuse_host.js'
 import { elementText } from './dfuse_map.js'
-import { by, download, plain, say, showFields } from './elements.js'
+import { by, download, listOf, plain, say, showFields } from './elements.js'
 import { lacksSuffix, mayBeRaw, readFile } from './files.js'
 import { LOOKS, NAMED, REFUSAL } from './host.js'
 import { badByte, isCut, otherThanRaw } from './looks.js'
@@ -24,10 +24,11 @@ export class ChosenFile {
   constructor({ host, image }, onChange, ids) {
     Object.assign(this, { module: host, reader: image, own: null, taken: null, address: '' })
     Object.assign(this, { onChange, bytes: null, said: null, look: null, isDfuse: false, isAdded: false, name: '' })
-    Object.assign(this, { choices: 0, isLocked: false, isForDfuse: false, setting: null })
+    Object.assign(this, { choices: 0, shown: null, isLocked: false, isForDfuse: false, setting: null })
     this.raw = new RawImage(bytes => this.take(bytes, this.name, true), ids)
     // A file may be chosen a second time, because it may have been built anew.
     by('file').onclick = event => { event.target.value = '' }
+    by('file').oncancel = event => { if (this.shown !== null) event.target.files = listOf(this.shown) }
     by('file').onchange = event => event.target.files[0] && this.read(event.target.files[0])
     by('fill').onchange = () => { this.convert(by('fill').checked ? FILL : FILL_NONE); this.render(); this.onChange() }
     by('save').onclick = () => download(`${this.name.replace(/\.[^.]*$/, '')}.dfu`, this.bytes, 'application/octet-stream')
@@ -78,7 +79,10 @@ export class ChosenFile {
     const choice = ++this.choices
     const failed = error => say('file-refused', `The file can't be read: ${error.message}`)
     const buffer = await file.slice(0, MOST_FILE + 1).arrayBuffer().catch(failed)
-    if (!this.isLocked && buffer !== undefined && choice === this.choices) this.take(new Uint8Array(buffer), file.name)
+    if (this.isLocked || buffer === undefined || choice !== this.choices) return
+    this.shown = file
+    by('file').files = listOf(file)
+    this.take(new Uint8Array(buffer), file.name)
   }
 
   // isAdded: it had no suffix, and the page added one.

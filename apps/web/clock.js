@@ -18,7 +18,7 @@ export class Clock {
     this.tellStopped()
   }
 
-  // True once so many milliseconds have passed, and no fewer: a timer may come a little early.
+  // Waits until `ms` milliseconds have passed, and looks at the clock, because a timer may end early. Returns false after a stop.
   async wait(ms) {
     const end = this.now() + ms
     while (!this.isStopped && this.now() < end) {

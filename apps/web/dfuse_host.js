@@ -52,7 +52,7 @@ export class DfuseHost extends Library {
     return { elements: Array.from({ length: found }, (_, number) => this.read('dfuse_element', places + number * size)) }
   }
 
-  // The file as one element from that address on, so many bytes of its front.
+  // Makes one element of the first `length` bytes of the file, to be written from this address on.
   whole(address, length) {
     return [{ address, bytes: this.file, length }]
   }

@@ -16,7 +16,7 @@ export function rangeText(range) {
   return `${place} ${counted(range.count, 'page')} of ${counted(range.size, 'byte')} ${letters}`
 }
 
-// As 08000000 4 bytes.
+// Writes an element as its address and its length, for example `08000000 4 bytes`.
 export const elementText = ({ address, length }) => `${digits(address, 8)} ${counted(length, 'byte')}`
 
 // Counts the pages that have an address of a part of the memory, up to the first address that is on none.

@@ -16,7 +16,7 @@ export class DfuseWatch {
     return this.calls.dfuse_watch_closes(BigInt(this.host.session)) === 1
   }
 
-  // Returns how many milliseconds a wait takes.
+  // Returns the milliseconds to wait if the host asks for `ms`: the same, but 5 from the fourth wait of 0 ms in a row on.
   wait(ms) {
     return this.calls.dfuse_watch_wait(BigInt(this.record), ms) >>> 0
   }

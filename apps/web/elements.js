@@ -24,6 +24,13 @@ export function showFields(id, fields) {
 // Texts that others chose, as the name of a device: what would turn the direction of writing or break the line is shown as a dot.
 export const plain = text => text.replace(/[\u0000-\u001f\u007f-\u009f\u200e\u200f\u2028-\u202e\u2066-\u2069]/g, '·')
 
+// A list with one file, for a chooser to show.
+export function listOf(file) {
+  const data = new DataTransfer()
+  data.items.add(file)
+  return data.files
+}
+
 // Hands a person a file.
 export function download(name, data, type) {
   const address = URL.createObjectURL(new Blob([data], { type }))

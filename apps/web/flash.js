@@ -88,7 +88,7 @@ export class FlashView {
   async simulate() {
     by('flash').classList.remove('no-usb')
     by('no-usb').hidden = true
-    if (this.file.bytes === null) this.file.take(exampleFile(), 'example.dfu')
+    if (this.file.bytes === null) await this.file.read(new File([exampleFile()], 'example.dfu'))
     await this.connect(this.newSimulated())
     by('begin').focus()
   }

@@ -25,7 +25,7 @@ export class Library {
     return at
   }
 
-  // These bytes in the memory of the library; where they begin.
+  // Copies bytes into the memory of the library, and returns the address at which they begin there.
   put(bytes) {
     const at = this.reserve(bytes.length)
     this.bytes(at, bytes.length).set(bytes)

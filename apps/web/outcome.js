@@ -1,5 +1,5 @@
 // SPDX-License-Identifier: MIT OR Apache-2.0
-// What came of a session, where a person sees it: the report in large plain words, the title and the icon of the tab, and how many boards
+// Shows the outcome of a session to the person: the report in large plain words, the title and the icon of the tab, and how many boards
 // were flashed since the page was opened. Nothing makes a sound.
 import { by, download, make, plain } from './elements.js'
 import { lineOf } from './reports.js'
@@ -11,7 +11,7 @@ const count = (number, one, more) => `${number} ${number === 1 ? one : more}`
 
 export class Outcome {
   constructor() {
-    Object.assign(this, { title: document.title, log: '', good: 0, other: 0 })
+    Object.assign(this, { title: document.title, log: '', counts: { board: [0, 0], 'simulated board': [0, 0] } })
     by('log').onclick = () => download('dfu-session.log', this.log, 'text/plain')
   }
 
@@ -53,14 +53,16 @@ export class Outcome {
     this.mark(`${SIGNS[kind]} ${title}`, kind)
     this.log = `${[...trace.lines, `# ${lineOf({ name, code, words })}`].join('\n')}\n`
     by('log-row').hidden = false
-    this.tally(status === 0)
+    this.tally(status === 0, isReal ? 'board' : 'simulated board')
   }
 
-  tally(isGood) {
-    if (isGood) this.good++
-    else this.other++
-    const others = this.other === 0 ? '' : `, ${this.other} not`
-    by('tally').textContent = `${count(this.good, 'board is', 'boards are')} flashed${others}.`
+  // Boards and simulated ones are counted apart.
+  tally(isGood, what) {
+    const counts = this.counts[what]
+    counts[isGood ? 0 : 1]++
+    const [good, other] = counts
+    const others = other === 0 ? '' : `, ${other} not`
+    by('tally').textContent = `${count(good, `${what} is`, `${what}s are`)} flashed${others}.`
     by('next-row').hidden = false
   }
 }

@@ -143,15 +143,16 @@ export class PlayView {
     by('line').disabled = by('rest').disabled = this.isOver || this.lines.length === 0
     by('line').textContent = this.lines.length > 0 ? `Next line: ${this.lines[0].slice(0, 40) || '(none)'}` : 'Next line'
     by('script').textContent = this.text()
-    if (world.device !== null) this.showDevice()
+    if (world.device !== null) this.showDevice(wanted)
     const last = by('transfers').tBodies[0].lastElementChild
     if (last !== null) by('transfers').parentElement.scrollTo(0, last.offsetTop)
   }
 
-  showDevice() {
+  showDevice(wanted) {
     const { device, printed } = this.world
     this.diagram.show(device.state())
-    by('now').textContent = `The device: ${STATES[device.state()]}, ${CODES[device.code()]}`
+    by('now').textContent = `The device: ${STATES[device.state()]}, ${CODES[device.code()]}\n` +
+      (wanted === null ? 'No session goes on.' : `The host wants: ${actionOf(wanted)}`)
     by('state').textContent = `It is in ${STATES[device.state()]}, with the status ${CODES[device.code()]}.`
     this.before = showMedium(by('medium'), device, this.before)
     const image = device.image()

@@ -45,7 +45,7 @@ export class Progress {
     this.show({ phase: `${PHASES[this.phase]}${ofBytes}${waits}`, part, left: this.left(part) })
   }
 
-  // Of this phase alone, at the rate that it has had.
+  // Says how long this phase will still take at the rate that it has had. Nothing is said of the phases after it.
   left(part) {
     const passed = this.now() - this.began
     if (part === null || part === 0 || part === 1 || passed < SOON_MS) return ''

@@ -78,5 +78,5 @@ export function verdictOf(ended, { hasSent, isWhole, goal }) {
   return { name, status, words, title, means, not, code: name === 'refused' ? CODES[ended.code] : '' }
 }
 
-// As dfu-flash prints it.
+// Writes a report as dfu-flash prints it: `refused CODE: words`, or `name: words`.
 export const lineOf = ({ name, code, words }) => `${name}${code === '' ? '' : ` ${code}`}: ${words}`

@@ -53,7 +53,7 @@ class SimulatedDevice {
     return bytes === null ? { status: 'stall' } : { status: 'ok', data: viewOf(bytes) }
   }
 
-  // It has its configuration to give, and no strings.
+  // Answers a standard request: the device gives its configuration descriptor, and stalls every other one, also a string.
   describe({ value }, length) {
     return value === 0x0200 ? { status: 'ok', data: viewOf(this.bytes.slice(0, length)) } : { status: 'stall' }
   }

@@ -15,7 +15,7 @@ const NONE = new Uint8Array(0)
 // wDetachTimeOut, as the device wants it.
 const detachTime = ({ descriptor }) => (descriptor.length < FUNCTIONAL.BYTES_1_0 ? NO_DESCRIPTOR_MS : detachTimeOf(descriptor))
 
-// It leaves and comes back by itself, within that time.
+// Returns whether the device detaches and comes back by itself, within its wDetachTimeOut.
 export const willDetach = ({ descriptor }) => hasAttribute(descriptor, ATTRIBUTE.WILL_DETACH)
 
 export class Stalls {

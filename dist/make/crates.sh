@@ -6,6 +6,8 @@
 program=dfu_cmd
 libraries='dfu_device_c:dfu_core dfu_host_c:dfuse_watch dfu_boot_c:dfu_home_core:dfu_install_core:dfu_trial_core'
 of_page='dfu_device_c dfu_host_c'
+# The libraries that can read flash that is not mapped, by a function of the program's.
+of_reads='dfu_device_c dfu_boot_c'
 # The library that allocates: its header, and the number by which it refuses too little memory. It is of the page too.
 held=dfu_image_c:dfu_image_take:-103
 wanted=$program

@@ -7,7 +7,7 @@ function __dfu_at
     for word in (commandline -opc)[2..]
         if test $is_value -eq 1
             set is_value 0
-        else if contains -- $word --vid --pid --did --format --fill --interface --device --file
+        else if contains -- $word --vid --pid --did --format --fill --interface --device --file --part --boot --areas --parts
             set is_value 1
         else if not string match -q -- '-?*' $word
             set -a words $word
@@ -39,6 +39,7 @@ complete -c dfu -n __dfu_at -a set -d 'Change the identifiers of a DFU file in p
 complete -c dfu -n __dfu_at -a show -d 'Print the fields of bytes that go over the wire'
 complete -c dfu -n __dfu_at -a run -d 'Play a script of events on a simulated link of a host and a device'
 complete -c dfu -n __dfu_at -a judge -d 'Check a log or a capture of DFU traffic against USB DFU 1.1'
+complete -c dfu -n __dfu_at -a plan -d 'Place gates, headers and data on the flash of a part'
 complete -c dfu -n __dfu_at -a help -d 'Print help'
 complete -c dfu -n '__dfu_of check judge; or __dfu_at run; or __dfu_at add; or __dfu_at add FILE' -F
 complete -c dfu -n '__dfu_at extract; or __dfu_at extract FILE; or __dfu_at set' -F
@@ -52,6 +53,10 @@ complete -c dfu -r -F -n '__fish_seen_subcommand_from run' -l file -d 'The file 
 complete -c dfu -x -n '__fish_seen_subcommand_from judge' -l interface -d 'The number of the DFU interface'
 complete -c dfu -x -n '__fish_seen_subcommand_from judge' -l device -d 'The device in a capture'
 complete -c dfu -n '__fish_seen_subcommand_from judge' -l dfuse -d 'Check against DfuSe, an extension of USB DFU 1.1'
-complete -c dfu -n '__fish_seen_subcommand_from check show judge' -l json -d 'Print each line as a JSON object'
+complete -c dfu -x -n '__fish_seen_subcommand_from plan' -l part -d 'The part'
+complete -c dfu -x -n '__fish_seen_subcommand_from plan' -l boot -d 'Size of the bootloader'
+complete -c dfu -x -n '__fish_seen_subcommand_from plan' -l areas -d 'Number of areas for data' -a '2 3'
+complete -c dfu -r -F -n '__fish_seen_subcommand_from plan' -l parts -d 'A table of parts in place of the built-in one'
+complete -c dfu -n '__fish_seen_subcommand_from check show judge plan' -l json -d 'Print each line as a JSON object'
 complete -c dfu -n '__dfu_at show' -a 'functional status state setup configuration'
-complete -c dfu -n '__dfu_at help' -a 'check add extract set show run judge help'
+complete -c dfu -n '__dfu_at help' -a 'check add extract set show run judge plan help'

@@ -5,7 +5,6 @@
 #include "../bays.h"
 #include "../clock.h"
 #include "../crew.h"
-#include "../json.h"
 #include "../one.h"
 #include "../record.h"
 #include "../say.h"
@@ -15,6 +14,7 @@
 #include "../station.h"
 #include "../status.h"
 #include "../stop.h"
+#include "../summary.h"
 #include "../transport.h"
 
 #include <stdio.h>
@@ -29,6 +29,8 @@ static struct {
     struct wanted wanted;
     struct bays bays;
     struct crew crew;
+    struct port spare[PORTS_ROOM]; /* without --wait: those that were there, and aren't needed unless another one fails */
+    int spares, used;              /* how many there are, and were */
     bool is_stopped;
 } all;
 
@@ -80,7 +82,7 @@ static bool is_enough(void)
 {
     if (all.words->stamp != NULL && all.words->wait && stamp_free() == 0)
         return true;
-    return all.words->boards != 0 && all.crew.flashed + (unsigned)all.crew.count >= all.words->boards;
+    return all.words->boards != 0 && all.crew.taken + (unsigned)all.crew.count >= all.words->boards;
 }
 
 /* Lists the bus, and begins with each device that is another one than before. Returns 0, or an error of libusb after printing it. */
@@ -98,8 +100,20 @@ static int look(void)
         struct bay *bay = bays_see(&all.bays, &ports[at], now_ms);
         if (bay != NULL && !is_enough())
             crew_begin(&all.crew, all.words, &all.image, bay);
+        else if (bay != NULL && !all.words->wait)
+            all.spare[all.spares++] = ports[at];
     }
     return 0;
+}
+
+/* Without --wait: a board that was there from the beginning takes the place of one that failed. */
+static void replace_failed(void)
+{
+    while (all.used < all.spares && !all.is_stopped && !is_enough()) {
+        struct bay *bay = bays_see(&all.bays, &all.spare[all.used++], clock_ms());
+        if (bay != NULL)
+            crew_begin(&all.crew, all.words, &all.image, bay);
+    }
 }
 
 /* Returns whether --all goes on: a process is at work, or a device may still come, with --wait=SECONDS for so long since the last one came
@@ -129,6 +143,7 @@ static void loop(void)
     while (goes_on()) {
         crew_step(&all.crew, LOOK_MS);
         stop();
+        replace_failed();
         if (!all.words->wait || all.is_stopped || clock_ms() - looked_ms < LOOK_MS)
             continue;
         looked_ms = clock_ms();
@@ -150,29 +165,6 @@ static int say_none(void)
     return record_none(STATUS_NO_DEVICE, all.words->json);
 }
 
-/* With --report or --count: a record of all of them. */
-static void print_summary(int64_t began_ms)
-{
-    char words[64];
-    double seconds = (double)(clock_ms() - began_ms) / 1000;
-    if (all.words->report == NULL && all.words->boards == 0)
-        return;
-    snprintf(words, sizeof words, "%u flashed, %u not", all.crew.flashed, all.crew.failed);
-    if (!station_add(all.crew.worst, "summary", words, NULL, NULL, seconds))
-        all.crew.is_out = false;
-    if (!all.words->json)
-        return;
-    printf("{\"status\":%d,\"report\":\"summary\"", all.crew.worst);
-    json_text("words", words);
-    json_number("flashed", all.crew.flashed);
-    json_number("failed", all.crew.failed);
-    if (all.words->stamp != NULL)
-        json_number("entries", stamp_left());
-    station_json(NULL);
-    printf(",\"seconds\":%.3f}\n", seconds);
-    all.crew.is_out = record_out() && all.crew.is_out;
-}
-
 int all_run(const struct words *words)
 {
     int64_t began_ms = clock_ms();
@@ -192,9 +184,7 @@ int all_run(const struct words *words)
     loop();
     if (all.crew.flashed + all.crew.failed == 0)
         return say_none();
-    print_summary(began_ms);
-    if (!words->quiet)
-        fprintf(stderr, "dfu-flash: %u flashed, %u not\n", all.crew.flashed, all.crew.failed);
+    summary_print(&all.crew, words, (double)(clock_ms() - began_ms) / 1000);
     if (words->stamp != NULL && !words->quiet) {
         say_text(stderr, "dfu-flash: ", words->stamp, " has ");
         fprintf(stderr, "%zu more\n", stamp_left());

@@ -6,6 +6,7 @@
 #include "../record.h"
 #include "../rows.h"
 #include "../stamp.h"
+#include "../station.h"
 #include "../status.h"
 #include "../stop.h"
 #include "wake.h"
@@ -54,18 +55,28 @@ static void count_end(struct crew *crew, int status)
     crew->worst = is_worse(status, crew->worst) ? status : crew->worst;
     crew->flashed += status == STATUS_DONE;
     crew->failed += status != STATUS_DONE;
+    crew->taken += status == STATUS_DONE || status == STATUS_UNCONFIRMED;
     crew->came_ms = clock_ms();
+}
+
+/* Begins a process in this place of the list, for a board that had so many sessions. Returns whether it is there. */
+static bool begin_at(struct crew *crew, int at, struct bay *bay, uint32_t tries)
+{
+    struct words words = *crew->words;
+    words.tries = tries;
+    rows_clear(&rows);
+    if (worker_begin(&crew->workers[at], &words, crew->image, bay, rows.are_on))
+        return true;
+    count_end(crew, STATUS_FILE);
+    bay_end(bay, false, crew->came_ms);
+    return false;
 }
 
 void crew_begin(struct crew *crew, const struct words *words, struct image *image, struct bay *bay)
 {
-    rows_clear(&rows);
-    if (worker_begin(&crew->workers[crew->count], words, image, bay, rows.are_on)) {
-        crew->count++;
-        return;
-    }
-    count_end(crew, STATUS_FILE);
-    bay_end(bay, false, crew->came_ms);
+    crew->words = words;
+    crew->image = image;
+    crew->count += begin_at(crew, crew->count, bay, 0);
 }
 
 /* The record of one that could print none. */
@@ -77,7 +88,7 @@ static void print_lost(const struct crew *crew, const struct worker *worker, int
     unread.product = crew->product;
     record_each(worker->bay->path, &unread, &none);
     record_since(worker->began_ms);
-    record_short(status, status == STATUS_GONE ? "silent" : "broken", why, crew->is_json);
+    record_short(status, status == STATUS_GONE ? "silent" : status == STATUS_ABORTED ? "aborted" : "broken", why, crew->is_json);
 }
 
 /* A device is passed over. One that may be another than the one that was flashed must not go unnoticed. */
@@ -94,11 +105,20 @@ static void say_same(const struct worker *worker, int status)
         fprintf(stderr, "%s: %s\n", worker->bay->path, what);
 }
 
+/* Releases the entry of a process that has ended, if its device didn't take it; else the next record has that entry. */
+static void leave_stamp(struct worker *worker)
+{
+    if (worker->stamp != NULL && !worker->has_stamp)
+        stamp_release(worker->stamp);
+    stamp_is(worker->has_stamp ? worker->stamp : NULL, worker->has_stamp ? worker->bay->path : NULL);
+}
+
 static void end(struct crew *crew, struct worker *worker, int status, const char *why)
 {
     bool is_same = status == BAY_SAME || status == BAY_TAKEN;
     rows_clear(&rows);
-    worker_leave_stamp(worker);
+    leave_stamp(worker);
+    station_try(worker->tries);
     if (why != NULL)
         print_lost(crew, worker, status, why);
     else if (!is_same)
@@ -114,7 +134,22 @@ static void end(struct crew *crew, struct worker *worker, int status, const char
         count_end(crew, status);
     bay_end(worker->bay, is_same, clock_ms());
     stamp_is(NULL, NULL);
+    station_try(0);
     worker_drop(worker);
+}
+
+/* With --retry and --stamp: what came back at the port may be another board, so another process has another entry for it. */
+static bool begin_next(struct crew *crew, struct worker *worker, int at)
+{
+    struct bay *bay = worker->bay;
+    uint32_t tries = worker->tries;
+    worker->stamp = NULL;
+    if (stop_cause != STOP_NONE) {
+        end(crew, worker, STATUS_ABORTED, "given up by Ctrl-C or a signal; no block was sent");
+        return false;
+    }
+    worker_drop(worker);
+    return begin_at(crew, at, bay, tries);
 }
 
 /* Those that have ended are taken out; one that is over its time is killed. */
@@ -127,10 +162,12 @@ static void reap(struct crew *crew)
         int status = 0;
         if (worker->deadline_ms != 0 && clock_ms() >= worker->deadline_ms)
             worker_kill(worker);
-        if (worker_has_ended(worker, &status, &why))
-            end(crew, worker, status, why);
-        else
+        if (!worker_has_ended(worker, &status, &why))
             crew->workers[left++] = *worker;
+        else if (status == BAY_NEXT)
+            left += begin_next(crew, worker, left);
+        else
+            end(crew, worker, status, why);
     }
     crew->count = left;
 }

@@ -15,6 +15,7 @@
 #define ENDING ".used"
 
 static int used = -1;
+static char *used_name;
 
 /* The name beside the list itself, also where the list is named by a link; to be freed. */
 static char *name_of(const char *list)
@@ -70,12 +71,30 @@ static bool drop_torn(int file, char *text, bool only_looks, const char **why)
     return false;
 }
 
-static bool take(int file, const char **why)
+/* Returns whether the file is still the one of that name: an editor, for example, puts a new file in its place. */
+static bool is_in_place(int file, const char *name)
 {
-    if (flock(file, LOCK_EX | LOCK_NB) == 0)
+    struct stat here, there;
+    return fstat(file, &here) == 0 && lstat(name, &there) == 0 && here.st_dev == there.st_dev && here.st_ino == there.st_ino;
+}
+
+static bool take(int file, const char *name, const char **why)
+{
+    if (flock(file, LOCK_EX | LOCK_NB) != 0)
+        *why = errno == EWOULDBLOCK ? "another dfu-flash is at work with it" : strerror(errno);
+    else if (!is_in_place(file, name))
+        *why = "it was replaced just now: run it again";
+    else
         return true;
-    *why = errno == EWOULDBLOCK ? "another dfu-flash is at work with it" : strerror(errno);
     return false;
+}
+
+/* By a hard link a list would have a record beside each of its names. */
+static bool has_one_name(const char *list, const char **why)
+{
+    struct stat found;
+    *why = "its list has another name by a hard link, which would have a record of its own: copy the list";
+    return stat(list, &found) != 0 || found.st_nlink == 1;
 }
 
 bool used_open(const char *list, bool only_looks, char **text, const char **why)
@@ -86,13 +105,19 @@ bool used_open(const char *list, bool only_looks, char **text, const char **why)
     bool is_open;
     *text = NULL;
     *why = strerror(errno);
+    if (file >= 0 && !has_one_name(list, why)) {
+        close(file);
+        free(name);
+        return false;
+    }
     if (file < 0 && name != NULL && only_looks && errno == ENOENT) {
         free(name);
         *text = calloc(1, 1);
         return *text != NULL;
     }
-    is_open = file >= 0 && (only_looks || take(file, why)) && read_all(file, text, why) && drop_torn(file, *text, only_looks, why);
-    if (is_open && !only_looks && !keep_name(name)) {
+    is_open = file >= 0 && (only_looks || take(file, name, why)) && read_all(file, text, why) && drop_torn(file, *text, only_looks, why);
+    used_name = is_open && !only_looks ? strdup(name) : NULL;
+    if (is_open && !only_looks && (used_name == NULL || !keep_name(name))) {
         *why = strerror(errno);
         is_open = false;
     }
@@ -104,9 +129,17 @@ bool used_open(const char *list, bool only_looks, char **text, const char **why)
     return is_open;
 }
 
-/* Adds a line. If the disk is full a part of it may stay, because another process may have added a line behind it; used_open takes that
-   part away, or refuses it. */
+/* If the disk is full a part of a line may stay, because another process may have added a line behind it. Nothing was sent behind such a
+   part: used_open takes it away at the end, and refuses it elsewhere. The next line begins on a line of its own. */
+static bool end_torn(void)
+{
+    struct stat found;
+    char last = '\n';
+    return fstat(used, &found) == 0
+           && (found.st_size == 0 || (pread(used, &last, 1, found.st_size - 1) == 1 && (last == '\n' || write(used, "\n", 1) == 1)));
+}
+
 bool used_add(const char *line, size_t length)
 {
-    return used >= 0 && write(used, line, length) == (ssize_t)length && fsync(used) == 0;
+    return used >= 0 && is_in_place(used, used_name) && end_torn() && write(used, line, length) == (ssize_t)length && fsync(used) == 0;
 }

@@ -113,6 +113,7 @@ bool worker_begin(struct worker *worker, const struct words *words, struct image
     bool has_pipes = make_pipes(out, err);
     memset(worker, 0, sizeof *worker);
     worker->stamp = stamp_hold();
+    worker->tries = words->tries;
     fflush(NULL);
     worker->process = has_pipes ? fork() : -1;
     if (worker->process == 0) {
@@ -130,7 +131,8 @@ bool worker_begin(struct worker *worker, const struct words *words, struct image
             close(out[0]);
             close(err[0]);
         }
-        worker_leave_stamp(worker);
+        if (worker->stamp != NULL)
+            stamp_release(worker->stamp);
         return false;
     }
     reader_begin(&worker->out, out[0]);
@@ -146,7 +148,7 @@ bool worker_begin(struct worker *worker, const struct words *words, struct image
 /* The first character of a line that is for the first process alone. */
 #define ROW_MARK '\t'
 #define SERIAL_MARK '\v'
-#define STAMP_MARK '\f'
+#define BEGUN_MARK '\f'
 
 void worker_print_serial(bool is_upgrade, const char *serial)
 {
@@ -155,10 +157,10 @@ void worker_print_serial(bool is_upgrade, const char *serial)
     putchar('\n');
 }
 
-void worker_print_taken(void)
+bool worker_print_begun(uint32_t number, bool has_stamp)
 {
-    printf("%c\n", STAMP_MARK);
-    fflush(stdout);
+    printf("%c%u %d\n", BEGUN_MARK, (unsigned)number, has_stamp);
+    return fflush(stdout) == 0 && !ferror(stdout);
 }
 
 /* The serial number in a line, by its bytes. */
@@ -173,14 +175,21 @@ static void take_serial(struct bay *bay, const char *line)
     bay->has_serial[mode] = true;
 }
 
+static void take_begun(struct worker *worker, const char *line)
+{
+    char *rest;
+    worker->tries = (uint32_t)strtoul(line, &rest, 10);
+    worker->has_stamp = worker->has_stamp || strcmp(rest, " 1") == 0;
+}
+
 /* A line of standard output that has come whole. */
 static void take_line(void *with, const char *line)
 {
     struct worker *worker = with;
     if (line[0] == ROW_MARK)
         snprintf(worker->row, sizeof worker->row, "%s", line + 1);
-    else if (line[0] == STAMP_MARK)
-        worker->has_stamp = true;
+    else if (line[0] == BEGUN_MARK)
+        take_begun(worker, line + 1);
     else if (line[0] == SERIAL_MARK)
         take_serial(worker->bay, line + 1);
     else {
@@ -209,10 +218,9 @@ bool worker_has_ended(struct worker *worker, int *status, const char **why)
     if (!worker_is_ending(worker) || waitpid(worker->process, &how, WNOHANG) == 0)
         return false;
     *why = NULL;
-    if (WIFEXITED(how) && (worker->record != NULL || WEXITSTATUS(how) == BAY_SAME || WEXITSTATUS(how) == BAY_TAKEN)) {
-        *status = WEXITSTATUS(how);
+    *status = WIFEXITED(how) ? WEXITSTATUS(how) : 0;
+    if (WIFEXITED(how) && (worker->record != NULL || (*status >= BAY_SAME && *status <= BAY_NEXT)))
         return true;
-    }
     *status = worker->is_killed ? STATUS_GONE : STATUS_BROKEN;
     *why = worker->is_killed ? late : failed;
     return true;
@@ -231,13 +239,6 @@ void worker_kill(struct worker *worker)
     kill(worker->process, SIGKILL);
     worker->is_killed = true;
     worker->deadline_ms = 0;
-}
-
-void worker_leave_stamp(struct worker *worker)
-{
-    if (worker->stamp != NULL && !worker->has_stamp)
-        stamp_release(worker->stamp);
-    stamp_is(worker->has_stamp ? worker->stamp : NULL, worker->has_stamp ? worker->bay->path : NULL);
 }
 
 void worker_drop(struct worker *worker)

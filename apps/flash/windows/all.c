@@ -20,6 +20,9 @@ void worker_print_serial(bool is_upgrade, const char *serial)
     (void)serial;
 }
 
-void worker_print_taken(void)
+bool worker_print_begun(uint32_t number, bool has_stamp)
 {
+    (void)number;
+    (void)has_stamp;
+    return true;
 }

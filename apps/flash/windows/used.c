@@ -33,6 +33,7 @@ static int open_it(const char *list, bool only_looks)
     return file;
 }
 
+/* Reads the whole list. Refuses one with a NUL, because the text would seem to end there. */
 static bool read_all(int file, char **text, const char **why)
 {
     long size = _lseek(file, 0, SEEK_END);
@@ -47,7 +48,7 @@ static bool read_all(int file, char **text, const char **why)
     return strlen(*text) == (size_t)count;
 }
 
-/* A board is flashed only behind a line that is whole. */
+/* Cuts off a last line that was not ended, because a board is flashed only behind a whole line. A run that only looks leaves the file. */
 static bool drop_torn(int file, char *text, bool only_looks, const char **why)
 {
     char *end = strrchr(text, '\n');

@@ -5,7 +5,7 @@
 
 #include <stddef.h>
 
-/* To be freed; NULL for the reason in errno. */
+/* Returns the text in the other encoding, which the caller must free; or NULL, with the reason in errno. */
 wchar_t *utf16(const char *text);
 char *utf8(const wchar_t *text);
 

@@ -1,170 +1,144 @@
--- The command with one subcommand says of words whose first one names it what the whole command says of them.
-use Rattle.std.proofs.Common.{◌≡◌, ◌∙◌, ◌≤◌, ap, arith, codes, get_or, length, map, refl, subst, sym, true, IfOk, List, [], ◌∷◌, Option, Result, Ok, Err}
+-- The command with one subcommand says what the whole command says, of words whose first one names the subcommand.
+use Rattle.std.proofs.Common.{◌≡◌, ◌∙◌, ◌≤◌, ap, arith, codes, get_or, length, map, refl, subst, sym, true, IfOk, List, [], ◌∷◌, Bool, Option, Some, Result, Ok, Err, false}
 use Rattle.std.specs.Option.{option_map}
+use Rattle.std.specs.Str.{bytes_eq}
 use Rattle.clap.specs.Words.{App, Text, is_simple, is_simple_and_free, with_subcommand}
-use Rattle.clap.specs.Simple.{Shape, built, rows_at}
-use Rattle.clap.specs.Walk.{finished, nothing_held}
+use Rattle.clap.specs.Simple.{Shape, built, names_of, rows_at}
+use Rattle.clap.specs.Walk.{finished, idle, nothing_held, subcommand_met}
 use Rattle.dfu_args.specs.Alone.{SaysAll}
-use Rattle.dfu_args.specs.CommandLine.{add_app, check_app, dfu_app, extract_app, judge_app, run_app, set_app, show_app, top_app}
+use Rattle.dfu_args.specs.CommandLine.{add_app, check_app, dfu_app, extract_app, judge_app, plan_app, run_app, set_app, show_app, top_app}
 use Rattle.dfu_args.specs.Refusals.{word_faults}
 use Rattle.dfu_args.specs.Tables.{with_listed}
 use Rattle.dfu_args.specs.declared.commands.Listed.{Listed}
-use Rattle.dfu_args.proofs.FirstWord.{Meets, kinds_by, met_kinds, rows_by, sub_of, top_by}
+use Rattle.dfu_args.proofs.FirstWord.{CommandMeetsName, fault_kinds_of_met, kinds_of_met_subcommand, subcommand_rows_of_met, subcommand_named, own_rows_of_met}
 
--- The whole command says it itself.
-pub by_whole : (words : List Text) → SaysAll words dfu_app
+-- The whole command says of the words what it says itself.
+pub whole_command_says_all : (words : List Text) → SaysAll words dfu_app
 unfolding dfu_app word_faults
-by_whole words = record { simple = refl; free = refl; required = refl; top = refl; rows = refl; faults = refl }
+whole_command_says_all words = record { simple = refl; free = refl; required = refl; top = refl; rows = refl; faults = refl }
 
--- The subcommand, alone below the command, is the one that the whole command has of this name.
-abbrev alone_app : App → App
-alone_app sub = with_subcommand top_app sub.top
+-- The whole command, with only the one subcommand.
+abbrev app_of_subcommand_alone : App → App
+app_of_subcommand_alone sub = with_subcommand top_app sub.top
 
-record IsSame (sub : App) (name : Text) : Type 0 where
-  simple : is_simple (alone_app sub) ≡ true
-  free : is_simple_and_free (alone_app sub) ≡ true
-  required : (alone_app sub).top.subcommand_required ≡ true
-  one : Meets (alone_app sub) name
-  all : Meets dfu_app name
-  top : (built (alone_app sub)).top ≡ (built dfu_app).top
-  found : sub_of (built (alone_app sub)) name ≡ sub_of (built dfu_app) name
+-- Facts that decide how a command answers words whose first one names a subcommand, but for the name of the help.
+record CommandFacts : Type 0 where
+  simple : Bool
+  free : Bool
+  required : Bool
+  has_no_name : Bool
+  met : Option Text
+  top : Shape
+  found : Option Shape
 
-same_says : (sub : App) (name : Text) → IsSame sub name → (program : Text) (words : List Text)
-    → SaysAll (program ∷ name ∷ words) (alone_app sub)
-unfolding word_faults
-same_says sub name same program words = record {
-  simple = same.simple;
-  free = same.free;
-  required = same.required;
-  top = top_by (alone_app sub) name same.one program words ∙ (ap (λ (s : Shape). finished s.rules nothing_held) same.top
-      ∙ sym (top_by dfu_app name same.all program words));
-  rows = rows_by (alone_app sub) name same.one program words ∙ (ap (option_map (λ s. rows_at s words)) same.found
-      ∙ sym (rows_by dfu_app name same.all program words));
-  faults = kinds_by (alone_app sub) name same.one program words
-      ∙ (ap (λ (s : Shape). met_kinds s (sub_of (built (alone_app sub)) name) words) same.top
-      ∙ (ap (λ (o : Option Shape). met_kinds (built dfu_app).top o words) same.found
-      ∙ sym (kinds_by dfu_app name same.all program words)));
+facts_of_command : App → Text → CommandFacts
+facts_of_command app name = record {
+  simple = is_simple app;
+  free = is_simple_and_free app;
+  required = app.top.subcommand_required;
+  has_no_name = app.top.no_binary_name;
+  met = subcommand_met (names_of (built app)) idle name;
+  top = (built app).top;
+  found = subcommand_named (built app) name;
 }
 
-check_same : IsSame check_app (codes "check")
-unfolding dfu_app
-check_same = record {
-  simple = refl;
-  free = refl;
-  required = refl;
-  one = record { named = refl; met = refl; other = refl };
-  all = record { named = refl; met = refl; other = refl };
-  top = refl;
-  found = refl;
+-- Facts that a simple command has if the name is that of its subcommand, which is the one of the whole command.
+facts_of_subcommand : Text → CommandFacts
+facts_of_subcommand name = record {
+  simple = true;
+  free = true;
+  required = true;
+  has_no_name = false;
+  met = Some name;
+  top = (built dfu_app).top;
+  found = subcommand_named (built dfu_app) name;
 }
 
-add_same : IsSame add_app (codes "add")
-unfolding dfu_app
-add_same = record {
-  simple = refl;
-  free = refl;
-  required = refl;
-  one = record { named = refl; met = refl; other = refl };
-  all = record { named = refl; met = refl; other = refl };
-  top = refl;
-  found = refl;
-}
+module _ (sub : App) (name : Text) (one : facts_of_command (app_of_subcommand_alone sub) name
+    ≡ facts_of_subcommand name) (all : facts_of_command dfu_app name ≡ facts_of_subcommand name)
+    (other : bytes_eq name (codes "help") ≡ false) where
+  facts_mean_meeting : (app : App) → facts_of_command app name ≡ facts_of_subcommand name → CommandMeetsName app name
+  unfolding facts_of_command facts_of_subcommand
+  facts_mean_meeting app is = record {
+    named = ap (λ (f : CommandFacts). f.has_no_name) is;
+    met = ap (λ (f : CommandFacts). f.met) is;
+    other = other;
+  }
 
-extract_same : IsSame extract_app (codes "extract")
-unfolding dfu_app
-extract_same = record {
-  simple = refl;
-  free = refl;
-  required = refl;
-  one = record { named = refl; met = refl; other = refl };
-  all = record { named = refl; met = refl; other = refl };
-  top = refl;
-  found = refl;
-}
+  alone_top_is_same : (built (app_of_subcommand_alone sub)).top ≡ (built dfu_app).top
+  unfolding facts_of_command facts_of_subcommand
+  alone_top_is_same = ap (λ (f : CommandFacts). f.top) one
 
-set_same : IsSame set_app (codes "set")
-unfolding dfu_app
-set_same = record {
-  simple = refl;
-  free = refl;
-  required = refl;
-  one = record { named = refl; met = refl; other = refl };
-  all = record { named = refl; met = refl; other = refl };
-  top = refl;
-  found = refl;
-}
+  alone_subcommand_is_same : subcommand_named (built (app_of_subcommand_alone sub)) name ≡ subcommand_named (built dfu_app) name
+  unfolding facts_of_command facts_of_subcommand
+  alone_subcommand_is_same = ap (λ (f : CommandFacts). f.found) one
 
-show_same : IsSame show_app (codes "show")
-unfolding dfu_app
-show_same = record {
-  simple = refl;
-  free = refl;
-  required = refl;
-  one = record { named = refl; met = refl; other = refl };
-  all = record { named = refl; met = refl; other = refl };
-  top = refl;
-  found = refl;
-}
-
-run_same : IsSame run_app (codes "run")
-unfolding dfu_app
-run_same = record {
-  simple = refl;
-  free = refl;
-  required = refl;
-  one = record { named = refl; met = refl; other = refl };
-  all = record { named = refl; met = refl; other = refl };
-  top = refl;
-  found = refl;
-}
-
-judge_same : IsSame judge_app (codes "judge")
-unfolding dfu_app
-judge_same = record {
-  simple = refl;
-  free = refl;
-  required = refl;
-  one = record { named = refl; met = refl; other = refl };
-  all = record { named = refl; met = refl; other = refl };
-  top = refl;
-  found = refl;
-}
+  alone_app_says_all : (program : Text) (words : List Text) → SaysAll (program ∷ name ∷ words) (app_of_subcommand_alone sub)
+  unfolding facts_of_command facts_of_subcommand word_faults
+  alone_app_says_all program words = record {
+    simple = ap (λ (f : CommandFacts). f.simple) one;
+    free = ap (λ (f : CommandFacts). f.free) one;
+    required = ap (λ (f : CommandFacts). f.required) one;
+    top = own_rows_of_met (app_of_subcommand_alone sub) name (facts_mean_meeting (app_of_subcommand_alone sub) one) program words
+        ∙ (ap (λ (s : Shape). finished s.rules nothing_held) alone_top_is_same
+        ∙ sym (own_rows_of_met dfu_app name (facts_mean_meeting dfu_app all) program words));
+    rows = subcommand_rows_of_met (app_of_subcommand_alone sub) name (facts_mean_meeting (app_of_subcommand_alone sub) one) program words
+        ∙ (ap (option_map (λ s. rows_at s words)) alone_subcommand_is_same
+        ∙ sym (subcommand_rows_of_met dfu_app name (facts_mean_meeting dfu_app all) program words));
+    faults = fault_kinds_of_met (app_of_subcommand_alone sub) name (facts_mean_meeting (app_of_subcommand_alone sub) one) program words
+        ∙ (ap (λ (s : Shape). kinds_of_met_subcommand s (subcommand_named (built (app_of_subcommand_alone sub)) name) words)
+        alone_top_is_same
+        ∙ (ap (λ (o : Option Shape). kinds_of_met_subcommand (built dfu_app).top o words) alone_subcommand_is_same
+        ∙ sym (fault_kinds_of_met dfu_app name (facts_mean_meeting dfu_app all) program words)));
+  }
 
 module _ (program : Text) (words : List Text) where
-  pub check_says : SaysAll (program ∷ codes "check" ∷ words) (with_subcommand top_app check_app.top)
-  check_says = same_says check_app (codes "check") check_same program words
+  pub check_alone_says_all : SaysAll (program ∷ codes "check" ∷ words) (with_subcommand top_app check_app.top)
+  unfolding dfu_app facts_of_command facts_of_subcommand
+  check_alone_says_all = alone_app_says_all check_app (codes "check") refl refl refl program words
 
-  pub add_says : SaysAll (program ∷ codes "add" ∷ words) (with_subcommand top_app add_app.top)
-  add_says = same_says add_app (codes "add") add_same program words
+  pub add_alone_says_all : SaysAll (program ∷ codes "add" ∷ words) (with_subcommand top_app add_app.top)
+  unfolding dfu_app facts_of_command facts_of_subcommand
+  add_alone_says_all = alone_app_says_all add_app (codes "add") refl refl refl program words
 
-  pub extract_says : SaysAll (program ∷ codes "extract" ∷ words) (with_subcommand top_app extract_app.top)
-  extract_says = same_says extract_app (codes "extract") extract_same program words
+  pub extract_alone_says_all : SaysAll (program ∷ codes "extract" ∷ words) (with_subcommand top_app extract_app.top)
+  unfolding dfu_app facts_of_command facts_of_subcommand
+  extract_alone_says_all = alone_app_says_all extract_app (codes "extract") refl refl refl program words
 
-  pub set_says : SaysAll (program ∷ codes "set" ∷ words) (with_subcommand top_app set_app.top)
-  set_says = same_says set_app (codes "set") set_same program words
+  pub set_alone_says_all : SaysAll (program ∷ codes "set" ∷ words) (with_subcommand top_app set_app.top)
+  unfolding dfu_app facts_of_command facts_of_subcommand
+  set_alone_says_all = alone_app_says_all set_app (codes "set") refl refl refl program words
 
-  pub show_says : SaysAll (program ∷ codes "show" ∷ words) (with_subcommand top_app show_app.top)
-  show_says = same_says show_app (codes "show") show_same program words
+  pub show_alone_says_all : SaysAll (program ∷ codes "show" ∷ words) (with_subcommand top_app show_app.top)
+  unfolding dfu_app facts_of_command facts_of_subcommand
+  show_alone_says_all = alone_app_says_all show_app (codes "show") refl refl refl program words
 
-  pub run_says : SaysAll (program ∷ codes "run" ∷ words) (with_subcommand top_app run_app.top)
-  run_says = same_says run_app (codes "run") run_same program words
+  pub run_alone_says_all : SaysAll (program ∷ codes "run" ∷ words) (with_subcommand top_app run_app.top)
+  unfolding dfu_app facts_of_command facts_of_subcommand
+  run_alone_says_all = alone_app_says_all run_app (codes "run") refl refl refl program words
 
-  pub judge_says : SaysAll (program ∷ codes "judge" ∷ words) (with_subcommand top_app judge_app.top)
-  judge_says = same_says judge_app (codes "judge") judge_same program words
+  pub judge_alone_says_all : SaysAll (program ∷ codes "judge" ∷ words) (with_subcommand top_app judge_app.top)
+  unfolding dfu_app facts_of_command facts_of_subcommand
+  judge_alone_says_all = alone_app_says_all judge_app (codes "judge") refl refl refl program words
 
--- Words whose second one is a name are said all of by what says all of words behind a program's name and that name.
-pub first_says : {X : Type 0} (text : X → Text) (app : App) (name : Text)
+  pub plan_says : SaysAll (program ∷ codes "plan" ∷ words) (with_subcommand top_app plan_app.top)
+  unfolding dfu_app facts_of_command facts_of_subcommand
+  plan_says = alone_app_says_all plan_app (codes "plan") refl refl refl program words
+
+-- If a command says all of words behind a program's name and the subcommand's, it says all of words whose second one is the subcommand's
+-- name.
+pub second_word_says_all : {X : Type 0} (text : X → Text) (app : App) (name : Text)
     → ((program : Text) (words : List Text) → SaysAll (program ∷ name ∷ words) app) → (xs : List X) (y : X) → 2 ≤ length xs
     → y ≡ get_or xs 1 y → name ≡ text y → SaysAll (map text xs) app
-first_says text app name says [] y le is same = absurd (omega (arith, le))
-first_says text app name says (x ∷ []) y le is same = absurd (omega (arith, le))
-first_says text app name says (x ∷ z ∷ xs) y le is same =
+second_word_says_all text app name says [] y le is same = absurd (omega (arith, le))
+second_word_says_all text app name says (x ∷ []) y le is same = absurd (omega (arith, le))
+second_word_says_all text app name says (x ∷ z ∷ xs) y le is same =
     subst (λ (n : Text). SaysAll (text x ∷ n ∷ map text xs) app) (same ∙ ap text is) (says (text x) (map text xs))
 
--- A command that was made as one that says all does.
-pub made_says : {T E : Type 0} (app : T → App) (made : Result T E) (words : List Text) (l : Listed) (top : App)
+-- A command that was made as one that says all of the words says all of them.
+pub made_command_says_all : {T E : Type 0} (app : T → App) (made : Result T E) (words : List Text) (l : Listed) (top : App)
     → IfOk made (λ c. app c ≡ with_listed top l) → top ≡ top_app → SaysAll words (with_listed top_app l)
     → IfOk made (λ c. SaysAll words (app c))
-made_says app (Ok c) words l top over is says =
+made_command_says_all app (Ok c) words l top over is says =
     subst (λ (a : App). SaysAll words a) (sym (over ∙ ap (λ (t : App). with_listed t l) is)) says
-made_says app (Err e) words l top over is says = tt
+made_command_says_all app (Err e) words l top over is says = tt

@@ -1,4 +1,4 @@
--- Rows that all have a value, as a walk without a fault leaves them.
+-- Rows of arguments that all have a value, as a walk without a fault leaves them.
 use Rattle.std.proofs.Common.{◌≡◌, ◌<◌, ◌&&◌, ◌||◌, Bool, cond, true, false, not, refl, sym, ap, subst, arith, List, [], ◌∷◌, ◌++◌, length, Some, None, is_some, true≢false}
 use Rattle.std.specs.Prelude.{slice_get}
 use Rattle.std.specs.List.{find, fold, list_any}
@@ -13,57 +13,66 @@ use Rattle.clap.specs.declared.parser.matches.ValueSource.TheVariants.{DefaultVa
 use Rattle.std.proofs.lemmas.Slice.Eq.{bytes_eq-Decides}
 
 -- Each row has a value.
-abbrev pub Full : List Row → Type 0
-Full [] = Unit {0}
-Full (r ∷ rs) = (0 < length r.values) × Full rs
+abbrev pub EachRowHasValue : List Row → Type 0
+EachRowHasValue [] = Unit {0}
+EachRowHasValue (r ∷ rs) = (0 < length r.values) × EachRowHasValue rs
 
-append_full : (xs ys : List Row) → Full xs → Full ys → Full (xs ++ ys)
-append_full [] ys f g = g
-append_full (x ∷ xs) ys f g = (f.0, append_full xs ys f.1 g)
+joined_rows_have_values : (xs ys : List Row) → EachRowHasValue xs → EachRowHasValue ys → EachRowHasValue (xs ++ ys)
+joined_rows_have_values [] ys f g = g
+joined_rows_have_values (x ∷ xs) ys f g = (f.0, joined_rows_have_values xs ys f.1 g)
 
-at_full : (id : Text) (change : Row → List Row) (missing rows : List Row) → ((r : Row) → 0 < length r.values → Full (change r))
-    → Full missing → Full rows
-    → Full (at_row id change missing rows)
-at_full id change missing [] changed added f = added
-at_full id change missing (r ∷ rs) changed added f = go (bytes_eq r.id id) (at_full id change missing rs changed added f.1)
+changed_row_keeps_values : (id : Text) (change : Row → List Row) (missing rows : List Row) → ((r : Row) → 0 < length r.values →
+    EachRowHasValue (change r))
+    → EachRowHasValue missing → EachRowHasValue rows
+    → EachRowHasValue (at_row id change missing rows)
+changed_row_keeps_values id change missing [] changed added f = added
+changed_row_keeps_values id change missing (r ∷ rs) changed added f = go (bytes_eq r.id id) (changed_row_keeps_values id change missing rs
+    changed added f.1)
   where
-    go : (b : Bool) → Full (at_row id change missing rs) → Full (cond b (change r ++ rs) (r ∷ at_row id change missing rs))
-    go true rest = append_full (change r) rs (changed r f.0) f.1
+    go : (b : Bool) → EachRowHasValue (at_row id change missing rs) → EachRowHasValue (cond b (change r
+        ++ rs) (r ∷ at_row id change missing rs))
+    go true rest = joined_rows_have_values (change r) rs (changed r f.0) f.1
     go false rest = (f.0, rest)
 
 more : (xs ys : List Text) → 0 < length ys → 0 < length (xs ++ ys)
 more [] ys lt = lt
 more (x ∷ xs) ys lt = omega arith
 
--- Values that are given leave each row with a value.
-pub valued_full : (id : Text) (how : Reading) (s : ValueSource) (values : List Text) (rows : List Row) → 0 < length values → Full rows
-    → Full (with_values id how s values rows)
-valued_full id how s values rows lt f = at_full id (more_values s values) _ rows (λ r _. (more r.values values lt, tt)) (lt, tt) f
+-- A row that is given values has one, and each other row keeps its own.
+pub given_values_keep_rows_full : (id : Text) (how : Reading) (s : ValueSource) (values : List Text) (rows : List Row) →
+    0 < length values → EachRowHasValue rows
+    → EachRowHasValue (with_values id how s values rows)
+given_values_keep_rows_full id how s values rows lt f = changed_row_keeps_values id (more_values s values) _ rows (λ r _. (
+  more r.values
+      values lt,
+  tt,
+)) (lt, tt) f
 
--- A row that is taken away leaves each other with a value.
-pub without_full : (id : Text) (rows : List Row) → Full rows → Full (without id rows)
-without_full id rows f = at_full id (λ _. []) [] rows (λ _ _. tt) tt f
+-- Each row has a value, also if one is taken away.
+pub rest_has_values : (id : Text) (rows : List Row) → EachRowHasValue rows → EachRowHasValue (without id rows)
+rest_has_values id rows f = changed_row_keeps_values id (λ _. []) [] rows (λ _ _. tt) tt f
 
-default_full : (rows : List Row) (a : Rule) → Full rows → Full (with_default rows a)
-default_full rows a f = go (has_row a.id rows)
+default_keeps_rows_full : (rows : List Row) (a : Rule) → EachRowHasValue rows → EachRowHasValue (with_default rows a)
+default_keeps_rows_full rows a f = go (has_row a.id rows)
   where
-    given : (vs : List Text) → Full (default_rows a.id (reading_by a) vs rows)
+    given : (vs : List Text) → EachRowHasValue (default_rows a.id (reading_by a) vs rows)
     given [] = f
-    given (v ∷ vs) = valued_full a.id (reading_by a) DefaultValue (v ∷ vs) rows (omega arith) f
+    given (v ∷ vs) = given_values_keep_rows_full a.id (reading_by a) DefaultValue (v ∷ vs) rows (omega arith) f
 
-    go : (b : Bool) → Full (cond b rows (default_rows a.id (reading_by a) a.defaults rows))
+    go : (b : Bool) → EachRowHasValue (cond b rows (default_rows a.id (reading_by a) a.defaults rows))
     go true = f
     go false = given a.defaults
 
 -- Defaults leave each row with a value.
-pub defaults_full : (rules : List Rule) (rows : List Row) → Full rows → Full (fold with_default rows rules)
-defaults_full [] rows f = f
-defaults_full (a ∷ rest) rows f = defaults_full rest (with_default rows a) (default_full rows a f)
+pub defaults_keep_rows_full : (rules : List Rule) (rows : List Row) → EachRowHasValue rows → EachRowHasValue (fold with_default rows rules)
+defaults_keep_rows_full [] rows f = f
+defaults_keep_rows_full (a ∷ rest) rows f = defaults_keep_rows_full rest (with_default rows a) (default_keeps_rows_full rows a f)
 
-kept_at : (id other : Text) (s : ValueSource) (values : List Text) (missing rows : List Row) → has_row id rows ≡ true
+changed_row_keeps_row : (id other : Text) (s : ValueSource) (values : List Text) (missing rows : List Row) → has_row id rows ≡ true
     → has_row id (at_row other (more_values s values) missing rows) ≡ true
-kept_at id other s values missing [] e = absurd (true≢false (sym e))
-kept_at id other s values missing (r ∷ rs) e = go (bytes_eq r.id other) (tail (bytes_eq r.id id) (kept_at id other s values missing rs) e)
+changed_row_keeps_row id other s values missing [] e = absurd (true≢false (sym e))
+changed_row_keeps_row id other s values missing (r ∷ rs) e = go (bytes_eq r.id other) (tail (bytes_eq r.id id) (changed_row_keeps_row id
+    other s values missing rs) e)
   where
     tail : (b : Bool) → (has_row id rs ≡ true → has_row id (at_row other (more_values s values) missing rs) ≡ true)
         → (b || has_row id rs) ≡ true
@@ -76,27 +85,28 @@ kept_at id other s values missing (r ∷ rs) e = go (bytes_eq r.id other) (tail 
     go true rest = e
     go false rest = rest
 
-kept : (id : Text) (rows : List Row) (a : Rule) → has_row id rows ≡ true → has_row id (with_default rows a) ≡ true
-kept id rows a e = go (has_row a.id rows)
+default_keeps_row : (id : Text) (rows : List Row) (a : Rule) → has_row id rows ≡ true → has_row id (with_default rows a) ≡ true
+default_keeps_row id rows a e = go (has_row a.id rows)
   where
     given : (vs : List Text) → has_row id (default_rows a.id (reading_by a) vs rows) ≡ true
     given [] = e
-    given (v ∷ vs) = kept_at id a.id DefaultValue (v ∷ vs) _ rows e
+    given (v ∷ vs) = changed_row_keeps_row id a.id DefaultValue (v ∷ vs) _ rows e
 
     go : (b : Bool) → has_row id (cond b rows (default_rows a.id (reading_by a) a.defaults rows)) ≡ true
     go true = e
     go false = given a.defaults
 
-all_kept : (id : Text) (rules : List Rule) (rows : List Row) → has_row id rows ≡ true → has_row id (fold with_default rows rules) ≡ true
-all_kept id [] rows e = e
-all_kept id (a ∷ rest) rows e = all_kept id rest (with_default rows a) (kept id rows a e)
+defaults_keep_row : (id : Text) (rules : List Rule) (rows : List Row) → has_row id rows ≡ true →
+    has_row id (fold with_default rows rules) ≡ true
+defaults_keep_row id [] rows e = e
+defaults_keep_row id (a ∷ rest) rows e = defaults_keep_row id rest (with_default rows a) (default_keeps_row id rows a e)
 
-same_text : (id : Text) → bytes_eq id id ≡ true
-same_text id = (bytes_eq-Decides id id).1 refl
+text_equals_itself : (id : Text) → bytes_eq id id ≡ true
+text_equals_itself id = (bytes_eq-Decides id id).1 refl
 
 added : (id : Text) (how : Reading) (s : ValueSource) (values : List Text) (rows : List Row)
     → has_row id (with_values id how s values rows) ≡ true
-added id how s values [] = ap (λ b. b || false) (same_text id)
+added id how s values [] = ap (λ b. b || false) (text_equals_itself id)
 added id how s values (r ∷ rs) = go (bytes_eq r.id id) refl (added id how s values rs)
   where
     missing : List Row
@@ -107,12 +117,12 @@ added id how s values (r ∷ rs) = go (bytes_eq r.id id) refl (added id how s va
     go true is rest = ap (λ b. b || has_row id rs) is
     go false is rest = rw is rest
 
--- The argument is among these, and has a default.
+-- One of the arguments has the id, and a default.
 abbrev pub has_default : Text → List Rule → Bool
 has_default id rules = list_any (λ a. bytes_eq a.id id && not (is_empty a.defaults)) rules
 
-defaulted : (rows : List Row) (a : Rule) → is_empty a.defaults ≡ false → has_row a.id (with_default rows a) ≡ true
-defaulted rows a some = go (has_row a.id rows) refl
+default_adds_row : (rows : List Row) (a : Rule) → is_empty a.defaults ≡ false → has_row a.id (with_default rows a) ≡ true
+default_adds_row rows a some = go (has_row a.id rows) refl
   where
     given : (vs : List Text) → is_empty vs ≡ false → has_row a.id (default_rows a.id (reading_by a) vs rows) ≡ true
     given [] some = absurd (true≢false some)
@@ -123,27 +133,28 @@ defaulted rows a some = go (has_row a.id rows) refl
     go false is = given a.defaults some
 
 -- An argument with a default has a row once the defaults are there.
-pub default_row : (id : Text) (rules : List Rule) (rows : List Row) → has_default id rules ≡ true
+pub default_argument_has_row : (id : Text) (rules : List Rule) (rows : List Row) → has_default id rules ≡ true
     → has_row id (fold with_default rows rules) ≡ true
-default_row id [] rows e = absurd (true≢false (sym e))
-default_row id (a ∷ rest) rows e = go (bytes_eq a.id id) (is_empty a.defaults) refl refl e (default_row id rest (with_default rows a))
+default_argument_has_row id [] rows e = absurd (true≢false (sym e))
+default_argument_has_row id (a ∷ rest) rows e = go (bytes_eq a.id id) (is_empty a.defaults) refl refl e (default_argument_has_row id rest
+    (with_default rows a))
   where
     go : (b none : Bool) → bytes_eq a.id id ≡ b → is_empty a.defaults ≡ none → ((b && not none) || has_default id rest) ≡ true
         → (has_default id rest ≡ true → has_row id (fold with_default (with_default rows a) rest) ≡ true)
         → has_row id (fold with_default (with_default rows a) rest) ≡ true
     go true false is some e later =
-        all_kept id rest (with_default rows a) (subst (λ t. has_row t (with_default rows a)
-        ≡ true) ((bytes_eq-Decides a.id id).0 is) (defaulted rows a some))
+        defaults_keep_row id rest (with_default rows a) (subst (λ t. has_row t (with_default rows a)
+        ≡ true) ((bytes_eq-Decides a.id id).0 is) (default_adds_row rows a some))
     go true true is some e later = later e
     go false none is some e later = later e
 
--- The argument is among these, and has to be there.
-abbrev pub has_need : Text → List Rule → Bool
-has_need id rules = list_any (λ a. bytes_eq a.id id && a.required) rules
+-- One of the arguments has the id, and has to be there.
+abbrev pub is_required_argument : Text → List Rule → Bool
+is_required_argument id rules = list_any (λ a. bytes_eq a.id id && a.required) rules
 
-given_row : (id : Text) (rows : List Row) → is_given id rows ≡ true → has_row id rows ≡ true
-given_row id [] g = absurd (true≢false (sym g))
-given_row id (r ∷ rs) g = go (bytes_eq r.id id) g (given_row id rs)
+given_argument_has_row : (id : Text) (rows : List Row) → is_given id rows ≡ true → has_row id rows ≡ true
+given_argument_has_row id [] g = absurd (true≢false (sym g))
+given_argument_has_row id (r ∷ rs) g = go (bytes_eq r.id id) g (given_argument_has_row id rs)
   where
     go : (b : Bool) → option_map_or (λ (x : Row). explicit_source x.source) (cond b (Some r) (find (λ x. bytes_eq x.id id) rs)) false
         ≡ true
@@ -152,18 +163,21 @@ given_row id (r ∷ rs) g = go (bytes_eq r.id id) g (given_row id rs)
     go false g later = later g
 
 -- If nothing is missing, an argument that has to be there has a row.
-pub needed_row : (id : Text) (rules : List Rule) (rows : List Row)
-    → list_any (λ a. a.required && not (is_given a.id rows)) rules ≡ false → has_need id rules ≡ true
+pub required_argument_has_row : (id : Text) (rules : List Rule) (rows : List Row)
+    → list_any (λ a. a.required && not (is_given a.id rows)) rules ≡ false → is_required_argument id rules ≡ true
     → has_row id rows ≡ true
-needed_row id [] rows none e = absurd (true≢false (sym e))
-needed_row id (a ∷ rest) rows none e = go (bytes_eq a.id id) a.required (is_given a.id rows) refl refl none e (needed_row id rest rows)
+required_argument_has_row id [] rows none e = absurd (true≢false (sym e))
+required_argument_has_row id (a ∷ rest) rows none e = go (bytes_eq a.id id) a.required (is_given a.id rows) refl refl none e
+    (required_argument_has_row id rest rows)
   where
     go : (b needed given : Bool) → bytes_eq a.id id ≡ b → is_given a.id rows ≡ given
         → ((needed && not given) || list_any (λ x. x.required && not (is_given x.id rows)) rest) ≡ false
-        → ((b && needed) || has_need id rest) ≡ true
-        → (list_any (λ x. x.required && not (is_given x.id rows)) rest ≡ false → has_need id rest ≡ true → has_row id rows ≡ true)
+        → ((b && needed) || is_required_argument id rest) ≡ true
+        → (list_any (λ x. x.required && not (is_given x.id rows)) rest ≡ false → is_required_argument id rest ≡ true → has_row id rows
+        ≡ true)
         → has_row id rows ≡ true
-    go true true true is g none e later = given_row id rows (subst (λ t. is_given t rows ≡ true) ((bytes_eq-Decides a.id id).0 is) g)
+    go true true true is g none e later = given_argument_has_row id rows (subst (λ t. is_given t rows
+        ≡ true) ((bytes_eq-Decides a.id id).0 is) g)
     go true true false is g none e later = absurd (true≢false none)
     go true false given is g none e later = later none e
     go false true true is g none e later = later none e
@@ -171,9 +185,10 @@ needed_row id (a ∷ rest) rows none e = go (bytes_eq a.id id) a.required (is_gi
     go false false given is g none e later = later none e
 
 -- If each row has a value, an argument that has a row has a text.
-pub row_text : (id : Text) (rows : List Row) → Full rows → has_row id rows ≡ true → is_some (first_of id rows) ≡ true
-row_text id [] f e = absurd (true≢false (sym e))
-row_text id (r ∷ rs) f e = go (bytes_eq r.id id) e (row_text id rs f.1)
+pub argument_with_row_has_text : (id : Text) (rows : List Row) → EachRowHasValue rows → has_row id rows ≡ true →
+    is_some (first_of id rows) ≡ true
+argument_with_row_has_text id [] f e = absurd (true≢false (sym e))
+argument_with_row_has_text id (r ∷ rs) f e = go (bytes_eq r.id id) e (argument_with_row_has_text id rs f.1)
   where
     first : (vs : List Text) → 0 < length vs → is_some (slice_get vs 0) ≡ true
     first [] lt = absurd (omega arith)

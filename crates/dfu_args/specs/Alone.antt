@@ -15,6 +15,6 @@ pub record SaysAll (words : List Text) (app : App) : Type 0 where
   pub rows : subcommand_of app words ≡ subcommand_of dfu_app words
   pub faults : fault_of app words ≡ word_faults words
 
--- The listed subcommand, alone below the command, says all of words whose first one is its name.
+-- The command with the listed subcommand alone says all of words whose first one is its name.
 abbrev pub IsAlone : Listed → Type 0
 IsAlone l = (program : Text) (words : List Text) → SaysAll (program ∷ l.name.now ∷ words) (with_listed top_app l)

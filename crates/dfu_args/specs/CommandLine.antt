@@ -7,70 +7,80 @@ use Rattle.std.specs.String.{string_bytes}
 use Rattle.clap.specs.Words.{App, Row, Rule, Text, all_of, first_of, matches_of, new_app, new_rule, subcommand_of, with_rule, with_subcommand}
 use Rattle.clap.specs.declared.builder.ArgAction.TheVariants.{Append, Set, SetTrue}
 use Rattle.dfu_args.specs.declared.subcommand.Subcommand.{Subcommand}
-use Rattle.dfu_args.specs.declared.subcommand.Subcommand.TheVariants.{Check, Add, Extract, Change, Show, Run, Judge}
+use Rattle.dfu_args.specs.declared.subcommand.Subcommand.TheVariants.{Check, Add, Extract, Change, Show, Run, Judge, Plan}
 
 -- A positional argument that is needed has to be there, with one value.
-abbrev pub needed : Text → Rule
-needed id = record (new_rule id) { required = true; action = Some Set; value_names = 1 }
+abbrev pub required_rule : Text → Rule
+required_rule id = record (new_rule id) { required = true; action = Some Set; value_names = 1 }
 
 -- A positional argument that is repeated has to be there, with one value or more.
-abbrev pub repeated : Text → Rule
-repeated id = record (new_rule id) { required = true; action = Some Append; value_names = 1 }
+abbrev pub repeated_rule : Text → Rule
+repeated_rule id = record (new_rule id) { required = true; action = Some Append; value_names = 1 }
 
 -- A positional argument that is optional has a default, and may have more values than one.
-abbrev pub optional : Text → Text → Rule
-optional id default = record (new_rule id) { action = Some Append; value_names = 1; defaults = default ∷ [] }
+abbrev pub optional_rule : Text → Text → Rule
+optional_rule id default = record (new_rule id) { action = Some Append; value_names = 1; defaults = default ∷ [] }
 
 -- An option `--ID` has a value, and a default if it isn't given.
-abbrev pub option : Text → Text → Rule
-option id default = record (new_rule id) { long = Some id; action = Some Set; defaults = default ∷ [] }
+abbrev pub option_rule : Text → Text → Rule
+option_rule id default = record (new_rule id) { long = Some id; action = Some Set; defaults = default ∷ [] }
 
 -- An option `--ID` that is unset has no value if it isn't given.
-abbrev pub unset : Text → Rule
-unset id = record (new_rule id) { long = Some id; action = Some Set }
+abbrev pub unset_option_rule : Text → Rule
+unset_option_rule id = record (new_rule id) { long = Some id; action = Some Set }
+
+-- An option `--ID` that is wanted has to be there, with one value.
+abbrev pub wanted_option_rule : Text → Rule
+wanted_option_rule id = record (new_rule id) { long = Some id; required = true; action = Some Set }
 
 -- A flag `--ID` has no value, and is off if it isn't given.
-abbrev pub flag : Text → Rule
-flag id = record (new_rule id) { long = Some id; action = Some SetTrue }
+abbrev pub flag_rule : Text → Rule
+flag_rule id = record (new_rule id) { long = Some id; action = Some SetTrue }
 
 -- Each command takes the flag `--explain`.
-abbrev pub explained : App → App
-explained app = with_rule app (flag (codes "explain"))
+abbrev pub with_explain_flag : App → App
+with_explain_flag app = with_rule app (flag_rule (codes "explain"))
 
 -- A command of this name takes arguments by these rules, and the flag `--explain`.
-abbrev pub takes : Text → List Rule → App
-takes name rules = explained (fold with_rule (new_app name) rules)
+abbrev pub command_with_rules : Text → List Rule → App
+command_with_rules name rules = with_explain_flag (fold with_rule (new_app name) rules)
 
 -- The command `check` takes each FILE, and the flag `--json`.
 abbrev pub check_app : App
-check_app = takes (codes "check") (repeated (codes "file") ∷ flag (codes "json") ∷ [])
+check_app = command_with_rules (codes "check") (repeated_rule (codes "file") ∷ flag_rule (codes "json") ∷ [])
 
 -- The command `add` takes FILE, OUT and the options `--vid`, `--pid` and `--did`, each `ffff` by default, `--format` and `--fill`.
 abbrev pub add_app : App
-add_app = takes (codes "add") (needed (codes "file") ∷ needed (codes "to") ∷ option (codes "vid") (codes "ffff")
-    ∷ option (codes "pid") (codes "ffff") ∷ option (codes "did") (codes "ffff") ∷ unset (codes "format") ∷ unset (codes "fill") ∷ [])
+add_app = command_with_rules (codes "add") (required_rule (codes "file") ∷ required_rule (codes "to") ∷ option_rule (codes "vid") (codes "ffff")
+    ∷ option_rule (codes "pid") (codes "ffff") ∷ option_rule (codes "did") (codes "ffff") ∷ unset_option_rule (codes "format") ∷ unset_option_rule (codes "fill") ∷ [])
 
 -- The command `extract` takes FILE and OUT.
 abbrev pub extract_app : App
-extract_app = takes (codes "extract") (needed (codes "file") ∷ needed (codes "to") ∷ [])
+extract_app = command_with_rules (codes "extract") (required_rule (codes "file") ∷ required_rule (codes "to") ∷ [])
 
 -- The command `set` takes FILE and the options `--vid`, `--pid` and `--did`.
 abbrev pub set_app : App
-set_app = takes (codes "set") (needed (codes "file") ∷ unset (codes "vid") ∷ unset (codes "pid") ∷ unset (codes "did") ∷ [])
+set_app = command_with_rules (codes "set") (required_rule (codes "file") ∷ unset_option_rule (codes "vid") ∷ unset_option_rule (codes "pid") ∷ unset_option_rule (codes "did") ∷ [])
 
 -- The command `show` takes KIND, each HEX and the flag `--json`.
 abbrev pub show_app : App
-show_app = takes (codes "show") (needed (codes "kind") ∷ repeated (codes "hex") ∷ flag (codes "json") ∷ [])
+show_app = command_with_rules (codes "show") (required_rule (codes "kind") ∷ repeated_rule (codes "hex") ∷ flag_rule (codes "json") ∷ [])
 
 -- The command `run` takes SCRIPT, the flag `--trace`, and the option `--file`.
 abbrev pub run_app : App
-run_app = takes (codes "run") (needed (codes "script") ∷ flag (codes "trace") ∷ unset (codes "file") ∷ [])
+run_app = command_with_rules (codes "run") (required_rule (codes "script") ∷ flag_rule (codes "trace") ∷ unset_option_rule (codes "file") ∷ [])
 
 -- The command `judge` takes each FILE, `-` by default, the options `--interface`, `0` by default, and `--device`, `only` by default, and
 -- the flags `--dfuse` and `--json`.
 abbrev pub judge_app : App
-judge_app = takes (codes "judge") (optional (codes "file") (codes "-") ∷ option (codes "interface") (codes "0")
-    ∷ option (codes "device") (codes "only") ∷ flag (codes "dfuse") ∷ flag (codes "json") ∷ [])
+judge_app = command_with_rules (codes "judge") (optional_rule (codes "file") (codes "-") ∷ option_rule (codes "interface") (codes "0")
+    ∷ option_rule (codes "device") (codes "only") ∷ flag_rule (codes "dfuse") ∷ flag_rule (codes "json") ∷ [])
+
+-- The command `plan` takes the options `--part` and `--boot`, which have to be there, `--areas`, `2` by default, and `--parts`, and the flag
+-- `--json`.
+abbrev pub plan_app : App
+plan_app = command_with_rules (codes "plan") (wanted_option_rule (codes "part") ∷ wanted_option_rule (codes "boot")
+    ∷ option_rule (codes "areas") (codes "2") ∷ unset_option_rule (codes "parts") ∷ flag_rule (codes "json") ∷ [])
 
 -- The command `dfu` with no subcommand yet has to get one, and has a version.
 abbrev pub bare_app : App
@@ -78,22 +88,23 @@ bare_app = record (new_app (codes "dfu")) {
   top = record (new_app (codes "dfu")).top { subcommand_required = true; has_version = true };
 }
 
--- It takes the flag `--explain` before its subcommand too.
+-- The command `dfu` takes the flag `--explain` before its subcommand too.
 abbrev pub top_app : App
-top_app = explained bare_app
+top_app = with_explain_flag bare_app
 
--- The whole command `dfu` has the subcommands `check`, `add`, `extract`, `set`, `show`, `run` and `judge`.
+-- The whole command `dfu` has the subcommands `check`, `add`, `extract`, `set`, `show`, `run`, `judge` and `plan`.
 unfoldable pub dfu_app : App
 dfu_app =
-    with_subcommand (with_subcommand (with_subcommand (with_subcommand (with_subcommand (with_subcommand (with_subcommand top_app
-    check_app.top) add_app.top) extract_app.top) set_app.top) show_app.top) run_app.top) judge_app.top
+    with_subcommand (with_subcommand (with_subcommand (with_subcommand (with_subcommand (with_subcommand (with_subcommand
+    (with_subcommand top_app check_app.top) add_app.top) extract_app.top) set_app.top) show_app.top) run_app.top) judge_app.top)
+    plan_app.top
 
 -- The text of a flag says that it is on.
 abbrev pub is_on : Option Text → Bool
 is_on None = false
 is_on (Some text) = bytes_eq text (codes "true")
 
--- The subcommand is what clap states for the words, each text in its own place.
+-- The subcommand is what clap states for the words, with each text in its own place.
 abbrev pub States : Option (Text × List Row) → Subcommand → Type 0
 States None subcommand = ⊥
 States (Some p) (Check files json) = (p.0 ≡ codes "check") × (all_of (codes "file") p.1 ≡ Some (map string_bytes files.items))
@@ -117,14 +128,18 @@ States (Some p) (Judge files interface device dfuse json) =
     (p.0 ≡ codes "judge") × (all_of (codes "file") p.1 ≡ Some (map string_bytes files.items))
     × (first_of (codes "interface") p.1 ≡ Some (string_bytes interface)) × (first_of (codes "device") p.1 ≡ Some (string_bytes device))
     × (dfuse ≡ is_on (first_of (codes "dfuse") p.1)) × (json ≡ is_on (first_of (codes "json") p.1))
+States (Some p) (Plan part boot areas parts json) =
+    (p.0 ≡ codes "plan") × (first_of (codes "part") p.1 ≡ Some (string_bytes part)) × (first_of (codes "boot") p.1 ≡ Some (string_bytes boot))
+    × (first_of (codes "areas") p.1 ≡ Some (string_bytes areas)) × (first_of (codes "parts") p.1 ≡ option_map string_bytes parts)
+    × (json ≡ is_on (first_of (codes "json") p.1))
 
 -- The rows of a subcommand; none if there is no subcommand.
-abbrev pub rows_in : Option (Text × List Row) → List Row
-rows_in None = []
-rows_in (Some p) = p.1
+abbrev pub rows_of_subcommand : Option (Text × List Row) → List Row
+rows_of_subcommand None = []
+rows_of_subcommand (Some p) = p.1
 
 -- The words ask for the reason of a refusal: they have the flag `--explain`, before the subcommand or after it.
 abbrev pub wants_reason : List Text → Bool
 wants_reason words =
     is_on (first_of (codes "explain") (matches_of dfu_app words))
-    || is_on (first_of (codes "explain") (rows_in (subcommand_of dfu_app words)))
+    || is_on (first_of (codes "explain") (rows_of_subcommand (subcommand_of dfu_app words)))

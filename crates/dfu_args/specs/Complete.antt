@@ -1,10 +1,10 @@
--- Each text of a subcommand is there.
+-- Texts of a subcommand's arguments, all of which are there.
 use Rattle.std.specs.Prelude.{◌≡◌, true, false, List, [], ◌∷◌, if◌then◌else◌, is_some, codes}
 use Rattle.std.specs.Str.{bytes_eq}
 use Rattle.clap.specs.Words.{Row, Text, first_of}
 use Rattle.clap.specs.Walk.{is_empty}
 
--- The arguments of the subcommand with this name; there are none if it is no subcommand.
+-- Arguments of the subcommand with this name; none for a name that is no subcommand's.
 abbrev pub arguments_of : Text → List Text
 arguments_of name =
     if bytes_eq name (codes "check") then codes "file" ∷ []
@@ -13,13 +13,14 @@ arguments_of name =
     else (if bytes_eq name (codes "set") then codes "file" ∷ []
     else (if bytes_eq name (codes "show") then codes "kind" ∷ codes "hex" ∷ []
     else (if bytes_eq name (codes "run") then codes "script" ∷ []
-    else (if bytes_eq name (codes "judge") then codes "file" ∷ codes "interface" ∷ codes "device" ∷ [] else []))))))
+    else (if bytes_eq name (codes "judge") then codes "file" ∷ codes "interface" ∷ codes "device" ∷ []
+    else (if bytes_eq name (codes "plan") then codes "part" ∷ codes "boot" ∷ codes "areas" ∷ [] else [])))))))
 
--- Each of these arguments has a text.
+-- Each of the arguments has a text.
 abbrev pub HasTexts : List Text → List Row → Type 0
 HasTexts [] rows = Unit {0}
 HasTexts (id ∷ ids) rows = (is_some (first_of id rows) ≡ true) × HasTexts ids rows
 
--- The name is that of a subcommand with arguments, and each of them has a text.
+-- The name is that of a subcommand with arguments, and each of its arguments has a text.
 abbrev pub IsComplete : Text → List Row → Type 0
 IsComplete name rows = (is_empty (arguments_of name) ≡ false) × HasTexts (arguments_of name) rows

@@ -9,7 +9,7 @@ ghost use Rattle.dfu_args.specs.CommandLine.{dfu_app, top_app};
 ghost use Rattle.dfu_args.specs.Alone.{IsAlone, SaysAll};
 ghost use Rattle.dfu_args.specs.Complete.{IsComplete};
 ghost use Rattle.dfu_args.specs.Refusals.{ResultOfKinds, IsFaultOfKinds, word_faults};
-ghost use Rattle.dfu_args.specs.Tables.{app_in, rule_in, with_listed, with_row};
+ghost use Rattle.dfu_args.specs.Tables.{app_of_listed, rule_of_row, with_listed, with_row};
 
 use crate::commands::{COMMANDS, DFU, Kind, Listed, Row};
 use crate::help;
@@ -18,9 +18,9 @@ use clap::error::ErrorKind;
 use clap::{Arg, ArgAction, ArgMatches, Command};
 use std::alloc::{AllocError, Global};
 
-/// The argument that a row states.
+/// Returns the argument that `row` states.
 fn arg_of<'a>(alloc: Global, row: &Row<'a>) -> Arg<'a>
-    ensures rule { rule_of result ≡ rule_in row.now }
+    ensures rule { rule_of result ≡ rule_of_row row.now }
     ensures local { result.global ≡ false }
 {
     let Row(id, kind, help) = *row;
@@ -37,11 +37,12 @@ fn arg_of<'a>(alloc: Global, row: &Row<'a>) -> Arg<'a>
             .default_value(default),
         Kind::Option(default) => arg.long(id).action(ArgAction::Set).default_value(default),
         Kind::Unset => arg.long(id).action(ArgAction::Set),
+        Kind::Wanted => arg.long(id).required(true).action(ArgAction::Set),
         Kind::Flag => arg.long(id).action(ArgAction::SetTrue),
     }
 }
 
-/// A command with an argument more for each row.
+/// Adds the argument of each of `rows` to `command`.
 fn with_rows<'a>(
     alloc: Global,
     command: Command<'a>,
@@ -58,9 +59,9 @@ fn with_rows<'a>(
     Ok(command)
 }
 
-/// A command with its arguments.
+/// Returns the command of `listed`, with its arguments.
 fn made<'a>(alloc: Global, listed: &Listed<'a>) -> Result<Command<'a>, AllocError>
-    ensures app { IfOk result (λ c. app_of c ≡ app_in listed.now) }
+    ensures app { IfOk result (λ c. app_of c ≡ app_of_listed listed.now) }
     ensures local { IfOk result (λ c. (out-Command c).has_globals ≡ false) }
 {
     let command = Command::new(alloc, listed.name)
@@ -69,7 +70,7 @@ fn made<'a>(alloc: Global, listed: &Listed<'a>) -> Result<Command<'a>, AllocErro
     with_rows(alloc, command, listed.rows)
 }
 
-/// A command with a subcommand more.
+/// Adds the subcommand of `listed` to `command`.
 fn with_command<'a>(
     alloc: Global,
     command: Command<'a>,
@@ -83,7 +84,7 @@ fn with_command<'a>(
     command.subcommand(listed)
 }
 
-/// A command with a subcommand more for each that is listed.
+/// Adds the subcommand of each of `listed` to `command`.
 fn with_commands<'a>(
     alloc: Global,
     command: Command<'a>,
@@ -100,7 +101,7 @@ fn with_commands<'a>(
     Ok(command)
 }
 
-/// The command before its subcommands: it has to get one, and has a version.
+/// Returns the command before its subcommands: it must get one, and has a version.
 fn top_command<'a>(alloc: Global) -> Result<Command<'a>, AllocError>
     ensures app { IfOk result (λ c. app_of c ≡ top_app) }
     ensures local { IfOk result (λ c. (out-Command c).has_globals ≡ false) }
@@ -112,7 +113,7 @@ fn top_command<'a>(alloc: Global) -> Result<Command<'a>, AllocError>
         .bin_name("dfu")
 }
 
-/// The subcommands. They make the whole command, and words whose first one names one of them are answered by it alone.
+/// Returns the subcommands. They make the whole command, and words whose first one names one of them are answered by it alone.
 fn commands() -> &'static [Listed<'static>]
     ensures whole { (words : List (List ℕ)) → SaysAll words (fold with_listed top_app result.now) }
     ensures alone { All IsAlone result.now }
@@ -120,7 +121,7 @@ fn commands() -> &'static [Listed<'static>]
     &COMMANDS
 }
 
-/// The subcommand with this name, if there is one.
+/// Returns the subcommand with name `name`; None if there is none.
 fn listed_of(name: &str) -> Option<&'static Listed<'static>>
     ensures alone { IfSome result (λ l. IsAlone l.now) }
     ensures named { IfSome result (λ l. l.now.name.now ≡ name.now) }
@@ -133,7 +134,7 @@ fn listed_of(name: &str) -> Option<&'static Listed<'static>>
     None
 }
 
-/// The command with the subcommand that the first word names, or else with each.
+/// Returns the command with the one subcommand that the first of `words` names, or else with each.
 fn dfu_command<'a>(alloc: Global, words: &[String]) -> Result<Command<'a>, AllocError>
     ensures app { IfOk result (λ c. SaysAll (map string_bytes words.now) (app_of c)) }
     ensures local { IfOk result (λ c. (out-Command c).has_globals ≡ false) }
@@ -147,7 +148,7 @@ fn dfu_command<'a>(alloc: Global, words: &[String]) -> Result<Command<'a>, Alloc
     with_commands(alloc, command, commands())
 }
 
-/// Returns clap's matches of the words.
+/// Returns clap's matches of `words`.
 pub(crate) fn matches_of<'a>(
     alloc: Global,
     words: &'a [String],
@@ -168,7 +169,7 @@ pub(crate) fn matches_of<'a>(
     }
 }
 
-/// The fault of an error of the parser: out of memory, or the words.
+/// Returns the fault of `error`, that of the parser: out of memory, or the words.
 fn fault_of(error: clap::Error) -> ArgsFault
     ensures { (kinds : Kinds) → HasKind kinds error → IsFaultOfKinds kinds result }
 {

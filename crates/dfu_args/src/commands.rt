@@ -19,7 +19,9 @@ pub(crate) enum Kind<'a> {
     Option(&'a str),
     /// An option with a value, which has none if it isn't given.
     Unset,
-    /// A flag, which is off if it isn't given.
+    /// An option with a value, which must be there.
+    Wanted,
+    /// A flag, which is off if the words don't have it.
     Flag,
 }
 
@@ -43,7 +45,7 @@ pub(crate) static DFU: Listed<'static> = Listed {
 };
 
 /// The subcommands.
-pub(crate) static COMMANDS: [Listed<'static>; 7] = [
+pub(crate) static COMMANDS: [Listed<'static>; 8] = [
     Listed {
         name: "check",
         about: help::CHECK,
@@ -122,6 +124,19 @@ pub(crate) static COMMANDS: [Listed<'static>; 7] = [
             Row("interface", Kind::Option("0"), help::JUDGE_INTERFACE),
             Row("device", Kind::Option("only"), help::JUDGE_DEVICE),
             Row("dfuse", Kind::Flag, help::JUDGE_DFUSE),
+            Row("json", Kind::Flag, help::JSON),
+            EXPLAIN,
+        ],
+    },
+    Listed {
+        name: "plan",
+        about: help::PLAN,
+        example: help::PLAN_EXAMPLE,
+        rows: &[
+            Row("part", Kind::Wanted, help::PLAN_PART),
+            Row("boot", Kind::Wanted, help::PLAN_BOOT),
+            Row("areas", Kind::Option("2"), help::PLAN_AREAS),
+            Row("parts", Kind::Unset, help::PLAN_PARTS),
             Row("json", Kind::Flag, help::JSON),
             EXPLAIN,
         ],

@@ -107,3 +107,18 @@ Example:
   dfu judge examples/captures/dfu-util.log
 
 Exit status: 0 if the device conforms; 1 if it violates the standard, or conforms only with known deviations";
+
+pub(crate) const PLAN: &str = "Place gates, headers and data on the flash of a part";
+
+pub(crate) const PLAN_PART: &str = "The part, by its name in the table, as stm32f407";
+
+pub(crate) const PLAN_BOOT: &str = "Size of the bootloader, as 32k, 0x8000 or 32768";
+
+pub(crate) const PLAN_AREAS: &str = "Number of areas for data; 2, or 3 with a run area";
+
+pub(crate) const PLAN_PARTS: &str =
+    "A table of parts in place of the built-in one, or - for standard input";
+
+pub(crate) const PLAN_EXAMPLE: &str = "\
+Example:
+  dfu plan --part stm32f407 --boot 32k";

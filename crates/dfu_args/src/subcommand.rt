@@ -7,7 +7,7 @@ pub enum Subcommand {
     Check {
         /// Each FILE, one at least.
         files: Vec<String>,
-        /// Tells whether each line is to be an object: `--json` was given.
+        /// True if each line is to be an object: `--json` was given.
         json: bool,
     },
     /// Write a file and a suffix for it.
@@ -51,14 +51,14 @@ pub enum Subcommand {
         kind: String,
         /// Each HEX, one at least: the bytes, two hexadecimal digits each.
         hex: Vec<String>,
-        /// Tells whether each line is to be an object: `--json` was given.
+        /// True if each line is to be an object: `--json` was given.
         json: bool,
     },
     /// Run a script, or that of standard input if `script` is `-`.
     Run {
         /// SCRIPT.
         script: String,
-        /// Tells whether each action is to be printed: `--trace` was given.
+        /// True if each action is to be printed: `--trace` was given.
         trace: bool,
         /// The file that FILE means, or standard input if it is `-`; none without `--file`.
         file: Option<String>,
@@ -71,23 +71,36 @@ pub enum Subcommand {
         interface: String,
         /// BUS.DEVICE, or `only`.
         device: String,
-        /// Tells whether it is to be a device that speaks DfuSe: `--dfuse` was given.
+        /// True if the device is to be judged as one that speaks DfuSe: `--dfuse` was given.
         dfuse: bool,
+        /// True if each line is to be an object: `--json` was given.
+        json: bool,
+    },
+    /// Place gates, headers and data on the flash of a part.
+    Plan {
+        /// Name of the part.
+        part: String,
+        /// Size of the bootloader, as 32k.
+        boot: String,
+        /// Number of areas of data, 2 or 3.
+        areas: String,
+        /// File of parts, or standard input if it is `-`; none without `--parts`.
+        parts: Option<String>,
         /// Tells whether each line is to be an object: `--json` was given.
         json: bool,
     },
 }
 
-/// A subcommand, and how it is to be done.
+/// A subcommand, and the options that every subcommand has.
 #[derive(Drop)]
 pub struct ParsedArgs {
     /// Subcommand that is to be done.
     pub subcommand: Subcommand,
-    /// Tells whether the reason of a refusal is wanted: `--explain` was given.
+    /// True if the reason of a refusal is wanted: `--explain` was given.
     pub explain: bool,
 }
 
-/// Faults for which the words ask for no subcommand.
+/// A fault for which the words ask for no subcommand.
 #[derive(Drop)]
 pub enum ArgsFault {
     /// The parser refused the words, or they ask for help: its text and its exit status.

@@ -4,7 +4,7 @@ ghost use Rattle.std.specs.Prelude.{◌≡◌, ◌||◌, IfOk, IfSome, Some, cod
 ghost use Rattle.std.specs.Option.{option_map};
 ghost use Rattle.std.specs.String.{string_bytes};
 ghost use Rattle.clap.specs.Words.{all_of, first_of, found_of, has_subcommand, rows_of, subcommand_of, subcommand_rows_of};
-ghost use Rattle.dfu_args.specs.CommandLine.{wants_reason, dfu_app, is_on, rows_in, States};
+ghost use Rattle.dfu_args.specs.CommandLine.{wants_reason, dfu_app, is_on, rows_of_subcommand, States};
 ghost use Rattle.dfu_args.specs.Complete.{HasTexts, IsComplete, arguments_of};
 ghost use Rattle.dfu_args.specs.Refusals.{ResultOfKinds, word_faults};
 
@@ -26,7 +26,7 @@ fn text_of(alloc: Global, found: &ArgMatches<'_>, id: &str) -> Result<String, Al
     String::from_str(alloc, text)
 }
 
-/// The texts of an argument, of which there is one at least.
+/// Returns the texts of argument `id` in `found`, which must have one at least.
 #[inline(never)]
 fn texts_of(alloc: Global, found: &ArgMatches<'_>, id: &str) -> Result<Vec<String>, AllocError>
     requires there { is_some (first_of id.now (rows_of (found_of found.now))) ≡ true }
@@ -47,7 +47,7 @@ fn texts_of(alloc: Global, found: &ArgMatches<'_>, id: &str) -> Result<Vec<Strin
     Ok(texts)
 }
 
-/// The text of an option, if it was given.
+/// Returns the text of option `id` in `found`; None if it was not given.
 fn text_if(alloc: Global, found: &ArgMatches<'_>, id: &str) -> Result<Option<String>, AllocError>
     ensures { IfOk result (λ t. first_of id.now (rows_of (found_of found.now)) ≡ option_map string_bytes t) }
 {
@@ -60,7 +60,7 @@ fn text_if(alloc: Global, found: &ArgMatches<'_>, id: &str) -> Result<Option<Str
     }
 }
 
-/// Returns whether a flag was given.
+/// Returns true if flag `id` was given, by `found`.
 fn is_on(found: &ArgMatches<'_>, id: &str) -> bool
     ensures { result ≡ is_on (first_of id.now (rows_of (found_of found.now))) }
 {
@@ -151,6 +151,19 @@ fn parse_judge(alloc: Global, found: &ArgMatches<'_>) -> Result<Subcommand, Allo
     })
 }
 
+fn parse_plan(alloc: Global, found: &ArgMatches<'_>) -> Result<Subcommand, AllocError>
+    requires texts { HasTexts (arguments_of (codes "plan")) (rows_of (found_of found.now)) }
+    ensures { IfOk result (λ j. States (Some (codes "plan", rows_of (found_of found.now))) j) }
+{
+    Ok(Subcommand::Plan {
+        part: text_of(alloc, found, "part")?,
+        boot: text_of(alloc, found, "boot")?,
+        areas: text_of(alloc, found, "areas")?,
+        parts: text_if(alloc, found, "parts")?,
+        json: is_on(found, "json"),
+    })
+}
+
 fn chosen(alloc: Global, matches: &ArgMatches<'_>) -> Result<Subcommand, AllocError>
     requires named { has_subcommand matches.now ≡ true }
     requires complete { IfSome (subcommand_rows_of matches.now) (λ p. IsComplete p.0 p.1) }
@@ -167,13 +180,14 @@ fn chosen(alloc: Global, matches: &ArgMatches<'_>) -> Result<Subcommand, AllocEr
         "show" => parse_show(alloc, found),
         "run" => parse_run(alloc, found),
         "judge" => parse_judge(alloc, found),
+        "plan" => parse_plan(alloc, found),
         _ => unreachable!(),
     }
 }
 
-/// Returns whether the flag was given after the subcommand.
+/// Returns true if flag `id` was given after the subcommand, by `matches`.
 fn is_on_below(matches: &ArgMatches<'_>, id: &str) -> bool
-    ensures { result ≡ is_on (first_of id.now (rows_in (subcommand_rows_of matches.now))) }
+    ensures { result ≡ is_on (first_of id.now (rows_of_subcommand (subcommand_rows_of matches.now))) }
 {
     match matches.subcommand() {
         Some((_name, found)) => is_on(found, id),
@@ -181,13 +195,13 @@ fn is_on_below(matches: &ArgMatches<'_>, id: &str) -> bool
     }
 }
 
-/// Returns the request of these matches.
+/// Returns the request of `matches`.
 fn asked(alloc: Global, matches: &ArgMatches<'_>) -> Result<ParsedArgs, AllocError>
     requires named { has_subcommand matches.now ≡ true }
     requires complete { IfSome (subcommand_rows_of matches.now) (λ p. IsComplete p.0 p.1) }
     ensures subcommand { IfOk result (λ a. States (subcommand_rows_of matches.now) a.subcommand) }
     ensures explain { IfOk result (λ a. a.explain ≡ (is_on (first_of (codes "explain") (rows_of (found_of matches.now)))
-        || is_on (first_of (codes "explain") (rows_in (subcommand_rows_of matches.now))))) }
+        || is_on (first_of (codes "explain") (rows_of_subcommand (subcommand_rows_of matches.now))))) }
 {
     Ok(ParsedArgs {
         subcommand: chosen(alloc, matches)?,
@@ -195,12 +209,12 @@ fn asked(alloc: Global, matches: &ArgMatches<'_>) -> Result<ParsedArgs, AllocErr
     })
 }
 
-/// Returns the request of the words; the first word is the program's name.
+/// Returns the request of `words`; the first word is the program's name.
 ///
 /// # Errors
 ///
-/// Words if the parser refuses the words, for example because they have no subcommand, and if they ask
-/// for help or the version; NoMemory if an allocation was refused.
+/// Words if the parser refuses the words, for example because they have no subcommand, and if they ask for help or the version; NoMemory
+/// if an allocation was refused.
 pub fn parse_args(alloc: Global, words: &[String]) -> Result<ParsedArgs, ArgsFault>
     // The subcommand and its texts are those that clap states for these words and this command.
     ensures subcommand { IfOk result (λ a. States (subcommand_of dfu_app (map string_bytes words.now)) a.subcommand) }
@@ -216,12 +230,12 @@ pub fn parse_args(alloc: Global, words: &[String]) -> Result<ParsedArgs, ArgsFau
     }
 }
 
-/// The subcommand that the words ask for; the first word is the program's name.
+/// Returns the subcommand that `words` ask for; the first word is the program's name.
 ///
 /// # Errors
 ///
-/// Words if the parser refuses the words, for example because they have no subcommand, and if they ask
-/// for help or the version; NoMemory if an allocation was refused.
+/// Words if the parser refuses the words, for example because they have no subcommand, and if they ask for help or the version; NoMemory
+/// if an allocation was refused.
 pub fn parse_subcommand(alloc: Global, words: &[String]) -> Result<Subcommand, ArgsFault>
     // The subcommand and its texts are those that clap states for these words and this command.
     ensures subcommand { IfOk result (λ j. States (subcommand_of dfu_app (map string_bytes words.now)) j) }

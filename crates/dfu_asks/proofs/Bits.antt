@@ -1,23 +1,29 @@
--- Pieces as parts of writes, of any size.
+-- Parts of writes, of any size, that a piece may be.
 use Rattle.std.proofs.Common.{◌≡◌, ◌⊎◌, inl, inr, ℕ, ◌+◌, ◌-◌, ◌≤◌, ◌<◌, List, [], ◌∷◌, length, slice_range}
 use Rattle.dfu_slots.specs.Medium.{Write}
 use Rattle.dfu_asks.specs.Steps.{Step, step_writes}
-use Rattle.dfu_asks.specs.Carried.{IsPiece}
+use Rattle.dfu_asks.specs.Carried.{IsStepPiece}
 
--- Some bytes of a write, after its first n.
-pub record IsBit (w : Write) (n : ℕ) (p : Write) : Type 0 where
+-- A part of a write: one or more of its bytes, after its first n.
+pub record IsPartOfWrite (w : Write) (n : ℕ) (p : Write) : Type 0 where
   pub some : 0 < length p.bytes
   pub within : n + length p.bytes ≤ length w.bytes
   pub place : p.at ≡ w.at + n
   pub bytes_are : p.bytes ≡ slice_range w.bytes n (n + length p.bytes)
 
--- Some bytes of one of the writes of a series, after its first n.
-abbrev pub IsBitOf : List Write → ℕ → Write → Type 0
-IsBitOf [] n p = ⊥
-IsBitOf (w ∷ ws) n p = IsBit w n p ⊎ ((length w.bytes ≤ n) × IsBitOf ws (n - length w.bytes) p)
+-- A part of one of the writes of a series, after the first n bytes of the series.
+abbrev pub IsPartOfWrites : List Write → ℕ → Write → Type 0
+IsPartOfWrites [] n p = ⊥
+IsPartOfWrites (w ∷ ws) n p = IsPartOfWrite w n p ⊎ ((length w.bytes ≤ n) × IsPartOfWrites ws (n - length w.bytes) p)
 
--- A piece is some bytes of a write.
-pub bit_of : (ss : List Step) (n : ℕ) (p : Step) → IsPiece ss n p → IsBitOf (step_writes ss) n p.write
-bit_of [] n p none = none
-bit_of (s ∷ ss) n p (inl part) = inl (record { some = part.some; within = part.within; place = part.place; bytes_are = part.bytes_are })
-bit_of (s ∷ ss) n p (inr (past, piece)) = inr (past, bit_of ss (n - length s.write.bytes) p piece)
+-- A piece of a step is a part of the step's write.
+pub piece_is_part_of_writes : (ss : List Step) (n : ℕ) (p : Step) → IsStepPiece ss n p → IsPartOfWrites (step_writes ss) n p.write
+piece_is_part_of_writes [] n p none = none
+piece_is_part_of_writes (s ∷ ss) n p (inl part) = inl (record {
+  some = part.some;
+  within = part.within;
+  place = part.place;
+  bytes_are =
+      part.bytes_are;
+})
+piece_is_part_of_writes (s ∷ ss) n p (inr (past, piece)) = inr (past, piece_is_part_of_writes ss (n - length s.write.bytes) p piece)

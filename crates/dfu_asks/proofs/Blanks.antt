@@ -7,32 +7,33 @@ use Rattle.std.proofs.lemmas.List.Folds.{list_all_at}
 use Rattle.dfu_slots.specs.Units.{Grain, gate_room}
 use Rattle.dfu_slots.specs.Layout.{slot_size, OPEN}
 use Rattle.dfu_slots.specs.Image.{HasImage}
-use Rattle.dfu_asks.specs.Mapped.{mapped}
-use Rattle.dfu_asks.specs.Blank.{reads_erased, front_of, IsUnwritten}
+use Rattle.dfu_asks.specs.Mapped.{mapped_medium}
+use Rattle.dfu_asks.specs.Blank.{is_erased_byte, front_of, AreSlotFrontsErased}
 
 module _ (grain : Grain) (flash : List ℕ) where
-  -- An open gate is not erased.
-  open_front : (at : ℕ) → at + 2 * gate_room grain ≤ length flash → 0 < gate_room grain → slice_index flash at ≡ OPEN
-      → list_all reads_erased (front_of grain flash at) ≡ false
-  open_front at fits some gate =
+  -- If a gate is open, the gate and the header of its slot are not all FFh.
+  open_gate_not_erased : (at : ℕ) → at + 2 * gate_room grain ≤ length flash → 0 < gate_room grain → slice_index flash at ≡ OPEN
+      → list_all is_erased_byte (front_of grain flash at) ≡ false
+  open_gate_not_erased at fits some gate =
       let n : ℕ = at + 2 * gate_room grain - at in
       let first : get_or (take n (drop at flash)) 0 0 ≡ slice_index flash at = get_or-take n (drop at flash) 0 0 (omega (arith, some))
       ∙ get_or-drop at flash 0 0 ∙ ap (λ (k : ℕ). get_or flash k 0) (omega arith) in
-      list_all_at reads_erased (take n (drop at flash)) 0 0
+      list_all_at is_erased_byte (take n (drop at flash)) 0 0
       (omega (arith, some, fits, length-drop at flash, length-take-le n (drop at flash) (omega (arith, fits, length-drop at flash))))
-      (ap reads_erased (first ∙ gate))
+      (ap is_erased_byte (first ∙ gate))
 
-  some_gate : 0 < gate_room grain
-  some_gate = omega arith
+  gate_lies_in_front : 0 < gate_room grain
+  gate_lies_in_front = omega arith
 
-  -- So a blank flash has no image.
-  pub blank_has_none : IsUnwritten grain flash → ¬ HasImage (mapped grain flash)
-  blank_has_none blank has =
+  -- Blank flash has no active image, because both of its gates read FFh.
+  pub blank_flash_has_no_image : AreSlotFrontsErased grain flash → ¬ HasImage (mapped_medium grain flash)
+  blank_flash_has_no_image blank has =
       let a = has.active in
       let is_open = a.newest.counts.is_open in
       ⊎_elim
-      (λ p. true≢false (sym blank.first ∙ open_front 0 (omega (arith, a.sized.room, a.sized.even)) some_gate
+      (λ p. true≢false (sym blank.first ∙ open_gate_not_erased 0 (omega (arith, a.sized.room, a.sized.even)) gate_lies_in_front
       (ap (λ (k : ℕ). slice_index flash k) (sym p.0) ∙ is_open)))
-      (λ p. true≢false (sym blank.second ∙ open_front (slot_size flash) (omega (arith, a.sized.room, a.sized.even)) some_gate
+      (λ p. true≢false (sym blank.second ∙ open_gate_not_erased (slot_size flash) (omega (arith, a.sized.room, a.sized.even))
+      gate_lies_in_front
       (ap (λ (k : ℕ). slice_index flash k) (sym p.0) ∙ is_open)))
       a.places

@@ -1,4 +1,4 @@
--- Where an active image is.
+-- Place of an active image.
 use Rattle.std.proofs.Common.{◌≡◌, ◌+◌, ◌-◌, ◌*◌, ◌^◌, ◌≤◌, ◌<◌, ⊎_elim, ℕ, List, length, take, drop, slice_range, sym, ◌∙◌, ap, subst, arith}
 use Rattle.std.specs.Int.{w32, from_le_bytes}
 use Rattle.std.proofs.lemmas.Nat.{from_le_bytes-to_le_bytes_4}
@@ -7,25 +7,25 @@ use Rattle.dfu_slots.specs.Medium.{MediumState}
 use Rattle.dfu_slots.specs.Units.{Grain}
 use Rattle.dfu_slots.specs.Layout.{Slot, slot_size, header_length, HasHeader}
 use Rattle.dfu_slots.specs.Image.{Active, HasImage, active_at, gate_of, slot_of, capacity_of}
-use Rattle.dfu_slots.proofs.Stands.{HasTwoSlots, two_slots, standing}
-use Rattle.dfu_slots.proofs.Newest.{places_are, active_end}
+use Rattle.dfu_slots.proofs.Stands.{HasTwoSlots, sized_medium_has_two_slots, active_image_at_its_place}
+use Rattle.dfu_slots.proofs.Newest.{places_of_active_image, active_place_ends_within}
 use Rattle.dfu_slots.proofs.Parts.{data_length}
-use Rattle.dfu_slots.proofs.ReadBack.{range_is}
-use Rattle.dfu_asks.specs.Mapped.{mapped}
+use Rattle.dfu_slots.proofs.ReadBack.{range_by_its_length}
+use Rattle.dfu_asks.specs.Mapped.{mapped_medium}
 use Rattle.dfu_asks.specs.declared.image.ImagePlace.{ImagePlace}
 use Rattle.dfu_asks.specs.ActiveImage.{ImageIsAt}
 
--- The length in a well-formed header is that of its image.
-length_told : (s : Slot) (len : ℕ) → HasHeader s len → len < 2 ^ 32 → header_length s ≡ len
-length_told s len has fits = ⊎_elim
+-- A well-formed header says the length of its image.
+formed_header_length : (s : Slot) (len : ℕ) → HasHeader s len → len < 2 ^ 32 → header_length s ≡ len
+formed_header_length s len has fits = ⊎_elim
     (λ e. ap (λ (h : List ℕ). from_le_bytes w32 (take 4 (drop 4 h))) e ∙ from_le_bytes-to_le_bytes_4 len fits)
     (λ e. ap (λ (h : List ℕ). from_le_bytes w32 (take 4 (drop 4 h))) e ∙ from_le_bytes-to_le_bytes_4 len fits)
     has.well_formed
 
-module _ (grain : Grain) (flash : List ℕ) (p : ℕ) (has : HasImage (mapped grain flash))
-    (here : p ≡ active_at (gate_of (mapped grain flash)) flash) where
+module _ (grain : Grain) (flash : List ℕ) (p : ℕ) (has : HasImage (mapped_medium grain flash))
+    (here : p ≡ active_at (gate_of (mapped_medium grain flash)) flash) where
   abbrev m : MediumState
-  m = mapped grain flash
+  m = mapped_medium grain flash
 
   abbrev g : ℕ
   g = gate_of m
@@ -37,31 +37,36 @@ module _ (grain : Grain) (flash : List ℕ) (p : ℕ) (has : HasImage (mapped gr
   a = has.active
 
   sized : HasTwoSlots g flash
-  sized = two_slots m a.sized
+  sized = sized_medium_has_two_slots m a.sized
 
   place : a.at ≡ p
-  place = (places_are g flash a.at a.spare image (standing a)).0 ∙ sym here
+  place = (places_of_active_image g flash a.at a.spare image (active_image_at_its_place a)).0 ∙ sym here
 
   head : HasHeader (slot_of m p) (length image)
   head = subst (λ (q : ℕ). HasHeader (slot_of m q) (length image)) place a.header_is
 
   room : length (slot_of m p).data_bytes ≡ capacity_of m
-  room = data_length g flash p (omega (arith, here, active_end g flash sized)) (omega (arith, sized.room))
+  room = data_length g flash p (omega (arith, here, active_place_ends_within g flash sized)) (omega (arith, sized.room))
 
-  -- It fits in the data of a slot.
+  -- The image fits in the data of a slot.
   fits : length image ≤ capacity_of m
   fits = omega (arith, head.fits, room)
 
-  -- The slot ends within the flash.
-  pub slot_end : p + slot_size flash ≤ length flash
-  slot_end = omega (arith, here, active_end g flash sized)
+  -- The active slot ends within the flash.
+  pub active_slot_ends_within : p + slot_size flash ≤ length flash
+  active_slot_ends_within = omega (arith, here, active_place_ends_within g flash sized)
 
-  -- It follows the gate and the header of its slot, and is as long as the header says.
-  pub there : (place : ImagePlace) → place.at ≡ p + 2 * g → place.len ≡ header_length (slot_of m p) → ImageIsAt grain flash place
-  there at at_is length_is =
+  -- The image follows the gate and the header of its slot, and is as long as the header says.
+  pub image_lies_at_place : (place : ImagePlace) → place.at ≡ p + 2 * g → place.len ≡ header_length (slot_of m p) →
+      ImageIsAt grain flash place
+  image_lies_at_place at at_is length_is =
       let from = p + 2 * g in
-      let len : at.len ≡ length image = length_is ∙ length_told (slot_of m p) (length image) head (omega (arith, fits, sized.bound)) in
-      let bytes : slice_range flash from (from + length image) ≡ image = range_is flash from (length image)
+      let len : at.len ≡ length image = length_is ∙ formed_header_length (slot_of m p) (length image) head (omega (
+        arith,
+        fits,
+        sized.bound,
+      )) in
+      let bytes : slice_range flash from (from + length image) ≡ image = range_by_its_length flash from (length image)
       ∙ sym (a.image_is ∙ ap (λ (q : ℕ). take (length image) (slot_of m q).data_bytes) place
       ∙ take-take (length image) (p + slot_size flash - from) (drop from flash) (omega (arith, fits))) in
       record {
@@ -69,6 +74,6 @@ module _ (grain : Grain) (flash : List ℕ) (p : ℕ) (has : HasImage (mapped gr
         active = a;
         size = sym len;
         behind = at_is ∙ ap (λ (n : ℕ). n + 2 * g) here;
-        within = omega (arith, at_is, len, slot_end, fits, sized.room);
+        within = omega (arith, at_is, len, active_slot_ends_within, fits, sized.room);
         there = (λ i. slice_range flash (at_is i) (at_is i + len i)) ∙ bytes;
       }

@@ -1,20 +1,20 @@
--- The steps of two lists, and of a gate that is closed.
+-- Steps of two lists, and of a gate that is closed.
 use Rattle.std.proofs.Common.{◌≡◌, ◌==◌, true, false, if◌then◌else◌, ℕ, ◌+◌, List, ◌++◌, replicate, ◌∙◌, ap}
 use Rattle.std.proofs.lemmas.Bool.{eq-eqb}
 use Rattle.dfu_slots.specs.Units.{Grain, gate_size}
 use Rattle.dfu_slots.specs.Layout.{gate_unit}
-use Rattle.dfu_asks.specs.Steps.{Step, step_writes, program, close_step}
+use Rattle.dfu_asks.specs.Steps.{Step, step_writes, program_step, close_step}
 use Rattle.dfu_asks.specs.Carried.{total}
-use Rattle.dfu_asks.proofs.Steps.{writes_append}
-use Rattle.dfu_asks.proofs.Pieces.{total_append}
+use Rattle.dfu_asks.proofs.Steps.{step_writes_append}
+use Rattle.dfu_asks.proofs.Pieces.{total_of_two_lists}
 
--- So many bytes two lists of steps write together.
-pub steps_total : (xs ys : List Step) → total (step_writes (xs ++ ys)) ≡ total (step_writes xs) + total (step_writes ys)
-steps_total xs ys = ap total (writes_append xs ys) ∙ total_append (step_writes xs) (step_writes ys)
+-- Two lists of steps write as many bytes as each of them, added up.
+pub total_of_two_step_lists : (xs ys : List Step) → total (step_writes (xs ++ ys)) ≡ total (step_writes xs) + total (step_writes ys)
+total_of_two_step_lists xs ys = ap total (step_writes_append xs ys) ∙ total_of_two_lists (step_writes xs) (step_writes ys)
 
 -- Without sectors a gate is closed by a program.
-pub close_is : (w : Grain) (at : ℕ) → w.sector ≡ 0 → close_step w at ≡ program at (gate_unit (gate_size w.unit) 0)
-close_is w at none =
+pub close_step_without_sectors : (w : Grain) (at : ℕ) → w.sector ≡ 0 → close_step w at ≡ program_step at (gate_unit (gate_size w.unit) 0)
+close_step_without_sectors w at none =
     let e : (w.sector == 0) ≡ true = eq-eqb w.sector 0 none in
     λ i. record {
       erases = if e i then false else true;

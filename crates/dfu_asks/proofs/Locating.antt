@@ -1,46 +1,46 @@
--- The erases of a range, counted up sector by sector.
+-- Erases of a range, counted up sector by sector.
 use Rattle.std.proofs.Common.{◌≡◌, ◌≢◌, inl, inr, ◌==◌, Bool, true, false, if◌then◌else◌, ℕ, ◌+◌, ◌-◌, ◌%◌, ◌≤◌, ◌<◌, List, [], ◌∷◌, ◌++◌, length, take, drop, replicate, refl, sym, ◌∙◌, ap, subst, arith}
 use Rattle.std.proofs.lemmas.Bool.{cases_eq, cond-true, cond-false, ne_eqb, eq-eqb}
 use Rattle.std.proofs.lemmas.List.{append_assoc, append-nil, length-replicate, take-replicate, drop-replicate}
 use Rattle.std.proofs.Math.Nat.{mod-lt, mod-add-mod, mod_self}
 use Rattle.dfu_slots.specs.Medium.{Write}
-use Rattle.dfu_slots.specs.Writes.{erase_write, erases}
-use Rattle.dfu_slots.proofs.ErasedTo.{erases_skip, erases_step}
-use Rattle.dfu_slots.proofs.Sectors.{edge_add}
+use Rattle.dfu_slots.specs.Writes.{erase_write, sector_erases}
+use Rattle.dfu_slots.proofs.ErasedTo.{no_erase_to_sector_end, first_sector_erase}
+use Rattle.dfu_slots.proofs.Sectors.{edge_sum_is_edge}
 use Rattle.dfu_asks.specs.declared.sector.Position.{Position}
 use Rattle.dfu_asks.specs.declared.sector.Position.TheVariants as position
-use Rattle.dfu_asks.specs.Steps.{Step, step_writes, marked, erase_step, program, anew_steps, some_steps}
-use Rattle.dfu_asks.specs.Carried.{total, IsPart, IsPiece}
-use Rattle.dfu_asks.specs.Position.{LeadsToErase, LeadsTo, LeadsInto}
-use Rattle.dfu_asks.proofs.Steps.{before, writes_append, writes_marked, marked_append}
-use Rattle.dfu_asks.proofs.Pieces.{total_append, piece_front, piece_behind}
+use Rattle.dfu_asks.specs.Steps.{Step, step_writes, steps_of_writes, erase_step, program_step, write_anew_steps, write_some_steps}
+use Rattle.dfu_asks.specs.Carried.{total, IsPieceOfStep, IsStepPiece}
+use Rattle.dfu_asks.specs.Position.{LeadsToErase, LeadsToPosition, LeadsIntoPlainWrite}
+use Rattle.dfu_asks.proofs.Steps.{erases_before_write, step_writes_append, step_writes_of_marked, marked_steps_append}
+use Rattle.dfu_asks.proofs.Pieces.{total_of_two_lists, piece_of_first_steps, piece_of_later_steps}
 
--- The sectors that begin before a place are passed, a sector begins there, and so many bytes are left of those carried out.
-pub record Walked (sector at n done place rest : ℕ) : Type 0 where
+-- The sectors that begin before `place` are passed, a sector begins at `place`, and `rest` bytes of those carried out are left.
+pub record SectorsPassed (sector at n done place rest : ℕ) : Type 0 where
   pub front : List Write
-  pub pieces : erases sector at n ≡ front ++ erases sector place (at + n - place)
+  pub pieces : sector_erases sector at n ≡ front ++ sector_erases sector place (at + n - place)
   pub count : total front + rest ≡ done
   pub span : total front + at ≤ place
   pub edge : place % sector ≡ 0
   pub high : place ≤ at + n + sector
 
 module _ (sector at n done : ℕ) (large : 1 < sector) where
-  -- No sector is passed before the first one, which may begin at once.
-  here : at % sector ≡ 0 → Walked sector at n done at done
-  here begins =
+  -- No sector is passed yet, and the first one begins at the place itself.
+  passed_to_edge_here : at % sector ≡ 0 → SectorsPassed sector at n done at done
+  passed_to_edge_here begins =
       let all : n ≡ at + n - at = omega arith in
       record {
         front = [];
-        pieces = ap (λ (k : ℕ). erases sector at k) all;
+        pieces = ap (λ (k : ℕ). sector_erases sector at k) all;
         count = omega arith;
         span = omega arith;
         edge = begins;
         high = omega arith;
       }
 
-  -- Or it begins at the end of the one that the place lies in.
-  later : at % sector ≢ 0 → Walked sector at n done (at + (sector - at % sector)) done
-  later inner =
+  -- No sector is passed yet, and the first one begins where the sector that the place lies in ends.
+  passed_to_next_edge : at % sector ≢ 0 → SectorsPassed sector at n done (at + (sector - at % sector)) done
+  passed_to_next_edge inner =
       let d = sector - at % sector in
       let less : at % sector < sector = mod-lt at (omega (arith, large)) in
       let is : at % sector + d ≡ sector = omega (arith, less) in
@@ -48,52 +48,56 @@ module _ (sector at n done : ℕ) (large : 1 < sector) where
       let rest : n - d ≡ at + n - (at + d) = omega arith in
       record {
         front = [];
-        pieces = erases_skip sector d at n (omega (arith, large)) (omega (arith, inner)) is ∙ ap (λ (k : ℕ). erases sector (at + d) k) rest;
+        pieces =
+            no_erase_to_sector_end sector d at n (omega (arith, large)) (omega (arith, inner)) is ∙ ap
+            (λ (k : ℕ). sector_erases sector (at + d) k) rest;
         count = omega arith;
         span = omega arith;
         edge = edge;
         high = omega (arith, is);
       }
 
-  -- The same, by what the code reads.
-  pub walked_first : (size behind : ℕ) → size ≡ sector → behind ≡ at % sector → (place : ℕ)
-      → (behind ≡ 0 → place ≡ at → Walked sector at n done place done)
-      × (behind ≢ 0 → place ≡ at + (size - behind) → Walked sector at n done place done)
-  walked_first size behind is far place = (
-    λ begins there. subst (λ (p : ℕ). Walked sector at n done p done) (sym there) (here (sym far ∙ begins)),
-    λ inner there. subst (λ (p : ℕ). Walked sector at n done p done) (sym (there ∙ (λ i. at + (is i - far i))))
-        (later (λ e. inner (far ∙ e))),
+  -- No sector is passed yet, by the two cases that the code tells apart.
+  pub passed_to_first_sector : (size behind : ℕ) → size ≡ sector → behind ≡ at % sector → (place : ℕ)
+      → (behind ≡ 0 → place ≡ at → SectorsPassed sector at n done place done)
+      × (behind ≢ 0 → place ≡ at + (size - behind) → SectorsPassed sector at n done place done)
+  passed_to_first_sector size behind is far place = (
+    λ begins there. subst (λ (p : ℕ). SectorsPassed sector at n done p done) (sym there) (passed_to_edge_here (sym far ∙ begins)),
+    λ inner there. subst (λ (p : ℕ). SectorsPassed sector at n done p done) (sym (there ∙ (λ i. at + (is i - far i))))
+        (passed_to_next_edge (λ e. inner (far ∙ e))),
   )
 
-  module _ (place rest : ℕ) (to : Walked sector at n done place rest) where
+  module _ (place rest : ℕ) (to : SectorsPassed sector at n done place rest) where
     module _ (more : place < at + n) where
-      step : erases sector place (at + n - place) ≡ erase_write sector place ∷ erases sector (place + sector) (at + n - place - sector)
-      step = erases_step sector place (at + n - place) large to.edge (omega (arith, more))
+      next_passed_sector : sector_erases sector place (at + n - place) ≡ erase_write sector place ∷ sector_erases sector (place + sector)
+          (at + n - place - sector)
+      next_passed_sector = first_sector_erase sector place (at + n - place) large to.edge (omega (arith, more))
 
-      split : erases sector at n ≡ to.front ++ erase_write sector place ∷ erases sector (place + sector) (at + n - place - sector)
-      split = to.pieces ∙ ap (λ (ws : List Write). to.front ++ ws) step
+      erases_split_at_place : sector_erases sector at n ≡ to.front ++ erase_write sector place ∷ sector_erases sector (place + sector)
+          (at + n - place - sector)
+      erases_split_at_place = to.pieces ∙ ap (λ (ws : List Write). to.front ++ ws) next_passed_sector
 
-      -- One sector further.
-      pub walked_more : sector ≤ rest → Walked sector at n done (place + sector) (rest - sector)
-      walked_more le =
+      -- If a sector more is carried out, one more is passed.
+      pub passed_one_sector_more : sector ≤ rest → SectorsPassed sector at n done (place + sector) (rest - sector)
+      passed_one_sector_more le =
           let first : List Write = erase_write sector place ∷ [] in
           let left : at + n - place - sector ≡ at + n - (place + sector) = omega arith in
           let size : total (to.front ++ first) ≡ total to.front + sector =
-          omega (arith, total_append to.front first, length-replicate {A = ℕ} sector 255) in
+          omega (arith, total_of_two_lists to.front first, length-replicate {A = ℕ} sector 255) in
           record {
             front = to.front ++ first;
-            pieces = split
-                ∙ ap (λ (k : ℕ). to.front ++ erase_write sector place ∷ erases sector (place + sector) k) left
-                ∙ sym (append_assoc to.front first (erases sector (place + sector) (at + n - (place + sector))));
+            pieces = erases_split_at_place
+                ∙ ap (λ (k : ℕ). to.front ++ erase_write sector place ∷ sector_erases sector (place + sector) k) left
+                ∙ sym (append_assoc to.front first (sector_erases sector (place + sector) (at + n - (place + sector))));
             count = omega (arith, size, to.count, le);
             span = omega (arith, size, to.span);
-            edge = edge_add sector place sector (λ s. to.edge) (λ s. mod_self sector) (omega (arith, large));
+            edge = edge_sum_is_edge sector place sector (λ s. to.edge) (λ s. mod_self sector) (omega (arith, large));
             high = omega (arith, more);
           }
 
-      -- In the middle of a sector what is left of it comes next.
+      -- Within a sector the rest of it comes next.
       part : rest < sector
-          → IsPart (record { erases = true; write = erase_write sector place }) rest (erase_step (place + rest) (sector - rest))
+          → IsPieceOfStep (record { erases = true; write = erase_write sector place }) rest (erase_step (place + rest) (sector - rest))
       part lt =
           let whole = length-replicate {A = ℕ} sector 255 in
           let back = length-replicate {A = ℕ} (sector - rest) 255 in
@@ -109,72 +113,82 @@ module _ (sector at n done : ℕ) (large : 1 < sector) where
                 ∙ take-replicate (sector - rest) (sector - rest) 255 (omega arith));
           }
 
-      pub walked_erase : rest < sector → IsPiece (marked true (erases sector at n)) done (erase_step (place + rest) (sector - rest))
-      walked_erase lt =
-          let tail = erases sector (place + sector) (at + n - place - sector) in
-          let is : marked true (erases sector at n) ≡ marked true to.front ++ marked true (erase_write sector place ∷ tail) =
-          ap (λ (ws : List Write). marked true ws) split ∙ marked_append true to.front (erase_write sector place ∷ tail) in
-          subst (λ (ss : List Step). IsPiece ss done (erase_step (place + rest) (sector - rest))) (sym is)
-          (piece_behind (marked true to.front) (marked true (erase_write sector place ∷ tail)) done rest
-          (erase_step (place + rest) (sector - rest)) (omega (arith, ap total (writes_marked true to.front), to.count)) (inl (part lt)))
+      pub erase_piece_in_sector : rest < sector → IsStepPiece (steps_of_writes true (sector_erases sector at n)) done
+          (erase_step (place + rest) (sector - rest))
+      erase_piece_in_sector lt =
+          let tail = sector_erases sector (place + sector) (at + n - place - sector) in
+          let is : steps_of_writes true (sector_erases sector at n) ≡ steps_of_writes true to.front ++ steps_of_writes true
+          (erase_write sector place ∷ tail) =
+          ap (λ (ws : List Write). steps_of_writes true ws) erases_split_at_place
+          ∙ marked_steps_append true to.front (erase_write sector place ∷ tail) in
+          subst (λ (ss : List Step). IsStepPiece ss done (erase_step (place + rest) (sector - rest))) (sym is)
+          (piece_of_later_steps (steps_of_writes true to.front) (steps_of_writes true (erase_write sector place ∷ tail)) done rest
+          (erase_step (place + rest) (sector - rest)) (omega (arith, ap total (step_writes_of_marked true to.front), to.count)) (inl (part
+          lt)))
 
-    -- Behind the range all erases are.
-    pub walked_all : at + n ≤ place → (total (erases sector at n) + rest ≡ done) × (done ≤ rest + n + sector)
-    walked_all past =
+    -- Behind the range all erases are passed.
+    pub passed_all_sectors : at + n ≤ place → (total (sector_erases sector at n) + rest ≡ done) × (done ≤ rest + n + sector)
+    passed_all_sectors past =
         let none : at + n - place ≡ 0 = omega (arith, past) in
-        let all : erases sector at n ≡ to.front =
-        to.pieces ∙ ap (λ (k : ℕ). to.front ++ erases sector place k) none ∙ append-nil to.front in
+        let all : sector_erases sector at n ≡ to.front =
+        to.pieces ∙ ap (λ (k : ℕ). to.front ++ sector_erases sector place k) none ∙ append-nil to.front in
         (omega (arith, ap total all, to.count), omega (arith, to.count, to.span, to.high))
 
 -- The write itself, after its erases.
 
-some_are : (sector at : ℕ) (bytes : List ℕ) → length bytes ≢ 0 → some_steps sector at bytes ≡ anew_steps sector at bytes
-some_are sector at bytes some = cond-false (length bytes == 0) [] (anew_steps sector at bytes) (ne_eqb (length bytes) 0 some)
+some_bytes_written_anew : (sector at : ℕ) (bytes : List ℕ) → length bytes ≢ 0 → write_some_steps sector at bytes
+    ≡ write_anew_steps sector at bytes
+some_bytes_written_anew sector at bytes some = cond-false (length bytes == 0) [] (write_anew_steps sector at bytes) (ne_eqb (length bytes)
+    0 some)
 
-none_are : (sector at : ℕ) (bytes : List ℕ) → length bytes ≡ 0 → some_steps sector at bytes ≡ []
-none_are sector at bytes none = cond-true (length bytes == 0) [] (anew_steps sector at bytes) (eq-eqb (length bytes) 0 none)
+no_bytes_no_steps : (sector at : ℕ) (bytes : List ℕ) → length bytes ≡ 0 → write_some_steps sector at bytes ≡ []
+no_bytes_no_steps sector at bytes none = cond-true (length bytes == 0) [] (write_anew_steps sector at bytes) (eq-eqb (length bytes) 0 none)
 
--- Some bytes are written with the erases before them.
-pub anew_are : (sector at : ℕ) (bytes : List ℕ) → 0 < length bytes → some_steps sector at bytes ≡ anew_steps sector at bytes
-anew_are sector at bytes some = some_are sector at bytes (λ e. omega (arith, some, e))
+-- A write of one byte or more has the erases before it.
+pub some_steps_are_anew : (sector at : ℕ) (bytes : List ℕ) → 0 < length bytes → write_some_steps sector at bytes
+    ≡ write_anew_steps sector at bytes
+some_steps_are_anew sector at bytes some = some_bytes_written_anew sector at bytes (λ e. omega (arith, some, e))
 
-nothing_erased : (sector at : ℕ) → total (if sector == 0 then [] else erases sector at 0) ≡ 0
-nothing_erased sector at = by_test (sector == 0)
+empty_range_erases_nothing : (sector at : ℕ) → total (if sector == 0 then [] else sector_erases sector at 0) ≡ 0
+empty_range_erases_nothing sector at = by_test (sector == 0)
   where
     by_test : (b : Bool) → total (if b then [] else []) ≡ 0
     by_test true = refl
     by_test false = refl
 
-module _ (sector at n done rest : ℕ) (count : total (if sector == 0 then [] else erases sector at n) + rest ≡ done)
+module _ (sector at n done rest : ℕ) (count : total (if sector == 0 then [] else sector_erases sector at n) + rest ≡ done)
     (low : done ≤ rest + n + sector) where
-  before_is : (bytes : List ℕ) → length bytes ≡ n → total (step_writes (marked true (before sector at bytes))) + rest ≡ done
-  before_is bytes size = omega (
+  erases_and_rest_are_done : (bytes : List ℕ) → length bytes ≡ n →
+      total (step_writes (steps_of_writes true (erases_before_write sector at bytes))) + rest ≡ done
+  erases_and_rest_are_done bytes size = omega (
     arith,
-    ap total (writes_marked true (before sector at bytes)),
-    ap (λ (k : ℕ). total (if sector == 0 then [] else erases sector at k)) size,
+    ap total (step_writes_of_marked true (erases_before_write sector at bytes)),
+    ap (λ (k : ℕ). total (if sector == 0 then [] else sector_erases sector at k)) size,
     count,
   )
 
-  -- What is left after the erases leads into the write, or past it.
-  pub within_leads : (r : Position) → LeadsInto n rest r → LeadsTo sector at n done r
-  within_leads (position.Erase place len) none = absurd none
-  within_leads (position.Program from) (same, lt) = (
+  -- The bytes that are left after the erases lead into the write, or past it.
+  pub rest_leads_into_write : (r : Position) → LeadsIntoPlainWrite n rest r → LeadsToPosition sector at n done r
+  rest_leads_into_write (position.Erase place len) none = absurd none
+  rest_leads_into_write (position.Program from) (same, lt) = (
     λ bytes p size part.
         let some : length bytes ≢ 0 = λ e. omega (arith, size, lt, e) in
-        subst (λ (ss : List Step). IsPiece ss done p) (sym (some_are sector at bytes some))
-        (piece_behind (marked true (before sector at bytes)) (program at bytes ∷ []) done rest p (before_is bytes size)
-        (inl (subst (λ (k : ℕ). IsPart (program at bytes) k p) same part))),
+        subst (λ (ss : List Step). IsStepPiece ss done p) (sym (some_bytes_written_anew sector at bytes some))
+        (piece_of_later_steps (steps_of_writes true (erases_before_write sector at bytes)) (program_step at bytes ∷ []) done rest p
+        (erases_and_rest_are_done bytes size)
+        (inl (subst (λ (k : ℕ). IsPieceOfStep (program_step at bytes) k p) same part))),
     lt,
     omega (arith, low, same),
   )
-  within_leads (position.Behind left) sum = (
+  rest_leads_into_write (position.Behind left) sum = (
     λ bytes size. elim (cases_eq (length bytes) 0) [
       | inl none ↦
-          let erased_none : total (if sector == 0 then [] else erases sector at n) ≡ 0 =
-          ap (λ (k : ℕ). total (if sector == 0 then [] else erases sector at k)) (sym size ∙ none) ∙ nothing_erased sector at in
+          let erased_none : total (if sector == 0 then [] else sector_erases sector at n) ≡ 0 =
+          ap (λ (k : ℕ). total (if sector == 0 then [] else sector_erases sector at k)) (sym size ∙ none)
+          ∙ empty_range_erases_nothing sector at in
           omega (
             arith,
-            ap (λ (ss : List Step). total (step_writes ss)) (none_are sector at bytes none),
+            ap (λ (ss : List Step). total (step_writes ss)) (no_bytes_no_steps sector at bytes none),
             erased_none,
             count,
             sum,
@@ -184,10 +198,13 @@ module _ (sector at n done rest : ℕ) (count : total (if sector == 0 then [] el
       | inr some ↦
           omega (
             arith,
-            ap (λ (ss : List Step). total (step_writes ss)) (some_are sector at bytes some),
-            ap total (writes_append (marked true (before sector at bytes)) (program at bytes ∷ [])),
-            total_append (step_writes (marked true (before sector at bytes))) (record { at = at; bytes = bytes } ∷ []),
-            before_is bytes size,
+            ap (λ (ss : List Step). total (step_writes ss)) (some_bytes_written_anew sector at bytes some),
+            ap total (step_writes_append (steps_of_writes true (erases_before_write sector at bytes)) (program_step at bytes ∷ [])),
+            total_of_two_lists (step_writes (steps_of_writes true (erases_before_write sector at bytes))) (record {
+              at = at;
+              bytes = bytes;
+            } ∷ []),
+            erases_and_rest_are_done bytes size,
             sum,
             size,
           )
@@ -195,19 +212,22 @@ module _ (sector at n done rest : ℕ) (count : total (if sector == 0 then [] el
     omega (arith, low, sum),
   )
 
--- An erase that is found is one of the write's.
-pub erase_leads : (sector at n done place len : ℕ) → 0 < sector → LeadsToErase sector at n done (position.Erase place len)
-    → LeadsTo sector at n done (position.Erase place len)
-erase_leads sector at n done place len some (piece, least, end, small, most) = (
+-- An erase that was found among the erases of a range is an erase of the write.
+pub found_erase_leads : (sector at n done place len : ℕ) → 0 < sector → LeadsToErase sector at n done (position.Erase place len)
+    → LeadsToPosition sector at n done (position.Erase place len)
+found_erase_leads sector at n done place len some (piece, least, end, small, most) = (
   λ bytes size. elim (cases_eq n 0) [
-    | inl none ↦ absurd (subst (λ (k : ℕ). IsPiece (marked true (erases sector at k)) done (erase_step place len)) none piece)
+    | inl none ↦ absurd (subst (λ (k : ℕ). IsStepPiece (steps_of_writes true (sector_erases sector at k)) done (erase_step place len)) none
+        piece)
     | inr more ↦
-        let is : before sector at bytes ≡ erases sector at n =
-        cond-false (sector == 0) [] (erases sector at (length bytes)) (ne_eqb sector 0 (λ e. omega (arith, some, e)))
-        ∙ ap (λ (k : ℕ). erases sector at k) size in
-        subst (λ (ss : List Step). IsPiece ss done (erase_step place len)) (sym (some_are sector at bytes (λ e. more (sym size ∙ e))))
-        (piece_front (marked true (before sector at bytes)) (program at bytes ∷ []) done (erase_step place len)
-        (subst (λ (ws : List Write). IsPiece (marked true ws) done (erase_step place len)) (sym is) piece))
+        let is : erases_before_write sector at bytes ≡ sector_erases sector at n =
+        cond-false (sector == 0) [] (sector_erases sector at (length bytes)) (ne_eqb sector 0 (λ e. omega (arith, some, e)))
+        ∙ ap (λ (k : ℕ). sector_erases sector at k) size in
+        subst (λ (ss : List Step). IsStepPiece ss done (erase_step place len)) (sym (some_bytes_written_anew sector at bytes (λ e. more
+        (sym size ∙ e))))
+        (piece_of_first_steps (steps_of_writes true (erases_before_write sector at bytes)) (program_step at bytes ∷ []) done (erase_step
+        place len)
+        (subst (λ (ws : List Write). IsStepPiece (steps_of_writes true ws) done (erase_step place len)) (sym is) piece))
   ],
   least,
   end,
@@ -215,16 +235,16 @@ erase_leads sector at n done place len some (piece, least, end, small, most) = (
   most,
 )
 
--- So is what is found of the erases, unless they are all passed.
-pub found_leads : (sector at n done : ℕ) (r : Position) → 0 < sector → LeadsToErase sector at n done r
-    → ((rest : ℕ) → r ≡ position.Behind rest → ⊥) → LeadsTo sector at n done r
-found_leads sector at n done (position.Erase place len) some leads other = erase_leads sector at n done place len some leads
-found_leads sector at n done (position.Program from) some leads other = absurd leads
-found_leads sector at n done (position.Behind rest) some leads other = absurd (other rest refl)
+-- A position that was found among the erases is one of the write, unless they are all passed.
+pub found_position_leads : (sector at n done : ℕ) (r : Position) → 0 < sector → LeadsToErase sector at n done r
+    → ((rest : ℕ) → r ≡ position.Behind rest → ⊥) → LeadsToPosition sector at n done r
+found_position_leads sector at n done (position.Erase place len) some leads other = found_erase_leads sector at n done place len some leads
+found_position_leads sector at n done (position.Program from) some leads other = absurd leads
+found_position_leads sector at n done (position.Behind rest) some leads other = absurd (other rest refl)
 
--- Behind all erases of a sector the write is left.
-pub behind_count : (sector at n done rest : ℕ) → 0 < sector → total (erases sector at n) + rest ≡ done
-    → total (if sector == 0 then [] else erases sector at n) + rest ≡ done
-behind_count sector at n done rest some count =
+-- Behind all erases of a range the write is left.
+pub rest_behind_all_erases : (sector at n done rest : ℕ) → 0 < sector → total (sector_erases sector at n) + rest ≡ done
+    → total (if sector == 0 then [] else sector_erases sector at n) + rest ≡ done
+rest_behind_all_erases sector at n done rest some count =
     subst (λ (ws : List Write). total ws + rest ≡ done)
-    (sym (cond-false (sector == 0) [] (erases sector at n) (ne_eqb sector 0 (λ e. omega (arith, some, e))))) count
+    (sym (cond-false (sector == 0) [] (sector_erases sector at n) (ne_eqb sector 0 (λ e. omega (arith, some, e))))) count

@@ -1,64 +1,66 @@
--- A body that is longer than a block may be leads where an unknown request does.
+-- Bodies that are longer than a block may be: they lead where an unknown request does.
 use Rattle.std.proofs.Common.{◌≡◌, nat_lt, Bool, true, false, not, ℕ, List, [], ◌∷◌, length, refl, arith, if◌then◌else◌}
 use Rattle.std.proofs.lemmas.Bool.{leb-true}
 use Rattle.dfu_wire.specs.declared.codes.Code.TheVariants.{StalledPkt}
 use Rattle.dfu_device.specs.declared.device_state.DeviceState.{DeviceState}
 use Rattle.dfu_device.specs.declared.device_state.DeviceState.TheVariants as device_state
 use Rattle.dfu_device.specs.Stage.{Profile, Dnload, OtherRequest, Stall}
-use Rattle.dfu_device.specs.Table.{Sure, plan, error, block_plan}
+use Rattle.dfu_device.specs.Table.{Sure, plan, error_plan, block_plan}
 use Rattle.dfu_device.specs.Parts.{stage_of}
 use Rattle.dfu_asks.specs.AfterLong.{after_long}
 
--- The row of an unknown request.
-pub plan_other : (c : Profile) (image : List ℕ) (m : DeviceState) (spare block : List ℕ)
+-- Plan of an unknown request.
+pub plan_of_other_request : (c : Profile) (image : List ℕ) (m : DeviceState) (spare block : List ℕ)
     → plan c image (stage_of m spare block) OtherRequest ≡ Sure Stall (stage_of (after_long m) spare block)
-plan_other c image device_state.AppIdle spare block = refl
-plan_other c image (device_state.AppDetach timer passed) spare block = refl
-plan_other c image device_state.DfuIdle spare block = refl
-plan_other c image (device_state.DownloadSync written number) spare block = refl
-plan_other c image (device_state.DownloadSyncWritten written number) spare block = refl
-plan_other c image (device_state.DownloadBusy written number passed) spare block = refl
-plan_other c image (device_state.DownloadIdle written number) spare block = refl
-plan_other c image (device_state.ManifestSync written) spare block = refl
-plan_other c image device_state.ManifestSyncComplete spare block = refl
-plan_other c image (device_state.Manifest written passed) spare block = refl
-plan_other c image device_state.ManifestWaitReset spare block = refl
-plan_other c image (device_state.UploadIdle place number) spare block = refl
-plan_other c image (device_state.Error code) spare block = refl
+plan_of_other_request c image device_state.AppIdle spare block = refl
+plan_of_other_request c image (device_state.AppDetach timer passed) spare block = refl
+plan_of_other_request c image device_state.DfuIdle spare block = refl
+plan_of_other_request c image (device_state.DownloadSync written number) spare block = refl
+plan_of_other_request c image (device_state.DownloadSyncWritten written number) spare block = refl
+plan_of_other_request c image (device_state.DownloadBusy written number passed) spare block = refl
+plan_of_other_request c image (device_state.DownloadIdle written number) spare block = refl
+plan_of_other_request c image (device_state.ManifestSync written) spare block = refl
+plan_of_other_request c image device_state.ManifestSyncComplete spare block = refl
+plan_of_other_request c image (device_state.Manifest written passed) spare block = refl
+plan_of_other_request c image device_state.ManifestWaitReset spare block = refl
+plan_of_other_request c image (device_state.UploadIdle place number) spare block = refl
+plan_of_other_request c image (device_state.Error code) spare block = refl
 
--- A block of a body that is too long is refused for that.
-block_long : (c : Profile) (before : List ℕ) (expected number : ℕ) (body : List ℕ) → nat_lt c.transfer (length body) ≡ true
-    → block_plan c before expected number body ≡ error StalledPkt
-block_long c before expected number body long = rw long refl
+-- A block of a body that is too long is refused with errSTALLEDPKT.
+long_block_is_stalled : (c : Profile) (before : List ℕ) (expected number : ℕ) (body : List ℕ) → nat_lt c.transfer (length body) ≡ true
+    → block_plan c before expected number body ≡ error_plan StalledPkt
+long_block_is_stalled c before expected number body long = rw long refl
 
 -- No bytes are not too long.
-empty_long : (n : ℕ) → nat_lt n 0 ≡ true → ⊥
-empty_long n long = omega (arith, leb-true _ 0 long)
+no_bytes_are_not_long : (n : ℕ) → nat_lt n 0 ≡ true → ⊥
+no_bytes_are_not_long n long = omega (arith, leb-true _ 0 long)
 
--- The row of a DNLOAD with it.
-pub plan_long : (c : Profile) (image : List ℕ) (m : DeviceState) (spare block : List ℕ) (number : ℕ) (body : List ℕ)
+-- Plan of a DNLOAD of a body that is too long.
+pub plan_of_long_dnload : (c : Profile) (image : List ℕ) (m : DeviceState) (spare block : List ℕ) (number : ℕ) (body : List ℕ)
     → nat_lt c.transfer (length body) ≡ true
     → plan c image (stage_of m spare block) (Dnload number body) ≡ Sure Stall (stage_of (after_long m) spare block)
-plan_long c image device_state.AppIdle spare block number body long = refl
-plan_long c image (device_state.AppDetach timer passed) spare block number body long = refl
-plan_long c image device_state.DfuIdle spare block number [] long = rest c.can_download
+plan_of_long_dnload c image device_state.AppIdle spare block number body long = refl
+plan_of_long_dnload c image (device_state.AppDetach timer passed) spare block number body long = refl
+plan_of_long_dnload c image device_state.DfuIdle spare block number [] long = rest c.can_download
   where
-    rest : (b : Bool) → (if not b then error StalledPkt else error StalledPkt) ≡ error StalledPkt
+    rest : (b : Bool) → (if not b then error_plan StalledPkt else error_plan StalledPkt) ≡ error_plan StalledPkt
     rest true = refl
     rest false = refl
-plan_long c image device_state.DfuIdle spare block number (x ∷ xs) long = rest c.can_download
+plan_of_long_dnload c image device_state.DfuIdle spare block number (x ∷ xs) long = rest c.can_download
   where
-    rest : (b : Bool) → (if not b then error StalledPkt else block_plan c [] 0 number (x ∷ xs)) ≡ error StalledPkt
-    rest true = block_long c [] 0 number (x ∷ xs) long
+    rest : (b : Bool) → (if not b then error_plan StalledPkt else block_plan c [] 0 number (x ∷ xs)) ≡ error_plan StalledPkt
+    rest true = long_block_is_stalled c [] 0 number (x ∷ xs) long
     rest false = refl
-plan_long c image (device_state.DownloadSync written due) spare block number body long = refl
-plan_long c image (device_state.DownloadSyncWritten written due) spare block number body long = refl
-plan_long c image (device_state.DownloadBusy written due passed) spare block number body long = refl
-plan_long c image (device_state.DownloadIdle written due) spare block number [] long = absurd (empty_long c.transfer long)
-plan_long c image (device_state.DownloadIdle written due) spare block number (x ∷ xs) long = block_long c _ due number (x ∷ xs) long
-plan_long c image (device_state.ManifestSync written) spare block number body long = refl
-plan_long c image device_state.ManifestSyncComplete spare block number body long = refl
-plan_long c image (device_state.Manifest written passed) spare block number body long = refl
-plan_long c image device_state.ManifestWaitReset spare block number body long = refl
-plan_long c image (device_state.UploadIdle place due) spare block number body long = refl
-plan_long c image (device_state.Error code) spare block number body long = refl
+plan_of_long_dnload c image (device_state.DownloadSync written due) spare block number body long = refl
+plan_of_long_dnload c image (device_state.DownloadSyncWritten written due) spare block number body long = refl
+plan_of_long_dnload c image (device_state.DownloadBusy written due passed) spare block number body long = refl
+plan_of_long_dnload c image (device_state.DownloadIdle written due) spare block number [] long = absurd (no_bytes_are_not_long c.transfer
+    long)
+plan_of_long_dnload c image (device_state.DownloadIdle written due) spare block number (x ∷ xs) long = long_block_is_stalled c _ due number
+    (x ∷ xs) long
+plan_of_long_dnload c image (device_state.ManifestSync written) spare block number body long = refl
+plan_of_long_dnload c image device_state.ManifestSyncComplete spare block number body long = refl
+plan_of_long_dnload c image (device_state.Manifest written passed) spare block number body long = refl
+plan_of_long_dnload c image device_state.ManifestWaitReset spare block number body long = refl
+plan_of_long_dnload c image (device_state.UploadIdle place due) spare block number body long = refl
+plan_of_long_dnload c image (device_state.Error code) spare block number body long = refl

@@ -1,29 +1,29 @@
--- What is noted of the active image, and what follows from it.
+-- Notes of the active image, and what follows from them.
 use Rattle.std.proofs.Common.{◌≡◌, inl, inr, ⊎_elim, ◌==◌, not, Bool, true, false, if◌then◌else◌, ℕ, List, refl, sym, ◌∙◌, ap, arith}
 use Rattle.std.proofs.lemmas.Bool.{cases_eq, ne_eqb}
 use Rattle.dfu_slots.specs.Medium.{MediumState}
 use Rattle.dfu_slots.specs.Layout.{OPEN, slot_size, ArePlaces}
 use Rattle.dfu_slots.specs.Image.{gate_of, active_at, spare_at}
 use Rattle.dfu_slots.specs.StoreView.{SlotsState, spare_slot, is_begun}
-use Rattle.dfu_slots.proofs.Newest.{tested_places}
+use Rattle.dfu_slots.proofs.Newest.{tested_places_are_slots}
 use Rattle.dfu_asks.specs.declared.noted.Noted.{Noted}
-use Rattle.dfu_asks.specs.Noted.{beside, IsNoted}
+use Rattle.dfu_asks.specs.Noted.{other_slot_place, IsNoteOfMedium}
 
--- The slot that does not begin at 0 is the second one.
-pub noted_place : (g : ℕ) (bytes : List ℕ) (at : ℕ) → at ≡ active_at g bytes
+-- The noted slot begins at 0 if the active one does, and else in the middle of the flash.
+pub noted_slot_is_active : (g : ℕ) (bytes : List ℕ) (at : ℕ) → at ≡ active_at g bytes
     → (if not (at == 0) then slot_size bytes else 0) ≡ active_at g bytes
-noted_place g bytes at is = elim (cases_eq at 0) [
+noted_slot_is_active g bytes at is = elim (cases_eq at 0) [
   | inl none ↦
       ap (λ (b : Bool). if not b then slot_size bytes else 0) (ap (λ (k : ℕ). k == 0) none) ∙ sym none ∙ is
   | inr some ↦
       ap (λ (b : Bool). if not b then slot_size bytes else 0) (ne_eqb at 0 some)
-      ∙ ⊎_elim (λ p. absurd (some (is ∙ p.0))) (λ p. sym p.0) (tested_places g bytes)
+      ∙ ⊎_elim (λ p. absurd (some (is ∙ p.0))) (λ p. sym p.0) (tested_places_are_slots g bytes)
 ]
 
-module _ (n : Noted) (m : MediumState) (noted : IsNoted n m) where
+module _ (n : Noted) (m : MediumState) (noted : IsNoteOfMedium n m) where
   -- The slot beside the noted one is the spare.
-  pub noted_spare : beside n m.bytes ≡ spare_at (gate_of m) m.bytes
-  noted_spare = by_slot n.second noted.place (tested_places (gate_of m) m.bytes)
+  pub slot_beside_noted_is_spare : other_slot_place n m.bytes ≡ spare_at (gate_of m) m.bytes
+  slot_beside_noted_is_spare = by_slot n.second noted.place (tested_places_are_slots (gate_of m) m.bytes)
     where
       by_slot : (b : Bool) → (if b then slot_size m.bytes else 0) ≡ active_at (gate_of m) m.bytes
           → ArePlaces m.bytes (active_at (gate_of m) m.bytes) (spare_at (gate_of m) m.bytes)
@@ -33,15 +33,15 @@ module _ (n : Noted) (m : MediumState) (noted : IsNoted n m) where
       by_slot false is (inl p) = sym p.1
       by_slot false is (inr p) = omega (arith, is, p.0, p.1)
 
--- The spare's gate is closed if it is not open.
-pub begun_is : (s : SlotsState) → not ((spare_slot s).gate == OPEN) ≡ is_begun s
+-- A store was begun if the spare's gate is not open.
+pub begun_by_closed_gate : (s : SlotsState) → not ((spare_slot s).gate == OPEN) ≡ is_begun s
 unfolding is_begun
-begun_is s = refl
+begun_by_closed_gate s = refl
 
--- And open if it is not closed.
-pub open_is : (s : SlotsState) → ((spare_slot s).gate == OPEN) ≡ not (is_begun s)
+-- The spare's gate is open if the store was not begun.
+pub open_gate_by_not_begun : (s : SlotsState) → ((spare_slot s).gate == OPEN) ≡ not (is_begun s)
 unfolding is_begun
-open_is s = not_not ((spare_slot s).gate == OPEN)
+open_gate_by_not_begun s = not_not ((spare_slot s).gate == OPEN)
   where
     not_not : (b : Bool) → b ≡ not (not b)
     not_not true = refl

@@ -5,38 +5,38 @@ use Rattle.std.proofs.lemmas.Slice.{take-put_mid}
 use borrow.Rule.Slice.PartMut.{put_mid, mid_of, post_of}
 use Rattle.std.proofs.Math.Seq.{drop-drop}
 
--- The first n elements of two lists, one after the other.
-pub take_two : {X : Type 0} (n : ℕ) (xs ys : List X) → take n (xs ++ ys) ≡ take n xs ++ take (n - length (take n xs)) ys
-take_two zero xs ys = refl
-take_two (suc n) [] ys = let e : suc n - 0 ≡ suc n = omega arith in ap (λ k. take k ys) (sym e)
-take_two (suc n) (x ∷ xs) ys =
+-- The first n elements of two lists, one after the other, are the first n of the first, and then the rest of n of the second.
+pub take_of_two_lists : {X : Type 0} (n : ℕ) (xs ys : List X) → take n (xs ++ ys) ≡ take n xs ++ take (n - length (take n xs)) ys
+take_of_two_lists zero xs ys = refl
+take_of_two_lists (suc n) [] ys = let e : suc n - 0 ≡ suc n = omega arith in ap (λ k. take k ys) (sym e)
+take_of_two_lists (suc n) (x ∷ xs) ys =
     let e : suc n - suc (length (take n xs)) ≡ n - length (take n xs) = omega arith in
-    ap (λ l. x ∷ l) (take_two n xs ys) ∙ ap (λ k. x ∷ take n xs ++ take k ys) (sym e)
+    ap (λ l. x ∷ l) (take_of_two_lists n xs ys) ∙ ap (λ k. x ∷ take n xs ++ take k ys) (sym e)
 
--- They without the first n.
-pub drop_two : {X : Type 0} (n : ℕ) (xs ys : List X) → drop n (xs ++ ys) ≡ drop n xs ++ drop (n - length xs) ys
-drop_two zero xs ys = let e : 0 - length xs ≡ 0 = omega arith in ap (λ k. xs ++ drop k ys) (sym e)
-drop_two (suc n) [] ys = let e : suc n - 0 ≡ suc n = omega arith in ap (λ k. drop k ys) (sym e)
-drop_two (suc n) (x ∷ xs) ys =
+-- Two lists, one after the other, without the first n elements are the rest of the first, and then the rest of the second.
+pub drop_of_two_lists : {X : Type 0} (n : ℕ) (xs ys : List X) → drop n (xs ++ ys) ≡ drop n xs ++ drop (n - length xs) ys
+drop_of_two_lists zero xs ys = let e : 0 - length xs ≡ 0 = omega arith in ap (λ k. xs ++ drop k ys) (sym e)
+drop_of_two_lists (suc n) [] ys = let e : suc n - 0 ≡ suc n = omega arith in ap (λ k. drop k ys) (sym e)
+drop_of_two_lists (suc n) (x ∷ xs) ys =
     let e : suc n - suc (length xs) ≡ n - length xs = omega arith in
-    drop_two n xs ys ∙ ap (λ k. drop n xs ++ drop k ys) (sym e)
+    drop_of_two_lists n xs ys ∙ ap (λ k. drop n xs ++ drop k ys) (sym e)
 
--- So many bytes of two lists and zeros after both, without the first ones, lie in three runs.
-pub in_runs : (front back : List ℕ) (skip len : ℕ) → skip + len ≤ length front + length back + 256
+-- A range of two lists with zeros after them lies in three runs: one of each list, and one of zeros.
+pub bytes_in_three_runs : (front back : List ℕ) (skip len : ℕ) → skip + len ≤ length front + length back + 256
     → let first = take len (drop skip front) in
     let second = take (len - length first) (drop (skip - length front) back) in
     (first ++ second) ++ replicate (len - length first - length second) 0
     ≡ take len (drop skip ((front ++ back) ++ replicate 256 0))
-in_runs front back skip len within =
+bytes_in_three_runs front back skip len within =
     let first = take len (drop skip front) in
     let rest = drop (skip - length front) back in
     let second = take (len - length first) rest in
     let zeros : List ℕ = replicate 256 0 in
     let k = len - length first - length second in
     let m = skip - length (front ++ back) in
-    let a : take len (drop skip front ++ rest) ≡ first ++ second = take_two len (drop skip front) rest in
+    let a : take len (drop skip front ++ rest) ≡ first ++ second = take_of_two_lists len (drop skip front) rest in
     let b : drop skip ((front ++ back) ++ zeros) ≡ (drop skip front ++ rest) ++ drop m zeros =
-    drop_two skip (front ++ back) zeros ∙ ap (λ (l : List ℕ). l ++ drop m zeros) (drop_two skip front back) in
+    drop_of_two_lists skip (front ++ back) zeros ∙ ap (λ (l : List ℕ). l ++ drop m zeros) (drop_of_two_lists skip front back) in
     let c : k ≤ 256 - m = omega (
       arith,
       within,
@@ -50,16 +50,16 @@ in_runs front back skip len within =
     let e : len - length (take len (drop skip front ++ rest)) ≡ k =
     ap (λ (l : List ℕ). len - length l) a ∙ omega (arith, length-append first second) in
     sym (ap (take len) b
-    ∙ take_two len (drop skip front ++ rest) (drop m zeros)
+    ∙ take_of_two_lists len (drop skip front ++ rest) (drop m zeros)
     ∙ (λ i. a i ++ take (e i) (drop m zeros))
     ∙ ap (λ l. (first ++ second) ++ l) d)
 
--- Bytes whose front, middle and rest are those of runs are theirs, and only those are.
-pub runs_are : (b : Bool) (bytes front back : List ℕ) (rest pad : ℕ) → length bytes ≡ length front + length back + rest
+-- Some bytes are those of the runs exactly if their front, their middle and their rest are.
+pub bytes_are_three_runs : (b : Bool) (bytes front back : List ℕ) (rest pad : ℕ) → length bytes ≡ length front + length back + rest
     → take (length front) bytes ≡ front → take (length back) (drop (length front) bytes) ≡ back
     → (b ≡ true) ↔ (drop (length front + length back) bytes ≡ replicate rest pad)
     → (b ≡ true) ↔ (bytes ≡ (front ++ back) ++ replicate rest pad)
-runs_are b bytes front back rest pad size one other iff = (yes, no)
+bytes_are_three_runs b bytes front back rest pad size one other iff = (yes, no)
   where
     whole : bytes ≡ (front ++ back) ++ drop (length front + length back) bytes
     whole = sym (take-append-drop (length front) bytes)
@@ -75,11 +75,11 @@ runs_are b bytes front back rest pad size one other iff = (yes, no)
     no : bytes ≡ (front ++ back) ++ replicate rest pad → b ≡ true
     no is = iff.1 (append_cancel_left (front ++ back) _ _ (sym whole ∙ is))
 
--- The runs, one after the other, at the front of a buffer.
-pub front_of_put : (out front back rest : List ℕ) (middle end len : ℕ) → middle ≡ length front → end ≡ middle + length back
+-- The runs were put one after the other at the front of a buffer.
+pub runs_fill_buffer_front : (out front back rest : List ℕ) (middle end len : ℕ) → middle ≡ length front → end ≡ middle + length back
     → len ≡ end + length rest
     → take len (put_mid end (len - end) (put_mid middle (end - middle) (front ++ post_of 0 middle out) back) rest) ≡ (front ++ back) ++ rest
-front_of_put out front back rest middle end len m e l =
+runs_fill_buffer_front out front back rest middle end len m e l =
     let one = front ++ post_of 0 middle out in
     let two = put_mid middle (end - middle) one back in
     let large : middle ≤ length one = omega (arith, m, length-append front (post_of 0 middle out)) in
@@ -94,11 +94,11 @@ front_of_put out front back rest middle end len m e l =
     ∙ ap (λ z. z ++ rest) (take-put_mid middle (end - middle) one back end e large
     ∙ ap (λ z. z ++ back) (take_at front (post_of 0 middle out) middle (sym m)))
 
--- How many bytes of the buffer are behind the first two runs.
-pub size_behind : (out front back : List ℕ) (middle end len : ℕ) → middle ≡ length front → end ≡ middle + length back
+-- Behind the first two runs the buffer has the rest of its length.
+pub length_behind_two_runs : (out front back : List ℕ) (middle end len : ℕ) → middle ≡ length front → end ≡ middle + length back
     → end ≤ len → len ≤ length out
     → length (mid_of end (len - end) (put_mid middle (end - middle) (front ++ post_of 0 middle out) back)) ≡ len - end
-size_behind out front back middle end len m e low high =
+length_behind_two_runs out front back middle end len m e low high =
     let one = front ++ post_of 0 middle out in
     let two = put_mid middle (end - middle) one back in
     let size : length one ≡ length out =

@@ -1,4 +1,4 @@
--- The bytes of the active image that an UPLOAD is answered with.
+-- Bytes of the active image with which an UPLOAD is answered.
 use Rattle.std.proofs.Common.{◌≡◌, inl, inr, ◌==◌, not, nat_lt, nat_le, Bool, true, false, IsTrue, if◌then◌else◌, ℕ, ◌+◌, ◌-◌, ◌≤◌, ◌<◌, min, List, [], length, take, drop, refl, sym, ◌∙◌, ap, subst, arith}
 use Rattle.std.proofs.lemmas.Bool.{cases_eq, cases_lt, ltb-true, ltb-false}
 use Rattle.std.proofs.lemmas.List.{drop-take, take-take, take_min, length-take, length-drop}
@@ -14,30 +14,30 @@ use Rattle.dfu_wire.specs.declared.codes.Code.TheVariants.{StalledPkt as ErrStal
 use Rattle.dfu_device.specs.declared.decision.Decision.{Decision}
 use Rattle.dfu_device.specs.declared.decision.Decision.TheVariants as decision
 use Rattle.dfu_device.specs.Cases.{either_way}
-use Rattle.dfu_device.specs.Decision.{plan_of, IsSilent}
+use Rattle.dfu_device.specs.Decision.{plan_of, IsSilentDecision}
 use Rattle.dfu_device.specs.Stage.{Profile, Request, Dnload, Upload, GetStatus, GetState, Stage, Data, InDfuIdle, InDownloadSync, InDownloadIdle, InManifestSync, InUploadIdle}
-use Rattle.dfu_device.specs.Table.{Plan, Sure, has_no_bytes, next_number, error, block_plan, upload_plan, plan}
+use Rattle.dfu_device.specs.Table.{Plan, Sure, has_no_bytes, next_number, error_plan, block_plan, upload_plan, plan}
 use Rattle.dfu_device.specs.DeviceView.{DeviceView, profile}
-use Rattle.dfu_device.specs.Parts.{shows, is_filled}
-use Rattle.dfu_device.specs.Rows.{Done, meant, is_served, setup_plan}
+use Rattle.dfu_device.specs.Parts.{view_of_parts, is_filled}
+use Rattle.dfu_device.specs.Rows.{Done, request_for_table, is_served, setup_plan}
 use Rattle.dfu_slots.specs.Store.{IsStore}
-use Rattle.dfu_slots.proofs.Stands.{standing}
-use Rattle.dfu_slots.proofs.Newest.{active_end}
+use Rattle.dfu_slots.proofs.Stands.{active_image_at_its_place}
+use Rattle.dfu_slots.proofs.Newest.{active_place_ends_within}
 use Rattle.dfu_slots.proofs.Parts.{data_length}
 use Rattle.dfu_asks.specs.Due.{SendsWithin}
 
 -- The image is the front of the active slot's data.
-pub image_front : (s : SlotsState) (at len : ℕ) → at ≡ active_at (gate_of s.medium) s.medium.bytes
+pub image_is_active_data_front : (s : SlotsState) (at len : ℕ) → at ≡ active_at (gate_of s.medium) s.medium.bytes
     → len ≡ header_length (slot_of s.medium at) → image_of s ≡ take len (slot_of s.medium at).data_bytes
 unfolding image_of
-image_front s at len here is =
+image_is_active_data_front s at len here is =
     (λ i. take (header_length (slot_of s.medium (sym here i))) (slot_of s.medium (sym here i)).data_bytes)
     ∙ ap (λ (n : ℕ). take n (slot_of s.medium at).data_bytes) (sym is)
 
--- Some bytes of the front of a list are those of the list.
-pub front_of : (bytes : List ℕ) (place len count : ℕ) → count ≤ len - place
+-- The first bytes after a place within the front of a list are those of the list.
+pub range_of_list_front : (bytes : List ℕ) (place len count : ℕ) → count ≤ len - place
     → take count (drop place (take len bytes)) ≡ take count (drop place bytes)
-front_of bytes place len count fits = elim (cases_eq count 0) [
+range_of_list_front bytes place len count fits = elim (cases_eq count 0) [
   | inl none ↦
       ap (λ (k : ℕ). take k (drop place (take len bytes))) none ∙ ap (λ (k : ℕ). take k (drop place bytes)) (sym none)
   | inr some ↦
@@ -47,52 +47,53 @@ front_of bytes place len count fits = elim (cases_eq count 0) [
       ∙ take-take count (len - place) (drop place bytes) fits
 ]
 
--- How many bytes of an image come from a place on.
-pub counted : (image : List ℕ) (place size count : ℕ) → count ≡ min size (length image - place)
+-- An upload sends `count` bytes of an image from a place on: `size`, or those that are left.
+pub image_bytes_counted : (image : List ℕ) (place size count : ℕ) → count ≡ min size (length image - place)
     → take count (drop place image) ≡ take size (drop place image)
-counted image place size count is =
+image_bytes_counted image place size count is =
     ap (λ (k : ℕ). take k (drop place image)) (is ∙ ap (λ (k : ℕ). min size k) (sym (length-drop place image)))
     ∙ take_min size (drop place image)
 
-pub count_is : (image : List ℕ) (place size count : ℕ) → count ≡ min size (length image - place)
+pub count_of_image_bytes : (image : List ℕ) (place size count : ℕ) → count ≡ min size (length image - place)
     → count ≡ length (take size (drop place image))
-count_is image place size count is = omega (arith, is, length-drop place image, length-take size (drop place image))
+count_of_image_bytes image place size count is = omega (arith, is, length-drop place image, length-take size (drop place image))
 
--- The mode of a device once these bytes are sent.
-pub record IsAfter (count size place number : ℕ) (m : DeviceState) : Type 0 where
+-- Mode of a device after an upload: dfuIDLE after a short block, and dfuUPLOAD-IDLE after a full one.
+pub record IsModeAfterUpload (count size place number : ℕ) (m : DeviceState) : Type 0 where
   pub last : count < size → m ≡ device_state.DfuIdle
   pub more : size ≤ count → m ≡ device_state.UploadIdle (place + size) number
 
--- They are the row.
-pub sent_row : (w : DeviceView) (len : ℕ) (part block : List ℕ) (size place number : ℕ) (m : DeviceState) (count : ℕ) → count ≡ length part
-    → IsAfter count size place number m
+-- The bytes that are sent, and the mode after them, are the row of an upload.
+pub sent_bytes_are_upload_row : (w : DeviceView) (len : ℕ) (part block : List ℕ) (size place number : ℕ) (m : DeviceState) (count : ℕ) →
+    count ≡ length part
+    → IsModeAfterUpload count size place number m
     → Done (if nat_lt (length part) size then Sure (Data part) InDfuIdle else Sure (Data part) (InUploadIdle (place + size) number)) len w
-    answer.Bytes part (shows w.config w.slots m block)
-sent_row w len part block size place number m count is after = by_test (nat_lt (length part) size) refl
+    answer.Bytes part (view_of_parts w.config w.slots m block)
+sent_bytes_are_upload_row w len part block size place number m count is after = by_test (nat_lt (length part) size) refl
   where
     by_test : (b : Bool) → nat_lt (length part) size ≡ b
         → Done (if b then Sure (Data part) InDfuIdle else Sure (Data part) (InUploadIdle (place + size) number)) len w
-        answer.Bytes part (shows w.config w.slots m block)
+        answer.Bytes part (view_of_parts w.config w.slots m block)
     by_test true less = (
       (refl, refl),
-      ap (λ (k : DeviceState). shows w.config w.slots k block)
+      ap (λ (k : DeviceState). view_of_parts w.config w.slots k block)
           (after.last (omega (arith, is, ltb-true _ _ less))),
     )
     by_test false more = (
       (refl, refl),
-      ap (λ (k : DeviceState). shows w.config w.slots k block)
+      ap (λ (k : DeviceState). view_of_parts w.config w.slots k block)
           (after.more (omega (arith, is, ltb-false _ _ more))),
     )
 
--- No plan sends more bytes than a block may have.
-abbrev pub IsSmall : ℕ → Plan → Type 0
-IsSmall n (Sure (Data bytes) stage) = length bytes ≤ n
-IsSmall n p = Unit {0}
+-- A plan sends at most as many bytes as a block may have.
+abbrev pub SendsAtMostBlock : ℕ → Plan → Type 0
+SendsAtMostBlock n (Sure (Data bytes) stage) = length bytes ≤ n
+SendsAtMostBlock n p = Unit {0}
 
-upload_small : (c : Profile) (image : List ℕ) (place expected number size : ℕ)
-    → IsSmall c.transfer (upload_plan c image place expected number size)
-upload_small c image place expected number size =
-    either_way (IsSmall c.transfer) (size == 0) _ _ tt (by_size (nat_lt c.transfer size) refl)
+upload_plan_sends_at_most : (c : Profile) (image : List ℕ) (place expected number size : ℕ)
+    → SendsAtMostBlock c.transfer (upload_plan c image place expected number size)
+upload_plan_sends_at_most c image place expected number size =
+    either_way (SendsAtMostBlock c.transfer) (size == 0) _ _ tt (upload_plan_by_size (nat_lt c.transfer size) refl)
   where
     part : List ℕ
     part = take size (drop place image)
@@ -101,78 +102,83 @@ upload_small c image place expected number size =
     sends = if nat_lt (length part) size then Sure (Data part) InDfuIdle
         else Sure (Data part) (InUploadIdle (place + size) (next_number expected))
 
-    by_size : (b : Bool) → nat_lt c.transfer size ≡ b
-        → IsSmall c.transfer (if b then error ErrStalledPkt else if not (number == expected) then error ErrAddress else sends)
-    by_size true more = tt
-    by_size false less =
+    upload_plan_by_size : (b : Bool) → nat_lt c.transfer size ≡ b
+        → SendsAtMostBlock c.transfer (if b then error_plan ErrStalledPkt else if not (number == expected) then error_plan ErrAddress else
+        sends)
+    upload_plan_by_size true more = tt
+    upload_plan_by_size false less =
         let fits : length part ≤ c.transfer = omega (arith, ltb-false _ _ less, length-take size (drop place image)) in
-        either_way (IsSmall c.transfer) (not (number == expected)) _ _ tt
-        (either_way (IsSmall c.transfer) (nat_lt (length part) size) _ _ fits fits)
+        either_way (SendsAtMostBlock c.transfer) (not (number == expected)) _ _ tt
+        (either_way (SendsAtMostBlock c.transfer) (nat_lt (length part) size) _ _ fits fits)
 
-block_small : (c : Profile) (before : List ℕ) (expected number : ℕ) (body : List ℕ)
-    → IsSmall c.transfer (block_plan c before expected number body)
-block_small c before expected number body =
-    either_way (IsSmall c.transfer) (nat_lt c.transfer (length body)) _ _ tt
-    (either_way (IsSmall c.transfer) (not (number == expected)) _ _ tt
-    (either_way (IsSmall c.transfer) (nat_lt c.capacity (length before + length body)) _ _ tt tt))
+block_plan_sends_at_most : (c : Profile) (before : List ℕ) (expected number : ℕ) (body : List ℕ)
+    → SendsAtMostBlock c.transfer (block_plan c before expected number body)
+block_plan_sends_at_most c before expected number body =
+    either_way (SendsAtMostBlock c.transfer) (nat_lt c.transfer (length body)) _ _ tt
+    (either_way (SendsAtMostBlock c.transfer) (not (number == expected)) _ _ tt
+    (either_way (SendsAtMostBlock c.transfer) (nat_lt c.capacity (length before + length body)) _ _ tt tt))
 
-small_plan : (c : Profile) (image : List ℕ) (st : Stage) (r : Request) → IsSmall c.transfer (plan c image st r)
-small_plan c image InDfuIdle (Dnload number body) =
-    either_way (IsSmall c.transfer) (not c.can_download) _ _ tt
-    (either_way (IsSmall c.transfer) (has_no_bytes body) _ _ tt (block_small c [] 0 number body))
-small_plan c image InDfuIdle (Upload number size) =
-    either_way (IsSmall c.transfer) c.can_upload _ _ (upload_small c image 0 0 number size) tt
-small_plan c image (InDownloadSync before block number) GetStatus = either_way (IsSmall c.transfer) (c.busy == 0) _ _ tt tt
-small_plan c image (InDownloadIdle taken number) (Dnload k body) =
-    either_way (IsSmall c.transfer) (has_no_bytes body) _ _ (either_way (IsSmall c.transfer) (nat_le c.least (length taken)) _ _ tt tt)
-    (block_small c taken number k body)
-small_plan c image (InManifestSync taken) GetStatus = either_way (IsSmall c.transfer) (c.manifest == 0) _ _ tt tt
-small_plan c image (InUploadIdle place number) (Upload k size) = upload_small c image place number k size
-small_plan c image st GetState = tt
-small_plan c image st r = tt
+plan_sends_at_most_block : (c : Profile) (image : List ℕ) (st : Stage) (r : Request) → SendsAtMostBlock c.transfer (plan c image st r)
+plan_sends_at_most_block c image InDfuIdle (Dnload number body) =
+    either_way (SendsAtMostBlock c.transfer) (not c.can_download) _ _ tt
+    (either_way (SendsAtMostBlock c.transfer) (has_no_bytes body) _ _ tt (block_plan_sends_at_most c [] 0 number body))
+plan_sends_at_most_block c image InDfuIdle (Upload number size) =
+    either_way (SendsAtMostBlock c.transfer) c.can_upload _ _ (upload_plan_sends_at_most c image 0 0 number size) tt
+plan_sends_at_most_block c image (InDownloadSync before block number) GetStatus = either_way (SendsAtMostBlock c.transfer) (c.busy == 0) _
+    _ tt tt
+plan_sends_at_most_block c image (InDownloadIdle taken number) (Dnload k body) =
+    either_way (SendsAtMostBlock c.transfer) (has_no_bytes body) _ _ (either_way (SendsAtMostBlock c.transfer) (nat_le c.least (length
+    taken)) _ _ tt tt)
+    (block_plan_sends_at_most c taken number k body)
+plan_sends_at_most_block c image (InManifestSync taken) GetStatus = either_way (SendsAtMostBlock c.transfer) (c.manifest == 0) _ _ tt tt
+plan_sends_at_most_block c image (InUploadIdle place number) (Upload k size) = upload_plan_sends_at_most c image place number k size
+plan_sends_at_most_block c image st GetState = tt
+plan_sends_at_most_block c image st r = tt
 
-sends_small : (c : Profile) (image spare block body : List ℕ) (d : Decision) (room : ℕ) → c.transfer ≤ room
-    → IsSmall c.transfer (plan_of c image spare block body d) → SendsWithin d image room
-sends_small c image spare block body (decision.Sends place size number) room fits small =
+decision_sends_within : (c : Profile) (image spare block body : List ℕ) (d : Decision) (room : ℕ) → c.transfer ≤ room
+    → SendsAtMostBlock c.transfer (plan_of c image spare block body d) → SendsWithin d image room
+decision_sends_within c image spare block body (decision.Sends place size number) room fits small =
     by_test (nat_lt (length (take size (drop place image))) size) small
   where
-    by_test : (b : Bool) → IsSmall c.transfer (if b then Sure (Data (take size (drop place image))) InDfuIdle
+    by_test : (b : Bool) → SendsAtMostBlock c.transfer (if b then Sure (Data (take size (drop place image))) InDfuIdle
         else Sure (Data (take size (drop place image))) (InUploadIdle (place + size) number)) → length (take size (drop place image)) ≤ room
     by_test true le = omega (arith, le, fits)
     by_test false le = omega (arith, le, fits)
-sends_small c image spare block body d room fits small = tt
+decision_sends_within c image spare block body d room fits small = tt
 
--- What is decided on a request sends no more bytes than a block may have.
-pub setup_within : (w : DeviceView) (spare block body : List ℕ) (d : Decision) (p : Setup) (q : Asked) (room : ℕ)
+-- The decision on a request sends no more bytes than a block may have.
+pub setup_decision_sends_within : (w : DeviceView) (spare block body : List ℕ) (d : Decision) (p : Setup) (q : Asked) (room : ℕ)
     → plan_of (profile w) (image_of w.slots) spare block body d ≡ setup_plan w p q body → (profile w).transfer ≤ room
     → SendsWithin d (image_of w.slots) room
-setup_within w spare block body d p q room is fits =
+setup_decision_sends_within w spare block body d p q room is fits =
     let n = (profile w).transfer in
-    sends_small (profile w) (image_of w.slots) spare block body d room fits (subst (IsSmall n) (sym is)
-    (either_way (IsSmall n) (is_served p q body) _ _ (small_plan (profile w) (image_of w.slots) w.stage (meant q body)) tt))
+    decision_sends_within (profile w) (image_of w.slots) spare block body d room fits (subst (SendsAtMostBlock n) (sym is)
+    (either_way (SendsAtMostBlock n) (is_served p q body) _ _ (plan_sends_at_most_block (profile w) (image_of w.slots) w.stage
+    (request_for_table q body)) tt))
 
--- What is decided on a time sends nothing.
-pub time_within : (d : Decision) (image : List ℕ) (room : ℕ) → IsSilent d → SendsWithin d image room
-time_within (decision.Sends place size number) image room silent = absurd silent
-time_within d image room silent = tt
+-- The decision on a time sends nothing.
+pub time_decision_sends_nothing : (d : Decision) (image : List ℕ) (room : ℕ) → IsSilentDecision d → SendsWithin d image room
+time_decision_sends_nothing (decision.Sends place size number) image room silent = absurd silent
+time_decision_sends_nothing d image room silent = tt
 
--- The mode that a device enters then asks for nothing that is put.
-pub after_filled : (count size place number : ℕ) (m : DeviceState) (block : ℕ) (s : SlotsState) → IsAfter count size place number m
+-- The mode after an upload has nothing that is put.
+pub mode_after_asks_nothing : (count size place number : ℕ) (m : DeviceState) (block : ℕ) (s : SlotsState)
+    → IsModeAfterUpload count size place number m
     → IsTrue (is_filled m block s)
-after_filled count size place number m block s after = elim (cases_lt count size) [
+mode_after_asks_nothing count size place number m block s after = elim (cases_lt count size) [
   | inl less ↦ subst (λ (k : DeviceState). IsTrue (is_filled k block s)) (sym (after.last less)) refl
   | inr le ↦ subst (λ (k : DeviceState). IsTrue (is_filled k block s)) (sym (after.more le)) refl
 ]
 
--- The active slot has room for its image.
-pub data_room : (s : SlotsState) (at len : ℕ) → IsStore s → at ≡ active_at (gate_of s.medium) s.medium.bytes
+-- The data of the active slot has room for the image.
+pub active_data_holds_image : (s : SlotsState) (at len : ℕ) → IsStore s → at ≡ active_at (gate_of s.medium) s.medium.bytes
     → len ≤ capacity_of s.medium → len ≤ length (slot_of s.medium at).data_bytes
-data_room s at len store here fits =
+active_data_holds_image s at len store here fits =
     let g = gate_of s.medium in
-    let sized = (standing store.has_image.active).sized in
+    let sized = (active_image_at_its_place store.has_image.active).sized in
     omega (
       arith,
       fits,
-      data_length g s.medium.bytes at (omega (arith, here, active_end g s.medium.bytes sized))
+      data_length g s.medium.bytes at (omega (arith, here, active_place_ends_within g s.medium.bytes sized))
           (omega (arith, sized.room)),
     )

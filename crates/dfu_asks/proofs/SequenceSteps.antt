@@ -1,4 +1,4 @@
--- The operations of each sequence are the steps that it is for.
+-- Operations of each sequence, and the steps that they make.
 use Rattle.std.proofs.Common.{◌≡◌, ◌≢◌, ◌⊎◌, inl, inr, ◌==◌, Bool, true, false, if◌then◌else◌, ℕ, ◌+◌, ◌-◌, ◌*◌, ◌/◌, ◌≤◌, min, List, [], ◌∷◌, ◌++◌, length, take, drop, replicate, sym, ◌∙◌, ap, arith, length-append}
 use Rattle.std.proofs.lemmas.Bool.{cases_eq, cond-true, cond-false, ne_eqb, eq-eqb}
 use Rattle.std.proofs.lemmas.List.{append-nil}
@@ -8,47 +8,52 @@ use Rattle.dfu_slots.specs.declared.operation.Op.{Op}
 use Rattle.dfu_slots.specs.declared.operation.Op.TheVariants.{Erase, Program}
 use Rattle.dfu_slots.specs.declared.operation.Source.TheVariants.{Joined, Header, Opened, Closed}
 use Rattle.dfu_slots.specs.declared.sequence.Sequence.TheVariants.{Close, Put, Commit, Image}
-use Rattle.dfu_slots.specs.Units.{Grain, unit_size, gate_size, gate_room, whole_part, fill_size, filled}
+use Rattle.dfu_slots.specs.Units.{Grain, unit_size, gate_size, gate_room, whole_part, fill_size, filled_units}
 use Rattle.dfu_slots.specs.Layout.{OPEN, header, gate_unit, header_unit}
-use Rattle.dfu_slots.specs.Writes.{head_size}
+use Rattle.dfu_slots.specs.Writes.{head_write_size}
 use Rattle.dfu_slots.specs.Operations.{operations}
-use Rattle.dfu_slots.proofs.Sectors.{unit_wide, gate_most}
-use Rattle.dfu_slots.proofs.Parts.{length-gate_unit, length-header_unit}
-use Rattle.dfu_slots.proofs.Multiples.{length-filled}
-use Rattle.dfu_slots.proofs.Put.{head_le}
-use Rattle.dfu_slots.proofs.Sequences.{closed_range, gate_range, header_range, part_range, head_range, back_range, image_range}
+use Rattle.dfu_slots.proofs.Sectors.{gate_unit_at_least_16, gate_unit_at_most_256}
+use Rattle.dfu_slots.proofs.Parts.{gate_unit_length, header_unit_length}
+use Rattle.dfu_slots.proofs.Multiples.{filled_units_length}
+use Rattle.dfu_slots.proofs.Put.{head_at_most_whole_units}
+use Rattle.dfu_slots.proofs.Sequences.{range_is_closed_gate_unit, range_is_gate_unit, range_is_header_unit, range_is_filled_held_bytes, range_is_head_write, range_is_further_units, range_is_image_piece}
 use Rattle.dfu_asks.specs.declared.pending_writes.WriteInputs.{WriteInputs}
-use Rattle.dfu_asks.specs.Steps.{Step, anew_steps, some_steps, put_steps, open_steps, close_step}
-use Rattle.dfu_asks.specs.Jobs.{grain_for, tail_place}
+use Rattle.dfu_asks.specs.Steps.{Step, write_anew_steps, write_some_steps, put_steps, open_steps, close_step}
+use Rattle.dfu_asks.specs.Jobs.{input_grain, held_bytes_place}
 use Rattle.dfu_asks.specs.declared.formatting.FormatStep.{FormatStep}
 use Rattle.dfu_asks.specs.declared.formatting.Formatting.{Formatting}
 use Rattle.dfu_asks.specs.Mapped.{grain_of}
 use Rattle.dfu_asks.specs.Phases.{part_steps, steps_of_part}
-use Rattle.dfu_asks.specs.Cuts.{range_in}
-use Rattle.dfu_asks.specs.OpSteps.{ops_steps, steps_at, MayCutAll}
-use Rattle.dfu_asks.proofs.Locating.{anew_are}
-use Rattle.dfu_asks.proofs.Cutting.{close_steps}
+use Rattle.dfu_asks.specs.Cuts.{range_of_source}
+use Rattle.dfu_asks.specs.OpSteps.{ops_steps, op_steps_at, OpsHaveFewBytes}
+use Rattle.dfu_asks.proofs.Locating.{some_steps_are_anew}
+use Rattle.dfu_asks.proofs.Cutting.{gate_steps_without_sectors}
 
 module _ (s : WriteInputs) (front : List ℕ) where
   abbrev w : Grain
-  w = grain_for s
+  w = input_grain s
 
   abbrev g : ℕ
   g = gate_size w.unit
 
-  -- A gate is closed.
-  pub close_are : (slot : ℕ) → ops_steps s front (operations w (Close slot)) ≡ close_step w slot ∷ []
-  close_are slot = by_sector (cases_eq w.sector 0)
+  -- The operations that close a gate make the step that closes it.
+  pub close_ops_are_step : (slot : ℕ) → ops_steps s front (operations w (Close slot)) ≡ close_step w slot ∷ []
+  close_ops_are_step slot = by_sector (cases_eq w.sector 0)
     where
       by_sector : (w.sector ≡ 0) ⊎ (w.sector ≢ 0) → ops_steps s front (operations w (Close slot)) ≡ close_step w slot ∷ []
       by_sector (inl none) =
           let unit = gate_unit g 0 in
           ap (λ (o : Op). ops_steps s front (o ∷ []))
           (cond-true (w.sector == 0) (Program slot Closed 0 g) (Erase slot) (eq-eqb w.sector 0 none))
-          ∙ append-nil (some_steps w.sector slot (range_in Closed s front 0 g))
-          ∙ ap (λ (l : List ℕ). some_steps w.sector slot l) (closed_range g (unit_wide w.unit) (gate_most w.unit))
-          ∙ anew_are w.sector slot unit (omega (arith, length-gate_unit g 0 (unit_wide w.unit), unit_wide w.unit))
-          ∙ close_steps w slot none
+          ∙ append-nil (write_some_steps w.sector slot (range_of_source Closed s front 0 g))
+          ∙ ap (λ (l : List ℕ). write_some_steps w.sector slot l) (range_is_closed_gate_unit g (gate_unit_at_least_16 w.unit)
+          (gate_unit_at_most_256 w.unit))
+          ∙ some_steps_are_anew w.sector slot unit (omega (
+            arith,
+            gate_unit_length g 0 (gate_unit_at_least_16 w.unit),
+            gate_unit_at_least_16 w.unit,
+          ))
+          ∙ gate_steps_without_sectors w slot none
       by_sector (inr some) =
           let e : (w.sector == 0) ≡ false = ne_eqb w.sector 0 some in
           ap (λ (o : Op). ops_steps s front (o ∷ [])) (cond-false (w.sector == 0) (Program slot Closed 0 g) (Erase slot) e)
@@ -57,79 +62,86 @@ module _ (s : WriteInputs) (front : List ℕ) where
             write = record { at = slot; bytes = if e i then gate_unit g 0 else replicate w.sector 255 };
           }))
 
-  -- A block is put after what is held.
-  pub put_are : (slot end : ℕ) → let h = s.held.now in let b = s.block.now in
-      ops_steps s front (operations w (Put slot end (length h) (length b))) ≡ put_steps w (tail_place w slot end h) h b
-  put_are slot end =
+  -- The operations of a put make the steps of a `put`.
+  pub put_ops_are_steps : (slot end : ℕ) → let h = s.held.now in let b = s.block.now in
+      ops_steps s front (operations w (Put slot end (length h) (length b))) ≡ put_steps w (held_bytes_place w slot end h) h b
+  put_ops_are_steps slot end =
       let h = s.held.now in
       let b = s.block.now in
       let whole : whole_part w.unit (length h + length b) ≡ whole_part w.unit (length (h ++ b)) =
       ap (λ (k : ℕ). whole_part w.unit k) (sym (length-append h b)) in
       let mine = if length h == 0 then 0 else min (unit_size w.unit) (whole_part w.unit (length h + length b)) in
-      let first : mine ≡ head_size w.unit h b = ap (λ (k : ℕ). if length h == 0 then 0 else min (unit_size w.unit) k) whole in
+      let first : mine ≡ head_write_size w.unit h b = ap (λ (k : ℕ). if length h == 0 then 0 else min (unit_size w.unit) k) whole in
       let left = whole_part w.unit (length h + length b) - mine in
-      let at = tail_place w slot end h in
-      let back : mine + left ≡ whole_part w.unit (length (h ++ b)) = omega (arith, first, whole, head_le w h b) in
-      (λ i. some_steps w.sector at (head_range w h b mine first i)
-      ++ (some_steps w.sector (at + first i) (back_range w h b mine left first back i) ++ []))
-      ∙ ap (λ (ss : List Step). some_steps w.sector at (take (head_size w.unit h b) (h ++ b)) ++ ss) (append-nil _)
+      let at = held_bytes_place w slot end h in
+      let back : mine + left ≡ whole_part w.unit (length (h ++ b)) = omega (arith, first, whole, head_at_most_whole_units w h b) in
+      (λ i. write_some_steps w.sector at (range_is_head_write w h b mine first i)
+      ++ (write_some_steps w.sector (at + first i) (range_is_further_units w h b mine left first back i) ++ []))
+      ∙ ap (λ (ss : List Step). write_some_steps w.sector at (take (head_write_size w.unit h b) (h ++ b)) ++ ss) (append-nil _)
 
-  -- The header is written.
-  header_are : (slot gen len crc : ℕ) → front ≡ header 2 gen len crc → some_steps w.sector (slot + gate_room w) (range_in Header s front 0 g)
-      ≡ anew_steps w.sector (slot + gate_room w) (header_unit g gen len crc)
-  header_are slot gen len crc is =
-      ap (λ (l : List ℕ). some_steps w.sector (slot + gate_room w) l)
-      (header_range g gen len crc front (unit_wide w.unit) (gate_most w.unit) is)
-      ∙ anew_are w.sector (slot + gate_room w) (header_unit g gen len crc)
-      (omega (arith, length-header_unit g gen len crc (unit_wide w.unit), unit_wide w.unit))
+  -- The operation that writes a header makes the steps of the header.
+  header_op_steps : (slot gen len crc : ℕ) → front ≡ header 2 gen len crc
+      → write_some_steps w.sector (slot + gate_room w) (range_of_source Header s front 0 g)
+      ≡ write_anew_steps w.sector (slot + gate_room w) (header_unit g gen len crc)
+  header_op_steps slot gen len crc is =
+      ap (λ (l : List ℕ). write_some_steps w.sector (slot + gate_room w) l)
+      (range_is_header_unit g gen len crc front (gate_unit_at_least_16 w.unit) (gate_unit_at_most_256 w.unit) is)
+      ∙ some_steps_are_anew w.sector (slot + gate_room w) (header_unit g gen len crc)
+      (omega (arith, header_unit_length g gen len crc (gate_unit_at_least_16 w.unit), gate_unit_at_least_16 w.unit))
 
-  -- A gate is opened.
-  gate_are : (slot : ℕ) → some_steps w.sector slot (range_in Opened s front 0 g) ≡ anew_steps w.sector slot (gate_unit g OPEN)
-  gate_are slot =
-      ap (λ (l : List ℕ). some_steps w.sector slot l) (gate_range g OPEN (unit_wide w.unit) (gate_most w.unit))
-      ∙ anew_are w.sector slot (gate_unit g OPEN) (omega (arith, length-gate_unit g OPEN (unit_wide w.unit), unit_wide w.unit))
+  -- The operation that opens a gate makes the steps of the gate.
+  gate_op_steps : (slot : ℕ) → write_some_steps w.sector slot (range_of_source Opened s front 0 g)
+      ≡ write_anew_steps w.sector slot (gate_unit g OPEN)
+  gate_op_steps slot =
+      ap (λ (l : List ℕ). write_some_steps w.sector slot l) (range_is_gate_unit g OPEN (gate_unit_at_least_16 w.unit)
+      (gate_unit_at_most_256 w.unit))
+      ∙ some_steps_are_anew w.sector slot (gate_unit g OPEN) (omega (
+        arith,
+        gate_unit_length g OPEN (gate_unit_at_least_16 w.unit),
+        gate_unit_at_least_16 w.unit,
+      ))
 
-  -- What is held is written, and the slot is opened.
-  pub commit_are : (slot end gen crc : ℕ) → length s.held.now ≤ 256 → front ≡ header 2 gen end crc →
+  -- The operations of a commit write the held bytes, and open the slot.
+  pub commit_ops_are_steps : (slot end gen crc : ℕ) → length s.held.now ≤ 256 → front ≡ header 2 gen end crc →
       ops_steps s front (operations w (Commit slot end (length s.held.now)))
-      ≡ some_steps w.sector (tail_place w slot end s.held.now) (filled w.unit s.held.now) ++ open_steps w slot gen end crc
-  commit_are slot end gen crc few is =
-      λ i. some_steps w.sector (tail_place w slot end s.held.now) (part_range w.unit s.held.now few i)
-      ++ (header_are slot gen end crc is i ++ append-nil (gate_are slot i) i)
+      ≡ write_some_steps w.sector (held_bytes_place w slot end s.held.now) (filled_units w.unit s.held.now) ++ open_steps w slot gen end crc
+  commit_ops_are_steps slot end gen crc few is =
+      λ i. write_some_steps w.sector (held_bytes_place w slot end s.held.now) (range_is_filled_held_bytes w.unit s.held.now few i)
+      ++ (header_op_steps slot gen end crc is i ++ append-nil (gate_op_steps slot i) i)
 
-  -- The header of a format, and its gate.
-  pub first_header : (len crc : ℕ) → front ≡ header 2 0 len crc → steps_at s front (operations w (Commit 0 0 0)) 1
-      ≡ anew_steps w.sector (0 + gate_room w) (header_unit g 0 len crc)
-  first_header len crc is = header_are 0 0 len crc is
+  -- Operations that write the header of a format, and its gate.
+  pub format_header_steps : (len crc : ℕ) → front ≡ header 2 0 len crc → op_steps_at s front (operations w (Commit 0 0 0)) 1
+      ≡ write_anew_steps w.sector (0 + gate_room w) (header_unit g 0 len crc)
+  format_header_steps len crc is = header_op_steps 0 0 len crc is
 
-  pub first_gate : steps_at s front (operations w (Commit 0 0 0)) 2 ≡ anew_steps w.sector 0 (gate_unit g OPEN)
-  first_gate = gate_are 0
+  pub format_gate_steps : op_steps_at s front (operations w (Commit 0 0 0)) 2 ≡ write_anew_steps w.sector 0 (gate_unit g OPEN)
+  format_gate_steps = gate_op_steps 0
 
-  -- A piece of an image.
-  pub image_are : (from : ℕ) → s.held.now ≡ [] → let image = s.block.now in
+  -- The operation of a piece of an image makes the steps of the piece.
+  pub image_op_is_steps : (from : ℕ) → s.held.now ≡ [] → let image = s.block.now in
       ops_steps s front (operations w (Image from (length image)))
-      ≡ some_steps w.sector (2 * gate_room w + from) (take 4096 (drop from (filled w.unit image)))
-  image_are from none =
+      ≡ write_some_steps w.sector (2 * gate_room w + from) (take 4096 (drop from (filled_units w.unit image)))
+  image_op_is_steps from none =
       let image = s.block.now in
       let size = length image + fill_size w.unit (length image) in
-      let long : size ≡ length (filled w.unit image) = sym (length-filled w.unit image) in
+      let long : size ≡ length (filled_units w.unit image) = sym (filled_units_length w.unit image) in
       let skip = min from size in
       let n = min (size - skip) 4096 in
-      append-nil (some_steps w.sector (2 * gate_room w + from) (range_in Joined s front skip n))
-      ∙ ap (λ (h : List ℕ). some_steps w.sector (2 * gate_room w + from)
+      append-nil (write_some_steps w.sector (2 * gate_room w + from) (range_of_source Joined s front skip n))
+      ∙ ap (λ (h : List ℕ). write_some_steps w.sector (2 * gate_room w + from)
       (take (skip + n - skip) (drop skip ((h ++ image) ++ replicate 256 0)))) none
-      ∙ ap (λ (l : List ℕ). some_steps w.sector (2 * gate_room w + from) l)
-      (image_range w.unit image from skip n (ap (λ (k : ℕ). min from k) long) (ap (λ (k : ℕ). min (k - skip) 4096) long))
+      ∙ ap (λ (l : List ℕ). write_some_steps w.sector (2 * gate_room w + from) l)
+      (range_is_image_piece w.unit image from skip n (ap (λ (k : ℕ). min from k) long) (ap (λ (k : ℕ). min (k - skip) 4096) long))
 
-  -- All have few bytes.
+  -- All operations have few bytes.
 
-  fill_most : (u : WriteUnit) (n : ℕ) → fill_size u n ≤ 255
-  fill_most Byte n = omega arith
-  fill_most _ n = omega arith
+  fill_at_most_255 : (u : WriteUnit) (n : ℕ) → fill_size u n ≤ 255
+  fill_at_most_255 Byte n = omega arith
+  fill_at_most_255 _ n = omega arith
 
-  pub put_few : (slot end : ℕ) → length s.held.now ≤ 256 → length s.block.now ≤ 4096
-      → MayCutAll s front (operations w (Put slot end (length s.held.now) (length s.block.now)))
-  put_few slot end few most =
+  pub put_ops_have_few_bytes : (slot end : ℕ) → length s.held.now ≤ 256 → length s.block.now ≤ 4096
+      → OpsHaveFewBytes s front (operations w (Put slot end (length s.held.now) (length s.block.now)))
+  put_ops_have_few_bytes slot end few most =
       let h = s.held.now in
       let b = s.block.now in
       let whole = whole_part w.unit (length h + length b) in
@@ -144,12 +156,12 @@ module _ (s : WriteInputs) (front : List ℕ) where
       by_test true = omega arith
       by_test false = omega arith
 
-  pub image_few : (from : ℕ) → MayCutAll s front (operations w (Image from (length s.block.now)))
-  image_few from =
-      let most = fill_most w.unit (length s.block.now) in
+  pub image_ops_have_few_bytes : (from : ℕ) → OpsHaveFewBytes s front (operations w (Image from (length s.block.now)))
+  image_ops_have_few_bytes from =
+      let most = fill_at_most_255 w.unit (length s.block.now) in
       ((omega arith, omega (arith, most, length-append s.held.now s.block.now)), tt)
 
--- The steps of a part of a format are those of what is left of it.
+-- The steps of the current part of a format are the steps of that part, by the memory of its writes.
 pub part_in : (f : Formatting) (size : ℕ) (s : WriteInputs) → s.unit ≡ f.unit → s.sector ≡ f.sector → (x : FormatStep) → f.phase ≡ x
-    → part_steps (grain_for s) (size / 2) s.block.now f.register x ≡ steps_of_part f size s.block.now
+    → part_steps (input_grain s) (size / 2) s.block.now f.register x ≡ steps_of_part f size s.block.now
 part_in f size s unit sector x is = λ i. part_steps (grain_of (unit i) (sector i)) (size / 2) s.block.now f.register (sym is i)

@@ -4,45 +4,47 @@ use Rattle.std.proofs.lemmas.Grind.{common_steps}
 use Rattle.dfu_slots.specs.Medium.{MediumState}
 use Rattle.dfu_slots.specs.Layout.{slot_size, OPEN}
 use Rattle.dfu_slots.specs.Image.{gate_of, spare_at, Active}
-use Rattle.dfu_slots.proofs.Stands.{standing}
-use Rattle.dfu_slots.proofs.Newest.{places_are}
-use Rattle.dfu_asks.specs.Mapped.{IsSlotOf, IsInSpare}
+use Rattle.dfu_slots.proofs.Stands.{active_image_at_its_place}
+use Rattle.dfu_slots.proofs.Newest.{places_of_active_image}
+use Rattle.dfu_asks.specs.Mapped.{IsSlotOf, RangeIsInSpare}
 
--- Numbers that are tested equal are.
-pub eq_from : (a b : ℕ) → IsTrue (nat_eq a b) → a ≡ b
-eq_from a b t = grind (arith, common_steps)
+-- Two numbers that are tested equal are equal.
+pub equal_if_tested_equal : (a b : ℕ) → IsTrue (nat_eq a b) → a ≡ b
+equal_if_tested_equal a b t = grind (arith, common_steps)
 
--- And those that are not, are not.
-pub ne_from : (a b : ℕ) → IsTrue (not (nat_eq a b)) → a ≢ b
-ne_from a b t = grind (arith, common_steps)
+-- Two numbers that are tested unequal are unequal.
+pub unequal_if_tested_unequal : (a b : ℕ) → IsTrue (not (nat_eq a b)) → a ≢ b
+unequal_if_tested_unequal a b t = grind (arith, common_steps)
 
--- A slot begins no later than a place in it.
-pub slot_low : (at size slot : ℕ) → IsSlotOf at size slot → slot ≤ at
-slot_low at size slot (inl first) = omega (arith, first.1)
-slot_low at size slot (inr second) = omega (arith, second.0, second.1)
+-- The slot of a place begins at the place, or before it.
+pub slot_begins_before_place : (at size slot : ℕ) → IsSlotOf at size slot → slot ≤ at
+slot_begins_before_place at size slot (inl first) = omega (arith, first.1)
+slot_begins_before_place at size slot (inr second) = omega (arith, second.0, second.1)
 
--- It is one of the two.
-pub slot_either : (at size slot : ℕ) → IsSlotOf at size slot → (slot ≡ 0) ⊎ (slot ≡ size)
-slot_either at size slot (inl first) = inl first.1
-slot_either at size slot (inr second) = inr second.1
+-- The slot of a place is the first one or the second one.
+pub slot_of_place_is_one_of_two : (at size slot : ℕ) → IsSlotOf at size slot → (slot ≡ 0) ⊎ (slot ≡ size)
+slot_of_place_is_one_of_two at size slot (inl first) = inl first.1
+slot_of_place_is_one_of_two at size slot (inr second) = inr second.1
 
--- It begins within the flash, if the place is in it.
-pub slot_inside : (at size slot len : ℕ) → IsSlotOf at size slot → 0 < len → at + len ≤ slot + size → slot < 2 * size
-slot_inside at size slot len (inl first) some high = omega (arith, first.0, first.1)
-slot_inside at size slot len (inr second) some high = omega (arith, second.0, second.1, some, high)
+-- The slot of a place within the flash begins within the flash.
+pub slot_of_place_within_flash : (at size slot len : ℕ) → IsSlotOf at size slot → 0 < len → at + len ≤ slot + size → slot < 2 * size
+slot_of_place_within_flash at size slot len (inl first) some high = omega (arith, first.0, first.1)
+slot_of_place_within_flash at size slot len (inr second) some high = omega (arith, second.0, second.1, some, high)
 
--- And no other one has the place.
-pub slot_one : (at size slot : ℕ) → IsSlotOf at size slot → (k : ℕ) → (k ≡ 0) ⊎ (k ≡ size) → k ≤ at → at < k + size → k ≡ slot
-slot_one at size slot (inl here) k (inl first) low high = omega (arith, first, here.1)
-slot_one at size slot (inl here) k (inr second) low high = absurd (omega (arith, second, low, here.0))
-slot_one at size slot (inr here) k (inl first) low high = absurd (omega (arith, first, high, here.0))
-slot_one at size slot (inr here) k (inr second) low high = omega (arith, second, here.1)
+-- The slot of a place is unique.
+pub slot_of_place_is_unique : (at size slot : ℕ) → IsSlotOf at size slot → (k : ℕ) → (k ≡ 0) ⊎ (k ≡ size) → k ≤ at → at < k + size → k
+    ≡ slot
+slot_of_place_is_unique at size slot (inl here) k (inl first) low high = omega (arith, first, here.1)
+slot_of_place_is_unique at size slot (inl here) k (inr second) low high = absurd (omega (arith, second, low, here.0))
+slot_of_place_is_unique at size slot (inr here) k (inl first) low high = absurd (omega (arith, first, high, here.0))
+slot_of_place_is_unique at size slot (inr here) k (inr second) low high = omega (arith, second, here.1)
 
--- A slot whose gate is closed is the spare one, if there is an active image.
-pub spare_closed : (m : MediumState) (image : List ℕ) (slot at len : ℕ) → Active m image → (slot ≡ 0) ⊎ (slot ≡ slot_size m.bytes)
-    → slice_index m.bytes slot ≢ OPEN → slot ≤ at → at + len ≤ slot + slot_size m.bytes → IsInSpare m at len
-spare_closed m image slot at len a either shut low high =
-    let is : a.spare ≡ spare_at (gate_of m) m.bytes = (places_are (gate_of m) m.bytes a.at a.spare image (standing a)).1 in
+-- A slot with a closed gate is the spare, if there is an active image.
+pub closed_slot_is_spare : (m : MediumState) (image : List ℕ) (slot at len : ℕ) → Active m image → (slot ≡ 0) ⊎ (slot ≡ slot_size m.bytes)
+    → slice_index m.bytes slot ≢ OPEN → slot ≤ at → at + len ≤ slot + slot_size m.bytes → RangeIsInSpare m at len
+closed_slot_is_spare m image slot at len a either shut low high =
+    let is : a.spare ≡ spare_at (gate_of m) m.bytes = (places_of_active_image (gate_of m) m.bytes a.at a.spare image
+    (active_image_at_its_place a)).1 in
     let other : slot ≡ a.at → ⊥ = λ e. shut (ap (λ (k : ℕ). slice_index m.bytes k) e ∙ a.newest.counts.is_open) in
     let spare : slot ≡ a.spare =
     ⊎_elim
@@ -51,8 +53,8 @@ spare_closed m image slot at len a either shut low high =
     a.places in
     record { from = omega (arith, low, spare, is); to = omega (arith, high, spare, is) }
 
--- A slot that was found to be the spare one.
-pub spare_found : (m : MediumState) (slot at len : ℕ) → spare_at (gate_of m) m.bytes ≡ slot → slot ≤ at
+-- A range of a slot that was found to be the spare is a range of the spare.
+pub found_slot_is_spare : (m : MediumState) (slot at len : ℕ) → spare_at (gate_of m) m.bytes ≡ slot → slot ≤ at
     → at + len ≤ slot + slot_size m.bytes
-    → IsInSpare m at len
-spare_found m slot at len is low high = record { from = omega (arith, low, is); to = omega (arith, high, is) }
+    → RangeIsInSpare m at len
+found_slot_is_spare m slot at len is low high = record { from = omega (arith, low, is); to = omega (arith, high, is) }

@@ -1,4 +1,4 @@
--- A series of writes that is carried out piece by piece.
+-- Series of writes that are carried out piece by piece.
 use Rattle.std.specs.Prelude.{◌≡◌, ◌⊎◌, ℕ, ◌+◌, ◌-◌, ◌%◌, ◌≤◌, ◌<◌, min, true, if◌then◌else◌, List, [], ◌∷◌, length, take, slice_range}
 use Rattle.dfu_slots.specs.Medium.{Write, written}
 use Rattle.dfu_asks.specs.Steps.{Step}
@@ -8,13 +8,13 @@ abbrev pub total : List Write → ℕ
 total [] = 0
 total (w ∷ ws) = length w.bytes + total ws
 
--- These bytes of a medium, once the first n bytes of a series are written over them, in the order of the series.
-abbrev pub carried : List ℕ → List Write → ℕ → List ℕ
-carried bytes [] n = bytes
-carried bytes (w ∷ ws) n = carried (written bytes w.at (take n w.bytes)) ws (n - length w.bytes)
+-- Bytes of a medium once the first n bytes of a series are written over them, in the order of the series.
+abbrev pub bytes_after_writes : List ℕ → List Write → ℕ → List ℕ
+bytes_after_writes bytes [] n = bytes
+bytes_after_writes bytes (w ∷ ws) n = bytes_after_writes (written bytes w.at (take n w.bytes)) ws (n - length w.bytes)
 
--- Behind the first n bytes of a step this piece of it comes: what is left of it, and of a program at most 256 bytes.
-pub record IsPart (s : Step) (n : ℕ) (p : Step) : Type 0 where
+-- Piece `p` comes after the first n bytes of a step: it is what is left of the step, and of a program at most 256 bytes.
+pub record IsPieceOfStep (s : Step) (n : ℕ) (p : Step) : Type 0 where
   pub kind : p.erases ≡ s.erases
   pub some : 0 < length p.write.bytes
   pub size : length p.write.bytes ≡ (if s.erases then length s.write.bytes - n else min 256 (length s.write.bytes - n))
@@ -22,22 +22,23 @@ pub record IsPart (s : Step) (n : ℕ) (p : Step) : Type 0 where
   pub place : p.write.at ≡ s.write.at + n
   pub bytes_are : p.write.bytes ≡ slice_range s.write.bytes n (n + length p.write.bytes)
 
--- Behind the first n bytes of a series this piece of one of its steps comes.
-abbrev pub IsPiece : List Step → ℕ → Step → Type 0
-IsPiece [] n p = ⊥
-IsPiece (s ∷ ss) n p = IsPart s n p ⊎ ((length s.write.bytes ≤ n) × IsPiece ss (n - length s.write.bytes) p)
+-- Piece of one of the steps of a series that comes after the first n bytes of the series.
+abbrev pub IsStepPiece : List Step → ℕ → Step → Type 0
+IsStepPiece [] n p = ⊥
+IsStepPiece (s ∷ ss) n p = IsPieceOfStep s n p ⊎ ((length s.write.bytes ≤ n) × IsStepPiece ss (n - length s.write.bytes) p)
 
--- So many bytes of a series are carried out in whole pieces: of the step that they end in none if it erases, else a multiple of 256.
-abbrev pub IsReached : List Step → ℕ → Type 0
-IsReached [] n = n ≡ 0
-IsReached (s ∷ ss) n = ((n < length s.write.bytes) × (n % 256 ≡ 0) × (s.erases ≡ true → n ≡ 0))
-    ⊎ ((length s.write.bytes ≤ n) × IsReached ss (n - length s.write.bytes))
+-- The first n bytes of a series end where a piece does: after a multiple of 256 bytes of a program, or between two steps, and never within
+-- an erase.
+abbrev pub EndsAtPiece : List Step → ℕ → Type 0
+EndsAtPiece [] n = n ≡ 0
+EndsAtPiece (s ∷ ss) n = ((n < length s.write.bytes) × (n % 256 ≡ 0) × (s.erases ≡ true → n ≡ 0))
+    ⊎ ((length s.write.bytes ≤ n) × EndsAtPiece ss (n - length s.write.bytes))
 
--- It erases one whole sector, or programs.
-abbrev pub ErasesWhole : ℕ → Step → Type 0
-ErasesWhole sector p = p.erases ≡ true → (length p.write.bytes ≡ sector) × (p.write.at % sector ≡ 0)
+-- A step erases one whole sector, or programs.
+abbrev pub ErasesSectorOrPrograms : ℕ → Step → Type 0
+ErasesSectorOrPrograms sector p = p.erases ≡ true → (length p.write.bytes ≡ sector) × (p.write.at % sector ≡ 0)
 
--- All writes of a series lie within so many bytes.
-abbrev pub AreWithin : List Write → ℕ → Type 0
-AreWithin [] size = Unit {0}
-AreWithin (w ∷ ws) size = (w.at + length w.bytes ≤ size) × AreWithin ws size
+-- All writes of a series end within the first n bytes of a medium.
+abbrev pub WritesWithin : List Write → ℕ → Type 0
+WritesWithin [] size = Unit {0}
+WritesWithin (w ∷ ws) size = (w.at + length w.bytes ≤ size) × WritesWithin ws size

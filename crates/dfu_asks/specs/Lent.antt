@@ -1,4 +1,4 @@
--- A device that asks, with what is in the memory that its caller lends.
+-- A device that asks, with the bytes in the memory that its caller lends.
 use Rattle.std.specs.Prelude.{◌≡◌, ℕ, ◌≤◌, List, length, take, Option}
 use Rattle.dfu_slots.specs.declared.layout.Unit.{Unit as WriteUnit}
 use Rattle.dfu_slots.specs.Units.{unit_size}
@@ -9,7 +9,7 @@ use Rattle.dfu_asks.specs.declared.noted.Noted.{Noted}
 use Rattle.dfu_asks.specs.declared.pending_writes.PendingWrites.{PendingWrites}
 use Rattle.dfu_asks.specs.declared.asking.Asking.{Asking}
 
--- Record of a device that asks, the block that is not written, and the bytes held back.
+-- Parts of a device that asks: its record, the block that is not written, and the bytes that are held back.
 pub record LentDevice : Type 0 where
   pub config : Setting
   pub unit : WriteUnit
@@ -21,7 +21,7 @@ pub record LentDevice : Type 0 where
   pub noted : Noted
   pub work : Option PendingWrites
 
--- The device with these bytes in the memory of its block, and these in that of the bytes held back.
+-- Device whose block and held bytes are at the front of the memory that is lent.
 abbrev pub lent : Asking → (block held : List ℕ) → LentDevice
 lent a block held = record {
   config = a.config;
@@ -35,12 +35,12 @@ lent a block held = record {
   work = a.work;
 }
 
--- Memory for the bytes that are held back has room for a unit.
+-- The memory for the held bytes has room for a unit.
 abbrev pub HasRoom : WriteUnit → List ℕ → Type 0
 HasRoom unit held = unit_size unit ≤ length held
 
--- It is set up as it was.
-pub record IsSetUpAs (a a' : Asking) : Type 0 where
+-- A device keeps its configuration, its unit and its sector.
+pub record SameSetup (a a' : Asking) : Type 0 where
   pub config : a'.config ≡ a.config
   pub unit : a'.unit ≡ a.unit
   pub sector : a'.sector ≡ a.sector

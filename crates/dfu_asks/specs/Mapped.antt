@@ -8,34 +8,34 @@ use Rattle.dfu_slots.specs.Layout.{slot_size, OPEN}
 use Rattle.dfu_slots.specs.Image.{gate_of, spare_at, HasImage}
 use Rattle.dfu_asks.specs.declared.sector.Sector.{Sector}
 
--- It is written in this unit, and erased in these sectors before.
+-- Grain of flash that is written in this unit, and erased in these sectors before.
 abbrev pub grain_of : WriteUnit → Sector → Grain
 grain_of unit sector = record { unit = unit; sector = sector.size }
 
--- The medium of these bytes that its owner writes so: nothing is known of its next writes.
-abbrev pub mapped : Grain → List ℕ → MediumState
-mapped grain bytes = record { bytes = bytes; failures = 2 ^ 64 - 1; fuse = Unknown; grain = grain; tag = [] }
+-- Medium of these bytes that its owner writes in this grain. Nothing is known of its next writes.
+abbrev pub mapped_medium : Grain → List ℕ → MediumState
+mapped_medium grain bytes = record { bytes = bytes; failures = 2 ^ 64 - 1; fuse = Unknown; grain = grain; tag = [] }
 
--- Values of mapped flash that are not seen: how often a write has failed, what the next writes will do, and a tag of its owner's.
-pub record Unseen : Type 0 where
+-- State of a medium that its bytes do not show: how often a write has failed, its fuse, and its owner's tag.
+pub record UnseenState : Type 0 where
   pub failures : ℕ
   pub fuse : Fuse
   pub tag : List ℕ
 
--- The medium of these bytes that its owner writes so, of which this is not seen. Each medium with these bytes is one of them.
-abbrev pub mapped_with : Unseen → Grain → List ℕ → MediumState
-mapped_with u grain bytes = record { bytes = bytes; failures = u.failures; fuse = u.fuse; grain = grain; tag = u.tag }
+-- Medium of these bytes with this unseen state. Each medium with these bytes is one of them.
+abbrev pub mapped_medium_with : UnseenState → Grain → List ℕ → MediumState
+mapped_medium_with u grain bytes = record { bytes = bytes; failures = u.failures; fuse = u.fuse; grain = grain; tag = u.tag }
 
--- So many bytes from there on lie within the spare slot of a medium.
-pub record IsInSpare (m : MediumState) (at len : ℕ) : Type 0 where
+-- The `len` bytes from `at` on lie within the spare slot of a medium.
+pub record RangeIsInSpare (m : MediumState) (at len : ℕ) : Type 0 where
   pub from : spare_at (gate_of m) m.bytes ≤ at
   pub to : at + len ≤ spare_at (gate_of m) m.bytes + slot_size m.bytes
 
--- Of two slots of this size, a place lies in the one that begins here.
+-- A place lies in the slot that begins at `slot`, of two slots of this size.
 abbrev pub IsSlotOf : ℕ → ℕ → ℕ → Type 0
 IsSlotOf at size slot = ((at < size) × (slot ≡ 0)) ⊎ ((size ≤ at) × (slot ≡ size))
 
--- A range is not asked for: whichever slot it lies in has an open gate, and is not the spare of an active image.
+-- A range that a device never asks for: the slot that it lies in has an open gate, and is not the spare of an active image.
 abbrev pub IsProtectedRange : MediumState → ℕ → ℕ → Type 0
 IsProtectedRange m at len = (slot : ℕ) → (slot ≡ 0) ⊎ (slot ≡ slot_size m.bytes) → slot ≤ at → at + len ≤ slot + slot_size m.bytes
     → (slice_index m.bytes slot ≡ OPEN) × (HasImage m → spare_at (gate_of m) m.bytes ≢ slot)

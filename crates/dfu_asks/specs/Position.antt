@@ -1,32 +1,33 @@
--- The position after so many bytes of a write and of the erases before it.
+-- Position in a write and the erases before it, after some of their bytes.
 use Rattle.std.specs.Prelude.{◌≡◌, ℕ, ◌+◌, ◌*◌, ◌^◌, ◌≤◌, ◌<◌, true, List, length}
-use Rattle.dfu_slots.specs.Writes.{erases}
+use Rattle.dfu_slots.specs.Writes.{sector_erases}
 use Rattle.dfu_asks.specs.declared.sector.Position.{Position}
 use Rattle.dfu_asks.specs.declared.sector.Position.TheVariants.{Erase, Program, Behind}
-use Rattle.dfu_asks.specs.Steps.{Step, step_writes, marked, erase_step, program, some_steps}
-use Rattle.dfu_asks.specs.Carried.{total, IsPart, IsPiece}
+use Rattle.dfu_asks.specs.Steps.{Step, step_writes, steps_of_writes, erase_step, program_step, write_some_steps}
+use Rattle.dfu_asks.specs.Carried.{total, IsPieceOfStep, IsStepPiece}
 
--- Behind so many bytes of the erases that begin in a range: what is left of one of them, or they all come before.
+-- Position after `done` bytes of the erases of the sectors that begin in a range: in one of the sectors, or behind them all.
 abbrev pub LeadsToErase : ℕ → ℕ → ℕ → ℕ → Position → Type 0
-LeadsToErase sector at n done (Erase place len) = IsPiece (marked true (erases sector at n)) done (erase_step place len)
+LeadsToErase sector at n done (Erase place len) = IsStepPiece (steps_of_writes true (sector_erases sector at n)) done (erase_step place len)
     × (0 < len) × (done + len ≤ n + sector) × (place < 2 ^ 42) × (len ≤ sector)
 LeadsToErase sector at n done (Program from) = ⊥
-LeadsToErase sector at n done (Behind rest) = (total (erases sector at n) + rest ≡ done) × (done ≤ rest + n + sector)
+LeadsToErase sector at n done (Behind rest) = (total (sector_erases sector at n) + rest ≡ done) × (done ≤ rest + n + sector)
 
--- After so many bytes of a write of n bytes there: what is left of an erase before it, a place in it, or it is passed.
-abbrev pub LeadsTo : ℕ → ℕ → ℕ → ℕ → Position → Type 0
-LeadsTo sector at n done (Erase place len) =
-    ((bytes : List ℕ) → length bytes ≡ n → IsPiece (some_steps sector at bytes) done (erase_step place len))
+-- Position after `done` bytes of a write of n bytes and the erases before it: in an erase, in the write, or behind it.
+abbrev pub LeadsToPosition : ℕ → ℕ → ℕ → ℕ → Position → Type 0
+LeadsToPosition sector at n done (Erase place len) =
+    ((bytes : List ℕ) → length bytes ≡ n → IsStepPiece (write_some_steps sector at bytes) done (erase_step place len))
     × (0 < len) × (done + len ≤ n + sector) × (place < 2 ^ 42) × (len ≤ sector)
-LeadsTo sector at n done (Program from) =
-    ((bytes : List ℕ) (p : Step) → length bytes ≡ n → IsPart (program at bytes) from p → IsPiece (some_steps sector at bytes) done p)
+LeadsToPosition sector at n done (Program from) =
+    ((bytes : List ℕ) (p : Step) → length bytes ≡ n → IsPieceOfStep (program_step at bytes) from p
+    → IsStepPiece (write_some_steps sector at bytes) done p)
     × (from < n) × (done ≤ from + n + sector)
-LeadsTo sector at n done (Behind rest) =
-    ((bytes : List ℕ) → length bytes ≡ n → total (step_writes (some_steps sector at bytes)) + rest ≡ done)
+LeadsToPosition sector at n done (Behind rest) =
+    ((bytes : List ℕ) → length bytes ≡ n → total (step_writes (write_some_steps sector at bytes)) + rest ≡ done)
     × (done ≤ rest + 2 * n + sector)
 
--- So many bytes of a write of n bytes lead into it, or past it.
-abbrev pub LeadsInto : ℕ → ℕ → Position → Type 0
-LeadsInto n done (Erase place len) = ⊥
-LeadsInto n done (Program from) = (from ≡ done) × (from < n)
-LeadsInto n done (Behind rest) = n + rest ≡ done
+-- Position after `done` bytes of a write of n bytes without erases: in the write, or behind it.
+abbrev pub LeadsIntoPlainWrite : ℕ → ℕ → Position → Type 0
+LeadsIntoPlainWrite n done (Erase place len) = ⊥
+LeadsIntoPlainWrite n done (Program from) = (from ≡ done) × (from < n)
+LeadsIntoPlainWrite n done (Behind rest) = n + rest ≡ done

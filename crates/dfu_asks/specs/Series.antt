@@ -1,31 +1,31 @@
--- The series of writes of a row, as one list, and what is left once they are carried out.
+-- Writes of a row as one list, and the store that they leave.
 use Rattle.std.specs.Prelude.{◌≡◌, ◌⊎◌, ℕ, ◌+◌, ◌==◌, true, if◌then◌else◌, List, [], ◌∷◌, ◌++◌, length, take}
 use Rattle.dfu_slots.specs.declared.fault.WriteFault.{WriteFault}
 use Rattle.dfu_slots.specs.Medium.{MediumState, Write}
 use Rattle.dfu_slots.specs.Writes.{put_writes, put_rest}
-use Rattle.dfu_slots.specs.StoreView.{SlotsState, store_of, data_place, image_of, spare_of, room_of, Begin, Put, Commit, writes_of, AllWorked, BrokenBy, Called}
+use Rattle.dfu_slots.specs.StoreView.{SlotsState, store_of, data_place, image_of, spare_of, room_of, Begin, Put, Commit, writes_of, AllWorked, BrokenBy, CallsEnd}
 use Rattle.dfu_slots.specs.Image.{gate_of, active_at}
 use Rattle.dfu_slots.specs.Store.{IsStore}
 use Rattle.dfu_device.specs.Parts.{is_put}
 use Rattle.dfu_device.specs.Rows.{block_calls}
 
--- Bytes that are held back before a block that comes after so many bytes: none before the first one.
-abbrev pub tail_before : SlotsState → ℕ → List ℕ
-tail_before s n = if n == 0 then [] else s.held
+-- Bytes that are held back before a block which comes after n bytes: none before the first block.
+abbrev pub held_before_block : SlotsState → ℕ → List ℕ
+held_before_block s n = if n == 0 then [] else s.held
 
--- The writes of a block after so many bytes; before those of the first block come those that close the spare.
+-- Writes of a block which comes after n bytes; before those of the first block come those that close the spare.
 abbrev pub block_series : SlotsState → ℕ → List ℕ → List Write
 block_series s n block =
     if n == 0 then writes_of s Begin ++ put_writes s.medium.grain (data_place s 0) [] block else writes_of s (Put n block)
 
--- The store once they are made.
+-- Store after the writes of a block.
 abbrev pub block_store : SlotsState → ℕ → List ℕ → MediumState → SlotsState
-block_store s n block m = store_of m (put_rest s.medium.grain.unit (tail_before s n) block) (n + length block)
+block_store s n block m = store_of m (put_rest s.medium.grain.unit (held_before_block s n) block) (n + length block)
 
--- The block was written after so many bytes: the calls of its row worked, the spare has those bytes and then the block's, all of them count
--- as put, and the image, its place and the room stay.
+-- A block was written after n bytes: the calls of its row worked, the spare has the n bytes and then the block's, all of them count as put,
+-- and the image, its place and the room stay.
 pub record BlockWritten (s : SlotsState) (n : ℕ) (block : List ℕ) (now : SlotsState) : Type 0 where
-  pub calls : Called s (block_calls (take n (spare_of s)) block) AllWorked now
+  pub calls : CallsEnd s (block_calls (take n (spare_of s)) block) AllWorked now
   pub store : IsStore now
   pub image : image_of now ≡ image_of s
   pub place : active_at (gate_of now.medium) now.medium.bytes ≡ active_at (gate_of s.medium) s.medium.bytes
@@ -33,24 +33,24 @@ pub record BlockWritten (s : SlotsState) (n : ℕ) (block : List ℕ) (now : Slo
   pub put : is_put (n + length block) now ≡ true
   pub spare : take (n + length block) (spare_of now) ≡ take n (spare_of s) ++ block
 
--- A write of the block had this fault: the calls of its row were broken off by it, and the image, its place and the room stay.
+-- A write of a block had this fault: it broke the calls of the row off, and the image, its place and the room stay.
 pub record BlockBroken (fault : WriteFault) (s : SlotsState) (n : ℕ) (block : List ℕ) (now : SlotsState) : Type 0 where
-  pub calls : Called s (block_calls (take n (spare_of s)) block) (BrokenBy fault) now
+  pub calls : CallsEnd s (block_calls (take n (spare_of s)) block) (BrokenBy fault) now
   pub store : IsStore now
   pub image : image_of now ≡ image_of s
   pub place : active_at (gate_of now.medium) now.medium.bytes ≡ active_at (gate_of s.medium) s.medium.bytes
   pub room : room_of now ≡ room_of s
 
--- The first n bytes of the spare were made the active image, and the room stays.
+-- The first n bytes of the spare became the active image, and the room stays.
 pub record CommitCompleted (s : SlotsState) (n : ℕ) (now : SlotsState) : Type 0 where
-  pub calls : Called s (Commit (length (take n (spare_of s))) ∷ []) AllWorked now
+  pub calls : CallsEnd s (Commit (length (take n (spare_of s))) ∷ []) AllWorked now
   pub store : IsStore now
   pub image : image_of now ≡ take n (spare_of s)
   pub room : room_of now ≡ room_of s
 
--- A write of the commit of the spare's first n bytes had this fault: the old image is active, or those bytes are, whole. The room stays.
+-- A write of the commit of the first n bytes had this fault: the old image is active, or the n bytes are, whole. The room stays.
 pub record CommitBroken (fault : WriteFault) (s : SlotsState) (n : ℕ) (now : SlotsState) : Type 0 where
-  pub calls : Called s (Commit (length (take n (spare_of s))) ∷ []) (BrokenBy fault) now
+  pub calls : CallsEnd s (Commit (length (take n (spare_of s))) ∷ []) (BrokenBy fault) now
   pub store : IsStore now
   pub image : (image_of now ≡ image_of s) ⊎ (image_of now ≡ take n (spare_of s))
   pub room : room_of now ≡ room_of s

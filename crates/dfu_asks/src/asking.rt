@@ -6,17 +6,17 @@ use crate::{Noted, PendingWrites, Sector};
 use dfu_device::{Config, DeviceState};
 use dfu_slots::Unit;
 
-/// A device that asks for its writes, as it is kept between two calls. Its flash is mapped, and passed in at each call. So are
-/// the memory of the block that is not written, and that of the bytes put that are held back, fewer than a unit has.
+/// A device that asks for its writes, as it is kept between two calls. Each call gets the flash, which is mapped, the memory of the block
+/// that is not written, and the memory of the bytes put that are held back, fewer than a unit has.
 #[derive(Clone, Copy, Drop)]
 pub struct Asking {
     /// Settings of the device.
     pub config: Config,
     /// The unit in which the flash is written.
     pub unit: Unit,
-    /// The sectors in which it is erased before, if any.
+    /// The sectors in which the flash is erased before a write, if any.
     pub sector: Sector,
-    /// Its state, with what it keeps there.
+    /// The state of the device, with what the device keeps there.
     pub mode: DeviceState,
     /// Length of the block that is not written, at the front of its memory.
     pub block_len: usize,

@@ -1,20 +1,27 @@
 //! Look at a flash that may never have been written, by which a program can tell a new board from a damaged one.
 ghost use Rattle.std.specs.Prelude.{◌≡◌, ◌↔◌, ◌+◌, ◌≤◌, IsTrue, length, slice_range, IfSome, IfNone, OnSome};
 ghost use Rattle.std.specs.List.{list_all};
-ghost use Rattle.dfu_slots.specs.Image.{IsSized, HasImage};
-ghost use Rattle.dfu_asks.specs.Blank.{reads_erased, IsUnwritten};
-ghost use Rattle.dfu_asks.specs.Mapped.{grain_of, mapped};
+ghost use Rattle.dfu_slots.specs.Image.{IsSizedMedium, HasImage};
+ghost use Rattle.dfu_asks.specs.Blank.{is_erased_byte, AreSlotFrontsErased};
+ghost use Rattle.dfu_asks.specs.Mapped.{grain_of, mapped_medium};
 
 use crate::Mapped;
 use crate::gates::gate_room;
-use dfu_slots::is_sized;
+use dfu_slots::{flash_byte_at, is_sized};
 
 // Returns whether so many bytes from there on are FFh.
 fn is_erased(flash: &[u8], at: usize, len: usize) -> bool
     requires { at + len ≤ length flash.now }
-    ensures { result ≡ list_all reads_erased (slice_range flash.now at (at + len)) }
+    ensures { result ≡ list_all is_erased_byte (slice_range flash.now at (at + len)) }
 {
-    flash[at..at + len].iter().all(|byte| *byte == 0xff)
+    let mut rest = &flash[at..at + len];
+    while !rest.is_empty() {
+        if flash_byte_at(rest, 0) != 0xff {
+            return false;
+        }
+        rest = &rest[1..];
+    }
+    true
 }
 
 impl<'m> Mapped<'m> {
@@ -23,11 +30,11 @@ impl<'m> Mapped<'m> {
     ///
     /// None exactly if the flash has not as many bytes as two slots can have.
     pub fn is_blank(&self) -> Option<bool>
-        ensures blank { IfSome result (λ b. IsTrue b ↔ IsUnwritten (grain_of self.now.unit self.now.sector) self.now.bytes.now) }
+        ensures blank { IfSome result (λ b. IsTrue b ↔ AreSlotFrontsErased (grain_of self.now.unit self.now.sector) self.now.bytes.now) }
         ensures no_image { IfSome result (λ b. IsTrue b →
-            ¬ HasImage (mapped (grain_of self.now.unit self.now.sector) self.now.bytes.now)) }
-        ensures some { OnSome result (IsSized (mapped (grain_of self.now.unit self.now.sector) self.now.bytes.now)) }
-        ensures none { IfNone result (¬ IsSized (mapped (grain_of self.now.unit self.now.sector) self.now.bytes.now)) }
+            ¬ HasImage (mapped_medium (grain_of self.now.unit self.now.sector) self.now.bytes.now)) }
+        ensures some { OnSome result (IsSizedMedium (mapped_medium (grain_of self.now.unit self.now.sector) self.now.bytes.now)) }
+        ensures none { IfNone result (¬ IsSizedMedium (mapped_medium (grain_of self.now.unit self.now.sector) self.now.bytes.now)) }
     {
         if !is_sized(self) {
             return None;

@@ -7,24 +7,25 @@ ghost use Rattle.dfu_device.specs.Stage.{state_of, code_of};
 ghost use Rattle.dfu_device.specs.Borrowed.{answer_room};
 ghost use Rattle.dfu_device.specs.declared.answer.Answer.TheVariants.{Ack};
 ghost use Rattle.dfu_asks.specs.declared.pending_writes.PendingWrites.{PendingWrites};
-ghost use Rattle.dfu_asks.specs.Mapped.{grain_of, mapped};
+ghost use Rattle.dfu_asks.specs.Mapped.{grain_of, mapped_medium};
 ghost use Rattle.dfu_asks.specs.Noted.{IsView};
-ghost use Rattle.dfu_asks.specs.Lent.{lent, HasRoom, IsSetUpAs};
+ghost use Rattle.dfu_asks.specs.Lent.{lent, HasRoom, SameSetup};
 ghost use Rattle.dfu_asks.specs.Asks.{device_in, IsDevice};
-ghost use Rattle.dfu_asks.specs.Calls.{DeviceCalled, HasAtMost};
-ghost use Rattle.dfu_asks.specs.Refused.{IsDeviceOn, IsThere, RoomForBlocks, IsRefusedCall, IsServed};
-ghost use Rattle.dfu_asks.specs.Addressed.{addressed};
+ghost use Rattle.dfu_asks.specs.Calls.{DeviceCalled, AnswerHasAtMost};
+ghost use Rattle.dfu_asks.specs.Refused.{IsDeviceOn, HasNotedImage, RoomForBlocks, IsRefusedCall, IsServedCall};
+ghost use Rattle.dfu_asks.specs.Addressed.{addressed_setup};
 
 use crate::noted::{View, look};
 use crate::{Asking, Mapped, Refusal, Reply};
 use dfu_device::{asked_row, decide_time};
 use dfu_wire::{Code, State};
 
-/// The setup as a device takes it whose interface has this number (bInterfaceNumber): with wIndex 0 if that is its wIndex (USB DFU 1.1,
-/// section 3), and else with another one, of which a device stalls each request and stays as it is. A program whose interface is not
-/// number 0 makes so of each setup what it hands in, to `handle` and to the calls that ask or refuse beforehand.
+/// Returns `setup` as a device takes it whose interface has number `interface` (bInterfaceNumber): with wIndex 0 if the setup has that
+/// number as its wIndex (USB DFU 1.1, section 3), and else with another wIndex, so that the device stalls the request and stays as it is.
+/// A program whose interface is not number 0 must pass each setup through this call before it hands the setup to `handle` or to the calls
+/// that ask or refuse beforehand.
 pub fn addressed(interface: u8, setup: &[u8; 8]) -> [u8; 8]
-    ensures { result ≡ addressed interface setup.now }
+    ensures { result ≡ addressed_setup interface setup.now }
 {
     let mut own = *setup;
     own[4] = u8::from(setup[4] != interface);
@@ -32,14 +33,14 @@ pub fn addressed(interface: u8, setup: &[u8; 8]) -> [u8; 8]
 }
 
 impl Asking {
-    /// The state of the standard (USB DFU 1.1, section 6.1.2, bState).
+    /// Returns the state of the standard (USB DFU 1.1, section 6.1.2, bState).
     pub fn state(&self) -> State
         ensures { (spare block : List ℕ) → result ≡ state_of (stage_of self.now.mode spare block) }
     {
         self.mode.state()
     }
 
-    /// The status code (USB DFU 1.1, section 6.1.2, bStatus).
+    /// Returns the status code (USB DFU 1.1, section 6.1.2, bStatus).
     pub fn code(&self) -> Code
         ensures { (spare block : List ℕ) → result ≡ code_of (stage_of self.now.mode spare block) }
     {
@@ -49,13 +50,13 @@ impl Asking {
     // The view of the flash, if what is kept goes with it.
     fn see<'f>(&self, room: usize, flash: &'f [u8]) -> Result<(Mapped<'f>, View), Refusal>
         ensures medium { IfOk result (λ r. (r.0.unit ≡ self.now.unit) × (r.0.sector ≡ self.now.sector) × (r.0.bytes.now ≡ flash.now)) }
-        ensures view { IfOk result (λ r. IsView r.1 self.now.noted (mapped (grain_of self.now.unit self.now.sector) flash.now)) }
-        ensures there { OnOk result (IsThere self.now flash.now) }
+        ensures view { IfOk result (λ r. IsView r.1 self.now.noted (mapped_medium (grain_of self.now.unit self.now.sector) flash.now)) }
+        ensures there { OnOk result (HasNotedImage self.now flash.now) }
         ensures fits { OnOk result (RoomForBlocks self.now room) }
         ensures end { IfOk result (λ r. self.now.put_end ≤ r.1.room) }
         ensures held { IfOk result (λ r. self.now.held_len ≤ self.now.put_end) }
-        ensures no_medium { IfErr result (λ e. e ≡ Refusal.NoMedium → ¬ IsThere self.now flash.now) }
-        ensures no_device { IfErr result (λ e. e ≢ Refusal.NoMedium → (e ≡ Refusal.NoDevice) × IsThere self.now flash.now
+        ensures no_medium { IfErr result (λ e. e ≡ Refusal.NoMedium → ¬ HasNotedImage self.now flash.now) }
+        ensures no_device { IfErr result (λ e. e ≢ Refusal.NoMedium → (e ≡ Refusal.NoDevice) × HasNotedImage self.now flash.now
             × ((block held : List ℕ) → length block ≡ room → HasRoom self.now.unit held → ¬ IsDeviceOn self.now block held flash.now)) }
     {
         let Some(medium) = Mapped::with_sector(flash, self.unit, self.sector) else {
@@ -84,7 +85,7 @@ impl Asking {
         requires room { answer_room self.old.config ≤ length out.old }
         requires unit { medium.now.unit ≡ self.old.unit }
         requires sector { medium.now.sector ≡ self.old.sector }
-        requires view { IsView view.now self.old.noted (mapped (grain_of self.old.unit self.old.sector) medium.now.bytes.now) }
+        requires view { IsView view.now self.old.noted (mapped_medium (grain_of self.old.unit self.old.sector) medium.now.bytes.now) }
         requires idle { self.old.work ≡ None }
         requires block { self.old.block_len ≤ length block.old }
         requires end { self.old.put_end ≤ view.now.room }
@@ -95,8 +96,8 @@ impl Asking {
             DeviceCalled a flash out.old (λ d x sent d'. Handles setup.now body.now d x sent d')
             (lent self.new block.new held.new) out.new result }
         ensures first { result ≡ Reply.Asks → (w : PendingWrites) × (self.new.work ≡ Some w) × (w.done ≡ 0) }
-        ensures few { HasAtMost 65535 result }
-        ensures same { IsSetUpAs self.old self.new }
+        ensures few { AnswerHasAtMost 65535 result }
+        ensures same { SameSetup self.old self.new }
         ensures fits { self.new.block_len ≤ length block.new }
     {
         let profile = self.config.profile(u64::from(view.room));
@@ -104,14 +105,13 @@ impl Asking {
         self.carry_out(decision, Some(asked), body, block, held, medium, view, out)
     }
 
-    /// Answers a setup with its body, as `Device::handle`; or the row writes, and its writes are asked for now.
+    /// Answers `setup` with its `body`, as `Device::handle`; or if the row writes, asks for the first write.
     ///
     /// # Errors
     ///
-    /// `Asked` if writes are due; `NoRoom` if the buffer has less room than an answer may need, which is 6 bytes or the transfer
-    /// size, whichever is more; `NoMedium` if the noted header is not in an open slot of the flash; `NoDevice` if what is kept
-    /// is not a device on it, or the block's memory has less room than the transfer size. They are checked in this order, and
-    /// nothing changes then.
+    /// `Asked` if writes are due; `NoRoom` if `out` has less room than an answer may need, which is 6 bytes or the transfer size,
+    /// whichever is more; `NoMedium` if the noted header is not in an open slot of the flash; `NoDevice` if the kept state is not a device
+    /// on the flash, or `block` has less room than the transfer size. They are checked in this order, and nothing changes then.
     pub fn handle(
         &mut self,
         block: &mut [u8],
@@ -126,12 +126,12 @@ impl Asking {
             DeviceCalled a flash.now out.old (λ d x sent d'. Handles setup.now body.now d x sent d')
             (lent self.new block.new held.new) out.new r) }
         ensures first { IfOk result (λ r. r ≡ Reply.Asks → (w : PendingWrites) × (self.new.work ≡ Some w) × (w.done ≡ 0)) }
-        ensures served { OnOk result (IsServed self.old block.old flash.now (answer_room self.old.config) (length out.old)) }
+        ensures served { OnOk result (IsServedCall self.old block.old flash.now (answer_room self.old.config) (length out.old)) }
         ensures refused { IfErr result (λ e.
             IsRefusedCall e self.old block.old held.old flash.now (answer_room self.old.config) (length out.old)) }
         ensures asked { IsSome self.old.work → IsErrOf result Refusal.Asked }
-        ensures few { IfOk result (λ r. HasAtMost 65535 r) }
-        ensures same { IsSetUpAs self.old self.new }
+        ensures few { IfOk result (λ r. AnswerHasAtMost 65535 r) }
+        ensures same { SameSetup self.old self.new }
         ensures fits { OnOk result (RoomForBlocks self.new (length block.new)) }
         ensures unchanged { OnErr result ((self.new ≡ self.old) × (block.new ≡ block.old) × (held.new ≡ held.old) × (out.new ≡ out.old)) }
     {
@@ -145,7 +145,7 @@ impl Asking {
         Ok(self.respond(block, held, &medium, &view, setup, body, out))
     }
 
-    /// This many milliseconds pass, as `Device::elapse`; or the row writes, and its writes are asked for now.
+    /// Lets `ms` milliseconds pass, as `Device::elapse`; or if the row writes, asks for the first write.
     ///
     /// # Errors
     ///
@@ -163,10 +163,10 @@ impl Asking {
             (λ d x sent d'. (x ≡ Ack) × (sent ≡ []) × Elapses ms d d')
             (lent self.new block.new held.new) out r) }
         ensures first { IfOk result (λ r. r ≡ Reply.Asks → (w : PendingWrites) × (self.new.work ≡ Some w) × (w.done ≡ 0)) }
-        ensures served { OnOk result (IsServed self.old block.old flash.now 0 0) }
+        ensures served { OnOk result (IsServedCall self.old block.old flash.now 0 0) }
         ensures refused { IfErr result (λ e. IsRefusedCall e self.old block.old held.old flash.now 0 0) }
         ensures asked { IsSome self.old.work → IsErrOf result Refusal.Asked }
-        ensures same { IsSetUpAs self.old self.new }
+        ensures same { SameSetup self.old self.new }
         ensures fits { OnOk result (RoomForBlocks self.new (length block.new)) }
         ensures unchanged { OnErr result ((self.new ≡ self.old) × (block.new ≡ block.old) × (held.new ≡ held.old)) }
     {
@@ -180,7 +180,7 @@ impl Asking {
         Ok(self.carry_out(decision, None, &[], block, held, &medium, &view, &mut out))
     }
 
-    /// The bus is reset, as `Device::usb_reset`.
+    /// Takes a reset of the bus, as `Device::usb_reset`.
     ///
     /// # Errors
     ///
@@ -191,10 +191,10 @@ impl Asking {
             OnOk result (device_in (lent self.new block.now held.now) flash.now ≡ record before { stage = reset_stage before.stage }) }
         ensures is { OnOk result (IsDeviceOn self.old block.now held.now flash.now → IsDeviceOn self.new block.now held.now flash.now) }
         ensures work { OnOk result (self.new.work ≡ None) }
-        ensures served { OnOk result (IsServed self.old block.now flash.now 0 0) }
+        ensures served { OnOk result (IsServedCall self.old block.now flash.now 0 0) }
         ensures refused { IfErr result (λ e. IsRefusedCall e self.old block.now held.now flash.now 0 0) }
         ensures asked { IsSome self.old.work → IsErrOf result Refusal.Asked }
-        ensures same { IsSetUpAs self.old self.new }
+        ensures same { SameSetup self.old self.new }
         ensures fits { OnOk result (RoomForBlocks self.new (length block.now)) }
         ensures unchanged { OnErr result (self.new ≡ self.old) }
     {

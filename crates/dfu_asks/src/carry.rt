@@ -1,17 +1,17 @@
-//! Decisions that are carried out, or are begun.
+//! Performs the decisions of a device, or begins the writes that they need.
 ghost use Rattle.std.specs.Prelude.{◌≡◌, ◌-◌, ◌≤◌, ◌++◌, min, ℕ, List, length, take, drop, Some, None};
 ghost use Rattle.dfu_slots.specs.Image.{slot_of};
 ghost use Rattle.dfu_slots.specs.StoreView.{image_of};
-ghost use Rattle.dfu_device.specs.Decision.{IsPossible};
+ghost use Rattle.dfu_device.specs.Decision.{IsPossibleDecision};
 ghost use Rattle.dfu_device.specs.Rows.{Done};
 ghost use Rattle.dfu_asks.specs.declared.pending_writes.PendingWrites.{PendingWrites};
 ghost use Rattle.dfu_asks.specs.declared.noted.Noted.{Noted};
-ghost use Rattle.dfu_asks.specs.Mapped.{grain_of, mapped};
-ghost use Rattle.dfu_asks.specs.Noted.{IsView, noted_at};
-ghost use Rattle.dfu_asks.specs.Lent.{lent, HasRoom, IsSetUpAs};
-ghost use Rattle.dfu_asks.specs.Due.{plan_in, SendsWithin, wanted};
-ghost use Rattle.dfu_asks.specs.Asks.{store_in, IsReply, AnswerInBuffer};
-ghost use Rattle.dfu_asks.specs.Calls.{AreSureOrDue, DeviceCalled, HasAtMost};
+ghost use Rattle.dfu_asks.specs.Mapped.{grain_of, mapped_medium};
+ghost use Rattle.dfu_asks.specs.Noted.{IsView, noted_slot_place};
+ghost use Rattle.dfu_asks.specs.Lent.{lent, HasRoom, SameSetup};
+ghost use Rattle.dfu_asks.specs.Due.{plan_of_decision, SendsWithin, wanted_status_length};
+ghost use Rattle.dfu_asks.specs.Asks.{flash_store, IsReplyInMode, AnswerInBuffer};
+ghost use Rattle.dfu_asks.specs.Calls.{PlansAreStorelessOrDue, DeviceCalled, AnswerHasAtMost};
 ghost use Rattle.dfu_asks.specs.Refused.{IsDeviceOn};
 
 use crate::noted::View;
@@ -21,7 +21,7 @@ use dfu_slots::read_data;
 
 // Returns the bytes of a status that are asked for.
 fn wanted(asked: Option<u16>) -> u16
-    ensures { result ≡ wanted asked }
+    ensures { result ≡ wanted_status_length asked }
 {
     match asked {
         Some(len) => len,
@@ -44,9 +44,9 @@ fn put_front(bytes: &[u8], asked: u16, out: &mut [u8]) -> usize
 
 // Puts the bytes of the active image at the front of a buffer, from `place` on, at most `size`, and returns their number.
 fn put_image(medium: &Mapped<'_>, view: &View, place: u32, size: u16, out: &mut [u8]) -> usize
-    requires view { (n : Noted) × IsView view.now n (mapped (grain_of medium.now.unit medium.now.sector) medium.now.bytes.now) }
+    requires view { (n : Noted) × IsView view.now n (mapped_medium (grain_of medium.now.unit medium.now.sector) medium.now.bytes.now) }
     ensures count { result ≡ min (view.now.len - place) (min size (length out.old)) }
-    ensures bytes { let m = mapped (grain_of medium.now.unit medium.now.sector) medium.now.bytes.now in
+    ensures bytes { let m = mapped_medium (grain_of medium.now.unit medium.now.sector) medium.now.bytes.now in
         out.new ≡ take result (drop place (slot_of m view.now.active).data_bytes) ++ drop result out.old }
 {
     let rest = view.len.saturating_sub(place);
@@ -58,7 +58,7 @@ fn put_image(medium: &Mapped<'_>, view: &View, place: u32, size: u16, out: &mut 
 }
 
 impl Asking {
-    /// Puts a reply at the front of a buffer, if so many bytes of a status or of a state are asked for.
+    /// Writes `reply` to the front of `out`, if `asked` bytes of a status or of a state are asked for.
     pub(crate) fn give(
         &self,
         reply: dfu_device::Reply,
@@ -66,7 +66,7 @@ impl Asking {
         out: &mut [u8],
     ) -> (Answer, usize)
         requires { 6 ≤ length out.old }
-        ensures { AnswerInBuffer (λ x sent. IsReply self.now.config self.now.mode self.now.block_len reply asked x sent)
+        ensures { AnswerInBuffer (λ x sent. IsReplyInMode self.now.config self.now.mode self.now.block_len reply asked x sent)
             result.0 result.1 out.old out.new }
     {
         match reply {
@@ -83,8 +83,8 @@ impl Asking {
         }
     }
 
-    /// Carries out what is decided on a request with this body, which asks for so many bytes of a status or of a state, or on a time;
-    /// or if that writes, asks for its first write.
+    /// Performs `decision`, on a request with `body` that asks for `asked` bytes of a status or of a state, or on a time; or if that
+    /// writes, asks for its first write.
     pub(crate) fn carry_out(
         &mut self,
         decision: Decision,
@@ -99,7 +99,7 @@ impl Asking {
         requires room { 6 ≤ length out.old }
         requires unit { medium.now.unit ≡ self.old.unit }
         requires sector { medium.now.sector ≡ self.old.sector }
-        requires view { IsView view.now self.old.noted (mapped (grain_of self.old.unit self.old.sector) medium.now.bytes.now) }
+        requires view { IsView view.now self.old.noted (mapped_medium (grain_of self.old.unit self.old.sector) medium.now.bytes.now) }
         requires idle { self.old.work ≡ None }
         requires block { self.old.block_len ≤ length block.old }
         requires end { self.old.put_end ≤ view.now.room }
@@ -107,16 +107,17 @@ impl Asking {
         requires memory { HasRoom self.old.unit held.old }
         ensures outcome { let a = lent self.old block.old held.old in
             let flash = medium.now.bytes.now in
-            let s = store_in a flash in
-            let len = wanted asked in
+            let s = flash_store a flash in
+            let len = wanted_status_length asked in
             IsDeviceOn self.old block.old held.old flash →
-            IsPossible self.old.config.functional.transfer (length a.block) (length body.now) s decision →
-            AreSureOrDue (plan_in a.block body.now decision) a flash asked len → SendsWithin decision (image_of s) (length out.old) →
-            DeviceCalled a flash out.old (λ d x sent d'. Done (plan_in a.block body.now decision d) len d x sent d')
+            IsPossibleDecision self.old.config.functional.transfer (length a.block) (length body.now) s decision →
+            PlansAreStorelessOrDue (plan_of_decision a.block body.now decision) a flash asked len
+            → SendsWithin decision (image_of s) (length out.old) →
+            DeviceCalled a flash out.old (λ d x sent d'. Done (plan_of_decision a.block body.now decision d) len d x sent d')
             (lent self.new block.new held.new) out.new result }
         ensures first { result ≡ Reply.Asks → (w : PendingWrites) × (self.new.work ≡ Some w) × (w.done ≡ 0) }
-        ensures few { HasAtMost 65535 result }
-        ensures same { IsSetUpAs self.old self.new }
+        ensures few { AnswerHasAtMost 65535 result }
+        ensures same { SameSetup self.old self.new }
         ensures fits { self.new.block_len ≤ length block.new }
     {
         match decision {

@@ -1,4 +1,4 @@
-//! Tells before a setup is handed in whether it closes a download, because the program's own check of the image comes then.
+//! The calls that tell, before a setup is handed in, if it closes a download, because the program's own check of the image comes then.
 ghost use Rattle.std.specs.Prelude.{◌≡◌, ℕ, List, IfOk, IfErr, OnOk, IsSome, None};
 ghost use Rattle.dfu_asks.specs.Asks.{device_in, IsDevice};
 ghost use Rattle.dfu_asks.specs.Close.{IsCloseVerdict};
@@ -8,7 +8,7 @@ ghost use Rattle.dfu_asks.specs.Lent.{LentDevice, lent};
 use crate::{Asking, Refusal};
 use dfu_device::{Config, DeviceState, is_close};
 
-/// Returns whether this setup closes the download of a device of this configuration in this mode, as `Asking::closes`.
+/// Returns true if `setup` closes the download of a device with `config` in `mode`, as `Asking::closes`.
 pub fn mode_closes(config: &Config, mode: DeviceState, setup: &[u8; 8]) -> bool
     ensures { (a : LentDevice) (flash : List ℕ) → IsDeviceIn config.now mode a flash → IsCloseVerdict result setup.now (device_in a flash) }
 {
@@ -19,10 +19,10 @@ pub fn mode_closes(config: &Config, mode: DeviceState, setup: &[u8; 8]) -> bool
 }
 
 impl Asking {
-    /// Returns whether this setup closes a download: a DNLOAD with wLength 0 in dfuDNLOAD-IDLE, once as many bytes were taken as an image
-    /// has at least (USB DFU 1.1, section 6.1.1.1). If true, `handle` would acknowledge it, and from then on all bytes taken wait to be put
-    /// in place, so a program that checks images does it now, and `refuse_close` would refuse the image; if false, `handle` would do
-    /// nothing of the kind.
+    /// Returns true if `setup` closes a download: a DNLOAD with wLength 0 in dfuDNLOAD-IDLE, once as many bytes were taken as an image has
+    /// at least (USB DFU 1.1, section 6.1.1.1). If true, `handle` would acknowledge the setup, and from then on all bytes taken wait to be
+    /// put in place, so a program that checks images must check now, and `refuse_close` would refuse the image; if false, `handle` would
+    /// do nothing of the kind.
     ///
     /// # Errors
     ///

@@ -1,7 +1,7 @@
 //! The piece that is found, and its bytes: in runs, as they lie in memory one after the other, in place, and read back.
 ghost use Rattle.std.specs.Prelude.{◌≡◌, ◌+◌, ◌^◌, ◌<◌, ◌≤◌, ◌++◌, ◌↔◌, ℕ, false, length, replicate, slice_index, slice_range, IsTrue, ◌∷◌, [], take, drop};
-ghost use Rattle.dfu_asks.specs.Jobs.{asked, PieceBounds, steps_for};
-ghost use Rattle.dfu_asks.specs.Cuts.{step_of, IsCut, source_bytes, run_bytes, IsNextPiece};
+ghost use Rattle.dfu_asks.specs.Jobs.{step_of_piece, PieceBounds, steps_for};
+ghost use Rattle.dfu_asks.specs.Cuts.{step_of_cut, IsFoundPiece, source_bytes, run_bytes, IsNextPiece};
 ghost use Rattle.dfu_slots.specs.Layout.{OPEN};
 ghost use Rattle.dfu_asks.specs.declared.pending_writes.PendingWrites.{PendingWrites};
 ghost use Rattle.dfu_asks.specs.Carried.{total};
@@ -11,7 +11,7 @@ ghost use Rattle.dfu_asks.specs.Asks.{writes_in, steps_in};
 use crate::next_piece::{MAX_PROGRAM, next_piece};
 use crate::pending_writes::WriteInputs;
 use crate::{Asking, FlashOp, PendingWrites};
-use dfu_slots::{OPEN_GATE, Source};
+use dfu_slots::{OPEN_GATE, Source, flash_byte_at};
 
 /// A search for the next piece of a series of writes, and the piece once it is found.
 #[derive(Clone, Copy, Drop)]
@@ -26,11 +26,11 @@ pub(crate) struct Cut<'a> {
     pub(crate) piece: FlashOp,
     /// Source of its bytes, if it programs.
     pub(crate) source: Source,
-    /// Bytes of the source that come before it.
+    /// Number of bytes of the source before the piece.
     pub(crate) from: usize,
 }
 
-/// The search after so many bytes of writes that are made of this.
+/// Returns the search for what comes after `done` bytes of the writes that are made of `stock`.
 pub(crate) fn cut_at<'a>(stock: WriteInputs<'a>, done: u32) -> Cut<'a>
     ensures stock { result.stock ≡ stock.entry }
     ensures rest { result.rest ≡ done }
@@ -52,9 +52,9 @@ pub(crate) fn cut_at<'a>(stock: WriteInputs<'a>, done: u32) -> Cut<'a>
 /// Bytes that lie in two slices, and bytes of one value after them.
 #[derive(Clone, Copy, Drop)]
 struct Runs<'a> {
-    /// The first of them.
+    /// The bytes of the first slice.
     front: &'a [u8],
-    /// Those after it.
+    /// The bytes of the second slice.
     back: &'a [u8],
     /// Number of bytes that come then.
     rest: usize,
@@ -103,11 +103,11 @@ fn sides_of<'a>(cut: &'a Cut<'_>, gate: &'a [u8; 1]) -> (&'a [u8], &'a [u8])
     }
 }
 
-/// The bytes of a piece, if this is an open gate.
+/// Returns the bytes of the piece that `cut` has found, with `gate` as the byte of an open gate.
 fn runs_of<'a>(cut: &'a Cut<'_>, gate: &'a [u8; 1]) -> Runs<'a>
-    requires cut { (sector : ℕ) × IsCut sector cut.now }
+    requires cut { (sector : ℕ) × IsFoundPiece sector cut.now }
     requires gate { gate.now ≡ OPEN ∷ [] }
-    ensures bytes { run_bytes result ≡ (step_of cut.now).write.bytes }
+    ensures bytes { run_bytes result ≡ (step_of_cut cut.now).write.bytes }
     ensures few { length result.front.now + length result.back.now ≤ 256 }
     ensures size { length result.front.now + length result.back.now + result.rest ≡ cut.now.piece.len }
 {
@@ -124,25 +124,25 @@ fn runs_of<'a>(cut: &'a Cut<'_>, gate: &'a [u8; 1]) -> Runs<'a>
     runs_in(front, back, cut.from, len)
 }
 
-// Returns whether two slices have the same bytes: that is less code than `==`.
+// Returns whether bytes of flash are those of a slice: that is less code than `==`.
 fn are_same(one: &[u8], other: &[u8]) -> bool
     requires { length one.now ≡ length other.now }
     ensures { IsTrue result ↔ (one.now ≡ other.now) }
 {
     for i in 0..one.len() {
-        if one[i] != other[i] {
+        if flash_byte_at(one, i) != other[i] {
             return false;
         }
     }
     true
 }
 
-// Returns whether each byte of a slice is this one.
+// Returns whether each of these bytes of flash is this one.
 fn are_all(bytes: &[u8], byte: u8) -> bool
     ensures { IsTrue result ↔ (bytes.now ≡ replicate (length bytes.now) byte) }
 {
     for i in 0..bytes.len() {
-        if bytes[i] != byte {
+        if flash_byte_at(bytes, i) != byte {
             return false;
         }
     }
@@ -150,7 +150,7 @@ fn are_all(bytes: &[u8], byte: u8) -> bool
 }
 
 impl Runs<'_> {
-    /// Returns whether these are its bytes.
+    /// Returns true if `bytes` of flash are the bytes of the piece.
     pub(crate) fn are(self, bytes: &[u8]) -> bool
         requires { length bytes.now ≡ length self.front.now + length self.back.now + self.rest }
         ensures { IsTrue result ↔ (bytes.now ≡ run_bytes self.entry) }
@@ -167,11 +167,11 @@ impl Runs<'_> {
     }
 }
 
-/// Puts the bytes of a piece at the front of a buffer; of an erase at most 256, each FFh.
+/// Writes the bytes of the piece that `cut` found to the front of `out`; of an erase at most 256, each FFh.
 pub(crate) fn fill(cut: &Cut<'_>, out: &mut [u8; MAX_PROGRAM])
-    requires { (sector : ℕ) × IsCut sector cut.now }
-    ensures step { asked cut.now.piece out.new ≡ step_of cut.now }
-    ensures fits { (sector : ℕ) → IsCut sector cut.now → PieceBounds sector cut.now.piece out.new }
+    requires { (sector : ℕ) × IsFoundPiece sector cut.now }
+    ensures step { step_of_piece cut.now.piece out.new ≡ step_of_cut cut.now }
+    ensures fits { (sector : ℕ) → IsFoundPiece sector cut.now → PieceBounds sector cut.now.piece out.new }
 {
     let runs = runs_of(cut, &[OPEN_GATE]);
     let middle = runs.front.len();
@@ -182,12 +182,12 @@ pub(crate) fn fill(cut: &Cut<'_>, out: &mut [u8; MAX_PROGRAM])
     out[end..len].fill(runs.pad);
 }
 
-/// Returns whether the bytes of a piece are on the flash; after an erase they are FFh.
+/// Returns true if the bytes of the piece that `cut` found are on `flash`; after an erase they are FFh.
 pub(crate) fn stands(flash: &[u8], cut: &Cut<'_>) -> bool
-    requires cut { (sector : ℕ) × IsCut sector cut.now }
+    requires cut { (sector : ℕ) × IsFoundPiece sector cut.now }
     requires large { cut.now.piece.len < 2 ^ 32 }
     ensures within { IsTrue result → cut.now.piece.at + cut.now.piece.len ≤ length flash.now }
-    ensures stands { let p = (step_of cut.now).write in
+    ensures stands { let p = (step_of_cut cut.now).write in
         IsTrue result ↔ (slice_range flash.now p.at (p.at + length p.bytes) ≡ p.bytes) }
 {
     let piece = cut.piece;
@@ -199,7 +199,7 @@ pub(crate) fn stands(flash: &[u8], cut: &Cut<'_>) -> bool
 }
 
 impl Asking {
-    /// The bytes held back, of the memory that they are in.
+    /// Returns the bytes held back, of `held`, the memory that they are in.
     pub(crate) fn held_in<'a>(&self, held: &'a [u8]) -> &'a [u8]
         ensures bytes { result.now ≡ take self.now.held_len held.now }
         ensures few { length result.now ≤ 256 }
@@ -223,7 +223,7 @@ impl Asking {
         }
     }
 
-    /// Returns the bytes of the next piece of this work, and whether they are on this flash; or 0 if no piece is left.
+    /// Returns the number of bytes of the next piece of `work`, and true if the bytes are on `flash`; or 0 if no piece is left.
     pub(crate) fn look_at(
         &self,
         work: &PendingWrites,

@@ -2,15 +2,15 @@
 ghost use Rattle.std.specs.Prelude.{◌≡◌, ◌≤◌, ℕ, List, [], length, take, true, false, if◌then◌else◌, ◌<◌, ◌↔◌, Some};
 ghost use Rattle.dfu_slots.specs.Image.{HasImage};
 ghost use Rattle.dfu_slots.specs.Writes.{put_rest};
-ghost use Rattle.dfu_asks.specs.Mapped.{grain_of, mapped, Unseen};
-ghost use Rattle.dfu_asks.specs.Noted.{IsNoted};
-ghost use Rattle.dfu_asks.specs.Lent.{lent, HasRoom, IsSetUpAs};
-ghost use Rattle.dfu_asks.specs.Asks.{is_block, capped, done_mode, failed_mode, IsFinished, IsBrokenOff, NotesAfter, IsAnswered, AnswerInBuffer, device_of, unseen_in, device_with, IsWorking, writes_in, steps_in};
+ghost use Rattle.dfu_asks.specs.Mapped.{grain_of, mapped_medium, UnseenState};
+ghost use Rattle.dfu_asks.specs.Noted.{IsNoteOfMedium};
+ghost use Rattle.dfu_asks.specs.Lent.{lent, HasRoom, SameSetup};
+ghost use Rattle.dfu_asks.specs.Asks.{is_block, capped_sum, done_mode, failed_mode, IsKeptAfterWrites, IsKeptAfterFault, NotesAfter, IsRowEndAnswer, AnswerInBuffer, device_of, store_with_unseen, device_with, IsWorkingForRow, writes_in, steps_in};
 ghost use Rattle.dfu_slots.specs.StoreView.{SlotsState};
 ghost use Rattle.dfu_asks.specs.declared.pending_writes.PendingWrites.{PendingWrites};
-ghost use Rattle.dfu_asks.specs.Carried.{total, carried, IsReached};
-ghost use Rattle.dfu_asks.specs.Calls.{CallCompleted, DueOutcome, HasAtMost};
-ghost use Rattle.dfu_asks.specs.Due.{Works};
+ghost use Rattle.dfu_asks.specs.Carried.{total, bytes_after_writes, EndsAtPiece};
+ghost use Rattle.dfu_asks.specs.Calls.{CallCompleted, DueOutcome, AnswerHasAtMost};
+ghost use Rattle.dfu_asks.specs.Due.{DueRowWorks};
 ghost use Rattle.dfu_device.specs.declared.answer.Answer.{Answer};
 
 use crate::{Asking, Noted, Reply, Sector};
@@ -96,7 +96,8 @@ fn keep_rest(unit: Unit, held: &mut [u8], held_len: usize, block: &[u8]) -> usiz
 // Notes the active image after a row in this mode: after a commit the images are read, and after a block it stays the one that was noted.
 fn note(noted: &mut Noted, mode: DeviceState, flash: &[u8], unit: Unit, sector: Sector)
     ensures of_block { is_block mode ≡ true → noted.new ≡ noted.old }
-    ensures of_commit { let m = mapped (grain_of unit sector) flash.now in is_block mode ≡ false → HasImage m → IsNoted noted.new m }
+    ensures of_commit { let m = mapped_medium (grain_of unit sector) flash.now in is_block mode ≡ false → HasImage m
+        → IsNoteOfMedium noted.new m }
 {
     if is_block(mode) {
         return;
@@ -113,7 +114,7 @@ impl Asking {
         ensures held { let a = lent self.now block.now held.old in
             take result.0 held.new ≡ (if is_block a.mode then put_rest a.unit a.held a.block else []) }
         ensures end { let a = lent self.now block.now held.old in
-            result.1 ≡ (if is_block a.mode then capped a.put_end (length a.block) else 0) }
+            result.1 ≡ (if is_block a.mode then capped_sum a.put_end (length a.block) else 0) }
         ensures few { result.0 ≤ 256 }
     {
         if !is_block(self.mode) {
@@ -125,12 +126,12 @@ impl Asking {
         (rest, self.put_end.saturating_add(len as u32))
     }
 
-    /// All is written.
+    /// Ends the writes, all of which were made.
     pub(crate) fn finish(&mut self, block: &[u8], held: &mut [u8], flash: &[u8])
         requires { HasRoom self.old.unit held.old }
-        ensures finished { IsFinished (lent self.old block.now held.old) (lent self.new block.now held.new) }
+        ensures finished { IsKeptAfterWrites (lent self.old block.now held.old) (lent self.new block.now held.new) }
         ensures notes { NotesAfter self.old.mode flash.now (lent self.old block.now held.old) (lent self.new block.now held.new) }
-        ensures same { IsSetUpAs self.old self.new }
+        ensures same { SameSetup self.old self.new }
         ensures block { self.new.block_len ≡ self.old.block_len }
     {
         note(&mut self.noted, self.mode, flash, self.unit, self.sector);
@@ -142,11 +143,11 @@ impl Asking {
         self.work = None;
     }
 
-    /// A write had this fault.
+    /// Ends the writes, of which one had `fault`.
     pub(crate) fn break_off(&mut self, fault: WriteFault, flash: &[u8])
-        ensures broken { (block held : List ℕ) → IsBrokenOff fault (lent self.old block held) (lent self.new block held) }
+        ensures broken { (block held : List ℕ) → IsKeptAfterFault fault (lent self.old block held) (lent self.new block held) }
         ensures notes { (block held : List ℕ) → NotesAfter self.old.mode flash.now (lent self.old block held) (lent self.new block held) }
-        ensures same { IsSetUpAs self.old self.new }
+        ensures same { SameSetup self.old self.new }
         ensures block { self.new.block_len ≡ self.old.block_len }
     {
         note(&mut self.noted, self.mode, flash, self.unit, self.sector);
@@ -156,10 +157,10 @@ impl Asking {
         self.work = None;
     }
 
-    /// Answers the GETSTATUS that asked for so many bytes, if one did, with its bytes at the front of a buffer.
+    /// Writes the answer to the GETSTATUS that asked for `asked` bytes, if one did, to the front of `out`.
     pub(crate) fn answer(&self, asked: Option<u16>, out: &mut [u8]) -> (Answer, usize)
         requires { 6 ≤ length out.old }
-        ensures { AnswerInBuffer (λ x sent. IsAnswered self.now.config self.now.mode asked x sent) result.0 result.1 out.old out.new }
+        ensures { AnswerInBuffer (λ x sent. IsRowEndAnswer self.now.config self.now.mode asked x sent) result.0 result.1 out.old out.new }
     {
         match asked {
             None => self.give(dfu_device::Reply::Ack, 0, out),
@@ -178,20 +179,20 @@ impl Asking {
         requires room { 6 ≤ length out.old }
         requires memory { HasRoom self.old.unit held.old }
         ensures outcome { let a = lent self.old block.now held.old in (work : PendingWrites) (len : ℕ) (s : SlotsState) (was : List ℕ) →
-            self.old.work ≡ Some work → IsWorking a work len s was →
-            flash.now ≡ carried was (writes_in a work) work.done → IsReached (steps_in a work) work.done →
+            self.old.work ≡ Some work → IsWorkingForRow a work len s was →
+            flash.now ≡ bytes_after_writes was (writes_in a work) work.done → EndsAtPiece (steps_in a work) work.done →
             DueOutcome (device_of a s) len s was flash.now out.old (lent self.new block.now held.new) out.new result }
         ensures begun { let a = lent self.old block.now held.old in
             let now = lent self.new block.now held.new in
             (work : PendingWrites) (len : ℕ) (s : SlotsState) (x : Answer) (count : ℕ) → self.old.work ≡ Some work →
-            IsWorking a work len s flash.now → work.done ≡ 0 → result ≡ Reply.Answered x count →
+            IsWorkingForRow a work len s flash.now → work.done ≡ 0 → result ≡ Reply.Answered x count →
             CallCompleted flash.now x count out.old out.new now
-            (λ y sent. (u : Unseen) → Works len (device_of a (unseen_in u s)) y sent (device_with u now flash.now)) }
+            (λ y sent. (u : UnseenState) → DueRowWorks len (device_of a (store_with_unseen u s)) y sent (device_with u now flash.now)) }
         ensures more { (work : PendingWrites) → self.old.work ≡ Some work →
             (result ≡ Reply.Asks) ↔ (work.done < total (writes_in (lent self.old block.now held.old) work)) }
         ensures kept { result ≡ Reply.Asks → self.new.work ≡ self.old.work }
-        ensures few { HasAtMost 6 result }
-        ensures same { IsSetUpAs self.old self.new }
+        ensures few { AnswerHasAtMost 6 result }
+        ensures same { SameSetup self.old self.new }
         ensures block { self.new.block_len ≡ self.old.block_len }
     {
         let Some(work) = self.work else {
@@ -207,7 +208,7 @@ impl Asking {
         Reply::Answered(answer, count)
     }
 
-    /// A write had this fault: the row ends with it.
+    /// Ends the row with `fault`, that of one of its writes, and writes the answer to `out`.
     pub(crate) fn fail(
         &mut self,
         fault: WriteFault,
@@ -216,10 +217,11 @@ impl Asking {
         out: &mut [u8],
     ) -> (Answer, usize)
         requires { 6 ≤ length out.old }
-        ensures broken { (block held : List ℕ) → IsBrokenOff fault (lent self.old block held) (lent self.new block held) }
+        ensures broken { (block held : List ℕ) → IsKeptAfterFault fault (lent self.old block held) (lent self.new block held) }
         ensures notes { (block held : List ℕ) → NotesAfter self.old.mode flash.now (lent self.old block held) (lent self.new block held) }
-        ensures gives { AnswerInBuffer (λ x sent. IsAnswered self.old.config self.new.mode asked x sent) result.0 result.1 out.old out.new }
-        ensures same { IsSetUpAs self.old self.new }
+        ensures gives { AnswerInBuffer (λ x sent. IsRowEndAnswer self.old.config self.new.mode asked x sent) result.0 result.1 out.old
+            out.new }
+        ensures same { SameSetup self.old self.new }
         ensures block { self.new.block_len ≡ self.old.block_len }
     {
         self.break_off(fault, flash);

@@ -4,14 +4,14 @@ ghost use Rattle.dfu_suffix.specs.Register.{register};
 ghost use Rattle.dfu_slots.specs.Units.{Grain};
 ghost use Rattle.dfu_slots.specs.Medium.{Torn};
 ghost use Rattle.dfu_slots.specs.Changes.{CanFormat, IsFormatFault};
-ghost use Rattle.dfu_asks.specs.Mapped.{grain_of, mapped};
+ghost use Rattle.dfu_asks.specs.Mapped.{grain_of, mapped_medium};
 ghost use Rattle.dfu_asks.specs.Steps.{Step, step_writes};
-ghost use Rattle.dfu_asks.specs.Carried.{total, IsPiece, ErasesWhole};
-ghost use Rattle.dfu_asks.specs.Jobs.{asked, PieceBounds};
-ghost use Rattle.dfu_asks.specs.Cuts.{step_of, IsCut};
-ghost use Rattle.dfu_asks.specs.Phases.{grain_within, steps_of_part, remaining_steps, part_steps, steps_from};
+ghost use Rattle.dfu_asks.specs.Carried.{total, IsStepPiece, ErasesSectorOrPrograms};
+ghost use Rattle.dfu_asks.specs.Jobs.{step_of_piece, PieceBounds};
+ghost use Rattle.dfu_asks.specs.Cuts.{step_of_cut, IsFoundPiece};
+ghost use Rattle.dfu_asks.specs.Phases.{format_grain, steps_of_part, remaining_steps, part_steps, format_steps_from};
 ghost use Rattle.dfu_asks.specs.Formats.{FormatUnderWay, FormatPending, FormatOutcome, FormatPieceReported, IsSameFormat};
-ghost use Rattle.dfu_asks.specs.FormatFurther.{IsFurtherBy, FormatAsksFurther};
+ghost use Rattle.dfu_asks.specs.FormatFurther.{FormatAdvancedBy, FormatPieceAdvances};
 
 use crate::cut::{Cut, cut_at, fill, stands};
 use crate::format_piece::{filled_len, part_piece, stock_for};
@@ -37,8 +37,9 @@ fn register_of(image: &[u8]) -> u32
 
 // The first thing that is wrong with flash and an image, if anything is.
 fn fault_of(flash: &[u8], unit: Unit, sector: Sector, image: &[u8]) -> Option<FormatFault>
-    ensures some { IfSome result (λ e. (e ≢ FormatFault.Failed) × IsFormatFault e (mapped (grain_of unit sector) flash.now) image.now) }
-    ensures none { IfNone result (CanFormat (mapped (grain_of unit sector) flash.now) image.now) }
+    ensures some { IfSome result (λ e. (e ≢ FormatFault.Failed)
+        × IsFormatFault e (mapped_medium (grain_of unit sector) flash.now) image.now) }
+    ensures none { IfNone result (CanFormat (mapped_medium (grain_of unit sector) flash.now) image.now) }
 {
     let Some(medium) = Mapped::with_sector(flash, unit, sector) else {
         return Some(FormatFault::WrongSize);
@@ -52,11 +53,11 @@ fn fault_of(flash: &[u8], unit: Unit, sector: Sector, image: &[u8]) -> Option<Fo
     None
 }
 
-// The part after this one of a format of an image of so many bytes.
+// Returns the step that comes after `phase` when a medium is formatted with an image of `len` bytes.
 fn part_behind(phase: FormatStep, unit: Unit, len: usize) -> FormatStep
     requires { len ≤ 2 ^ 24 }
     ensures parts { (w : Grain) (size crc : ℕ) (image : List ℕ) → w.unit ≡ unit → length image ≡ len →
-        steps_from w size image crc phase ≡ part_steps w size image crc phase ++ steps_from w size image crc result }
+        format_steps_from w size image crc phase ≡ part_steps w size image crc phase ++ format_steps_from w size image crc result }
     ensures some { (w : Grain) (size crc : ℕ) (image : List ℕ) → w.unit ≡ unit → length image ≡ len → result ≢ FormatStep.Ended →
         0 < total (step_writes (part_steps w size image crc result)) }
 {
@@ -85,12 +86,12 @@ fn part_behind(phase: FormatStep, unit: Unit, len: usize) -> FormatStep
 }
 
 impl Formatting {
-    /// Begins a format that puts this image into the first slot of a flash and makes it the active one, whatever the flash had.
+    /// Begins a format that puts `image` into the first slot of `flash` and makes it the active one, whatever the flash had.
     ///
     /// # Errors
     ///
-    /// `WrongSize` if the flash is not two slots, as `Slots::format` has it, or has 2^32 bytes or more; `TooLarge` if the image
-    /// has more bytes than a slot's data. They are checked in this order.
+    /// `WrongSize` if the flash is not two slots, as `Slots::format` has it, or has 2^32 bytes or more; `TooLarge` if the image has more
+    /// bytes than a slot's data. They are checked in this order.
     pub fn start(
         flash: &[u8],
         unit: Unit,
@@ -99,7 +100,8 @@ impl Formatting {
     ) -> Result<Formatting, FormatFault>
         ensures asks { IfOk result (λ f. FormatPending f image.now flash.now flash.now) }
         ensures set { IfOk result (λ f. (f.unit ≡ unit) × (f.sector ≡ sector)) }
-        ensures fault { IfErr result (λ e. (e ≢ FormatFault.Failed) × IsFormatFault e (mapped (grain_of unit sector) flash.now) image.now) }
+        ensures fault { IfErr result (λ e. (e ≢ FormatFault.Failed)
+            × IsFormatFault e (mapped_medium (grain_of unit sector) flash.now) image.now) }
     {
         if let Some(fault) = fault_of(flash, unit, sector, image) {
             return Err(fault);
@@ -119,9 +121,9 @@ impl Formatting {
         requires unit { cut.old.stock.unit ≡ self.now.unit }
         requires sector { cut.old.stock.sector ≡ self.now.sector }
         ensures found { IsTrue result →
-            IsPiece (steps_of_part self.now (length flash.now) cut.old.stock.block.now) cut.old.rest (step_of cut.new) }
-        ensures is { IsTrue result → IsCut self.now.sector.size cut.new }
-        ensures end { IsTrue result → cut.old.rest + cut.new.piece.len ≤ 2 ^ 20 }
+            IsStepPiece (steps_of_part self.now (length flash.now) cut.old.stock.block.now) cut.old.rest (step_of_cut cut.new) }
+        ensures is { IsTrue result → IsFoundPiece self.now.sector.size cut.new }
+        ensures end { IsTrue result → cut.old.rest + cut.new.piece.len ≤ 2 ^ 21 }
         ensures flash { IsTrue result → length flash.now < 2 ^ 32 }
         ensures image { IsTrue result → length cut.old.stock.block.now ≤ 2 ^ 24 }
         ensures none { IsTrue (not result) → length flash.now < 2 ^ 32 → length cut.old.stock.block.now ≤ 2 ^ 24 →
@@ -133,17 +135,17 @@ impl Formatting {
         part_piece(self, flash.len(), cut)
     }
 
-    /// The next piece that is asked for: at most 256 bytes to be programmed, or one sector to be erased. It lies
-    /// within the flash, also if what is kept was damaged. The bytes of a program are at the front of `out` then. The image is the one
-    /// that the format began with.
+    /// Returns the next piece that is asked for: at most 256 bytes to be programmed, or one sector to be erased. The piece lies within the
+    /// flash, also if the kept state was damaged. The bytes of a program are at the front of `out` then. `image` must be the one that the
+    /// format began with.
     ///
-    /// None if no write is due, or its range is not within the flash, or what is kept would erase less than a sector. Then `out` does
-    /// not change.
-    /// It is Some if `start` or `took` asked, and the pieces before this one are on the flash.
+    /// None if no write is due, or its range is not within the flash, or the kept state would erase less than a sector. Then `out` does not
+    /// change. It is Some if `start` or `took` asked, and the pieces before this one are on the flash.
     pub fn next(&self, flash: &[u8], image: &[u8], out: &mut [u8; MAX_PROGRAM]) -> Option<FlashOp>
-        ensures piece { IfSome result (λ p. IsPiece (remaining_steps self.now (length flash.now) image.now) self.now.done (asked p out.new)) }
+        ensures piece { IfSome result (λ p. IsStepPiece (remaining_steps self.now (length flash.now) image.now) self.now.done
+            (step_of_piece p out.new)) }
         ensures most { IfSome result (λ p. PieceBounds self.now.sector.size p out.new) }
-        ensures sector { IfSome result (λ p. ErasesWhole self.now.sector.size (asked p out.new)) }
+        ensures sector { IfSome result (λ p. ErasesSectorOrPrograms self.now.sector.size (step_of_piece p out.new)) }
         ensures within { IfSome result (λ p. (p.at + p.len ≤ length flash.now) × (length flash.now < 2 ^ 32)) }
         ensures unchanged { IfNone result (out.new ≡ out.old) }
         ensures goes { IfNone result ((was : List ℕ) → ¬ FormatPending self.now image.now was flash.now) }
@@ -163,14 +165,15 @@ impl Formatting {
         Some(piece)
     }
 
-    /// The piece that `next` gave was carried out, or it failed. It is read back on the flash; after an erase the whole sector is FFh.
+    /// Takes the report that the piece that `next` gave was carried out, or that it `failed`. Its range is read back on the flash; after
+    /// an erase the whole sector is FFh.
     ///
     /// None if no write is due. Nothing changes then.
     pub fn took(&mut self, flash: &[u8], image: &[u8], failed: bool) -> Option<FormatProgress>
         ensures outcome { IfSome result (λ r. (was before : List ℕ) → FormatPending self.old image.now was before → (p : Step) →
-            IsPiece (remaining_steps self.old (length was) image.now) self.old.done p → Torn before p.write.at p.write.bytes flash.now →
+            IsStepPiece (remaining_steps self.old (length was) image.now) self.old.done p → Torn before p.write.at p.write.bytes flash.now →
             FormatPieceReported self.old self.new image.now was flash.now p.write failed r) }
-        ensures further { IfSome result (λ r. FormatAsksFurther self.old (length flash.now) image.now r self.new) }
+        ensures further { IfSome result (λ r. FormatPieceAdvances self.old (length flash.now) image.now r self.new) }
         ensures same { IfSome result (λ r. IsSameFormat self.old self.new) }
         ensures ended { IfSome result (λ r. r ≢ FormatProgress.Asks → self.new.phase ≡ FormatStep.Ended) }
         ensures taken { IfNone result ((was before : List ℕ) → length before ≡ length flash.now
@@ -199,9 +202,9 @@ impl Formatting {
         requires image { length image.now ≤ 2 ^ 24 }
         ensures outcome { (was flash : List ℕ) → length was ≡ size → FormatUnderWay self.old image.now was flash →
             self.old.done ≤ total (step_writes (steps_of_part self.old (length was) image.now)) →
-            FormatOutcome (grain_within self.old) self.new image.now was flash result }
+            FormatOutcome (format_grain self.old) self.new image.now was flash result }
         ensures further { result ≡ FormatProgress.Asks → self.old.done ≤ total (step_writes (steps_of_part self.old size image.now)) →
-            IsFurtherBy self.old self.new size image.now 0 }
+            FormatAdvancedBy self.old self.new size image.now 0 }
         ensures same { IsSameFormat self.old self.new }
         ensures ended { result ≢ FormatProgress.Asks → self.new.phase ≡ FormatStep.Ended }
     {
@@ -217,9 +220,10 @@ impl Formatting {
         requires { length image.now ≤ 2 ^ 24 }
         ensures outcome { (was flash : List ℕ) → FormatUnderWay self.old image.now was flash →
             self.old.done ≡ total (step_writes (steps_of_part self.old (length was) image.now)) →
-            FormatOutcome (grain_within self.old) self.new image.now was flash result }
+            FormatOutcome (format_grain self.old) self.new image.now was flash result }
         ensures further { (size : ℕ) → result ≡ FormatProgress.Asks →
-            self.old.done ≡ total (step_writes (steps_of_part self.old size image.now)) → IsFurtherBy self.old self.new size image.now 0 }
+            self.old.done ≡ total (step_writes (steps_of_part self.old size image.now))
+            → FormatAdvancedBy self.old self.new size image.now 0 }
         ensures same { IsSameFormat self.old self.new }
         ensures ended { result ≢ FormatProgress.Asks → self.new.phase ≡ FormatStep.Ended }
     {

@@ -5,10 +5,10 @@ ghost use Rattle.dfu_slots.specs.Layout.{header};
 ghost use Rattle.dfu_slots.specs.declared.sequence.Sequence.TheVariants.{Commit};
 ghost use Rattle.dfu_slots.specs.Operations.{operations};
 ghost use Rattle.dfu_asks.specs.Steps.{step_writes};
-ghost use Rattle.dfu_asks.specs.OpSteps.{steps_at};
-ghost use Rattle.dfu_asks.specs.Carried.{total, IsPiece};
-ghost use Rattle.dfu_asks.specs.Jobs.{grain_for};
-ghost use Rattle.dfu_asks.specs.Cuts.{step_of, IsCut};
+ghost use Rattle.dfu_asks.specs.OpSteps.{op_steps_at};
+ghost use Rattle.dfu_asks.specs.Carried.{total, IsStepPiece};
+ghost use Rattle.dfu_asks.specs.Jobs.{input_grain};
+ghost use Rattle.dfu_asks.specs.Cuts.{step_of_cut, IsFoundPiece};
 ghost use Rattle.dfu_asks.specs.Phases.{steps_of_part};
 
 use crate::cut::Cut;
@@ -17,7 +17,7 @@ use crate::pending_writes::WriteInputs;
 use crate::{FormatStep, Formatting};
 use dfu_slots::{Sequence, Unit, VERSION, make_header};
 
-/// Returns the bytes of an image of so many, filled up to whole units.
+/// Returns the number of bytes of an image of `len` bytes, filled up to whole units of `unit`.
 pub(crate) fn filled_len(unit: Unit, len: usize) -> usize
     requires { len ≤ 2 ^ 24 }
     ensures value { result ≡ len + fill_size unit len }
@@ -47,14 +47,14 @@ pub(crate) fn stock_for<'a>(formatting: &Formatting, image: &'a [u8]) -> WriteIn
 fn open_piece(index: usize, register: u32, cut: &mut Cut<'_>) -> bool
     requires { length cut.old.stock.block.now ≤ 2 ^ 24 }
     ensures found { let s = cut.old.stock in IsTrue result →
-        IsPiece (steps_at s (header 2 0 (length s.block.now) register) (operations (grain_for s) (Commit 0 0 0)) index)
-        cut.old.rest (step_of cut.new) }
+        IsStepPiece (op_steps_at s (header 2 0 (length s.block.now) register) (operations (input_grain s) (Commit 0 0 0)) index)
+        cut.old.rest (step_of_cut cut.new) }
     ensures behind { let s = cut.old.stock in IsTrue (not result) →
-        total (step_writes (steps_at s (header 2 0 (length s.block.now) register) (operations (grain_for s) (Commit 0 0 0)) index))
+        total (step_writes (op_steps_at s (header 2 0 (length s.block.now) register) (operations (input_grain s) (Commit 0 0 0)) index))
         + cut.new.rest ≡ cut.old.rest }
     ensures same { cut.new.stock ≡ cut.old.stock }
-    ensures is { IsTrue result → IsCut cut.old.stock.sector.size cut.new }
-    ensures end { IsTrue result → cut.old.rest + cut.new.piece.len ≤ 2 ^ 18 }
+    ensures is { IsTrue result → IsFoundPiece cut.old.stock.sector.size cut.new }
+    ensures end { IsTrue result → cut.old.rest + cut.new.piece.len ≤ 2 ^ 19 }
 {
     cut.front = make_header(VERSION, 0, cut.stock.block.len() as u32, register);
     let sequence = Sequence::Commit {
@@ -65,8 +65,8 @@ fn open_piece(index: usize, register: u32, cut: &mut Cut<'_>) -> bool
     numbered_piece(sequence, index, cut)
 }
 
-/// Returns whether a piece is left of the part of a format that is being carried out. Then the next one is found. The flash has so many
-/// bytes.
+/// Returns true if a piece is left of the part of a format that is being carried out, on a flash of `size` bytes. `cut` has found the next
+/// one then.
 pub(crate) fn part_piece(formatting: &Formatting, size: usize, cut: &mut Cut<'_>) -> bool
     requires flash { size < 2 ^ 32 }
     requires held { cut.old.stock.held.now ≡ [] }
@@ -74,10 +74,10 @@ pub(crate) fn part_piece(formatting: &Formatting, size: usize, cut: &mut Cut<'_>
     requires unit { cut.old.stock.unit ≡ formatting.now.unit }
     requires sector { cut.old.stock.sector ≡ formatting.now.sector }
     ensures found { IsTrue result →
-        IsPiece (steps_of_part formatting.now size cut.old.stock.block.now) cut.old.rest (step_of cut.new) }
+        IsStepPiece (steps_of_part formatting.now size cut.old.stock.block.now) cut.old.rest (step_of_cut cut.new) }
     ensures same { cut.new.stock ≡ cut.old.stock }
-    ensures is { IsTrue result → IsCut cut.old.stock.sector.size cut.new }
-    ensures end { IsTrue result → cut.old.rest + cut.new.piece.len ≤ 2 ^ 20 }
+    ensures is { IsTrue result → IsFoundPiece cut.old.stock.sector.size cut.new }
+    ensures end { IsTrue result → cut.old.rest + cut.new.piece.len ≤ 2 ^ 21 }
     ensures none { IsTrue (not result) → total (step_writes (steps_of_part formatting.now size cut.old.stock.block.now)) ≤ cut.old.rest }
 {
     match formatting.phase {

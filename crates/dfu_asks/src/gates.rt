@@ -6,11 +6,11 @@ ghost use Rattle.dfu_asks.specs.Mapped.{grain_of};
 use crate::Sector;
 use dfu_slots::Unit;
 
-/// Returns the bytes that the gate of a slot has for itself, and its header as many, in flash that is written in this unit and these
-/// sectors: the largest of 16, the unit and the sector.
+/// Returns the number of bytes that the gate of a slot has for itself, and its header as many, in flash that is written in units of `unit`
+/// and erased in sectors of `sector`: the largest of 16, the unit and the sector.
 pub(crate) fn gate_room(unit: Unit, sector: Sector) -> u32
     ensures value { result ≡ gate_room (grain_of unit sector) }
-    ensures most { result ≤ 2 ^ 17 }
+    ensures most { result ≤ 2 ^ 18 }
 {
     unit.size().max(16).max(sector.size())
 }

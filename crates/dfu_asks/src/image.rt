@@ -2,7 +2,7 @@
 ghost use Rattle.std.specs.Prelude.{◌≡◌, ◌/◌, ◌≤◌, IfSome, IfNone, if◌then◌else◌};
 ghost use Rattle.dfu_slots.specs.Image.{HasImage};
 ghost use Rattle.dfu_asks.specs.ActiveImage.{ImageIsAt};
-ghost use Rattle.dfu_asks.specs.Mapped.{grain_of, mapped};
+ghost use Rattle.dfu_asks.specs.Mapped.{grain_of, mapped_medium};
 
 use crate::gates::gate_room;
 use crate::{Asking, Noted, Sector};
@@ -26,13 +26,13 @@ fn slot_at(second: bool, size: usize) -> usize
 }
 
 impl ImagePlace {
-    /// Returns the place of the active image in this flash, which is written in this unit and erased in these sectors: after the gate and
-    /// the header of its slot, within the flash. It reads the image of each open slot, and needs no device.
+    /// Returns the place of the active image in `flash`, which is written in units of `unit` and erased in sectors of `sector`: after the
+    /// gate and the header of its slot, within the flash. The call reads the image of each open slot, and needs no device.
     ///
     /// None exactly if the flash has no active image, or 2^32 bytes or more.
     pub fn find(flash: &[u8], unit: Unit, sector: Sector) -> Option<ImagePlace>
         ensures some { IfSome result (λ place. ImageIsAt (grain_of unit sector) flash.now place) }
-        ensures none { IfNone result (¬ HasImage (mapped (grain_of unit sector) flash.now)) }
+        ensures none { IfNone result (¬ HasImage (mapped_medium (grain_of unit sector) flash.now)) }
     {
         let noted = Noted::find(flash, unit, sector)?;
         let slot = slot_at(noted.second, flash.len());
@@ -44,12 +44,12 @@ impl ImagePlace {
 }
 
 impl Asking {
-    /// Returns the place of the active image in this flash, as `ImagePlace::find`; whatever the device noted of it.
+    /// Returns the place of the active image in `flash`, as `ImagePlace::find`; whatever the device noted of it.
     ///
     /// None exactly if the flash has no active image, or 2^32 bytes or more.
     pub fn image(&self, flash: &[u8]) -> Option<ImagePlace>
         ensures some { IfSome result (λ place. ImageIsAt (grain_of self.now.unit self.now.sector) flash.now place) }
-        ensures none { IfNone result (¬ HasImage (mapped (grain_of self.now.unit self.now.sector) flash.now)) }
+        ensures none { IfNone result (¬ HasImage (mapped_medium (grain_of self.now.unit self.now.sector) flash.now)) }
     {
         ImagePlace::find(flash, self.unit, self.sector)
     }

@@ -1,4 +1,5 @@
-//! Laws of what is asked. Each is the contract of a function with an empty body. It is proved, and has no effect when called.
+//! Laws of a device that asks for its writes. Each is the contract of a function with an empty body, which is proved, and has no effect
+//! when called.
 
 ghost use Rattle.std.specs.Prelude.{◌≡◌, ◌⊎◌, ◌+◌, ◌≤◌, ℕ, List, length, Bool, true, slice_range};
 ghost use Rattle.dfu_slots.specs.Units.{Grain};
@@ -15,11 +16,11 @@ ghost use Rattle.dfu_asks.specs.declared.reply.Reply.TheVariants.{Answered};
 ghost use Rattle.dfu_asks.specs.Lent.{LentDevice};
 ghost use Rattle.dfu_asks.specs.Asks.{device_in};
 ghost use Rattle.dfu_asks.specs.Calls.{DeviceCalled, DevicePieceReported};
-ghost use Rattle.dfu_asks.specs.Mapped.{mapped};
+ghost use Rattle.dfu_asks.specs.Mapped.{mapped_medium};
 ghost use Rattle.dfu_asks.specs.declared.pending_writes.SlotWrite.{SlotWrite};
 ghost use Rattle.dfu_asks.specs.Steps.{Step, step_writes};
 ghost use Rattle.dfu_asks.specs.Jobs.{job_writes, job_steps};
-ghost use Rattle.dfu_asks.specs.Carried.{total, carried, AreWithin, IsPiece};
+ghost use Rattle.dfu_asks.specs.Carried.{total, bytes_after_writes, WritesWithin, IsStepPiece};
 ghost use Rattle.dfu_asks.specs.Series.{block_series, block_store, BlockWritten, BlockBroken, CommitCompleted, CommitBroken};
 
 use dfu_device::laws::rows_keep;
@@ -29,14 +30,15 @@ use dfu_device::laws::rows_keep;
 /// broken off in the write that the piece is of.
 pub fn pieces_are_the_writes()
     ensures all { (grain : Grain) (writes : List Write) (bytes : List ℕ) →
-        AllWrites (mapped grain bytes) writes (mapped grain (carried bytes writes (total writes))) }
+        AllWrites (mapped_medium grain bytes) writes (mapped_medium grain (bytes_after_writes bytes writes (total writes))) }
     ensures next { (steps : List Step) (bytes : List ℕ) (n : ℕ) (piece : Step) → let writes = step_writes steps in
-        AreWithin writes (length bytes) → IsPiece steps n piece →
-        carried bytes writes (n + length piece.write.bytes) ≡ written (carried bytes writes n) piece.write.at piece.write.bytes }
+        WritesWithin writes (length bytes) → IsStepPiece steps n piece →
+        bytes_after_writes bytes writes (n + length piece.write.bytes) ≡ written
+        (bytes_after_writes bytes writes n) piece.write.at piece.write.bytes }
     ensures torn { (grain : Grain) (fault : WriteFault) (steps : List Step) (bytes now : List ℕ) (n : ℕ) (piece : Step) →
-        let writes = step_writes steps in AreWithin writes (length bytes) → IsPiece steps n piece →
-        Torn (carried bytes writes n) piece.write.at piece.write.bytes now →
-        BrokenWrites fault (mapped grain bytes) writes (mapped grain now) }
+        let writes = step_writes steps in WritesWithin writes (length bytes) → IsStepPiece steps n piece →
+        Torn (bytes_after_writes bytes writes n) piece.write.at piece.write.bytes now →
+        BrokenWrites fault (mapped_medium grain bytes) writes (mapped_medium grain now) }
 {}
 
 /// The steps of a job, each the erase of a sector or a program, are its writes.

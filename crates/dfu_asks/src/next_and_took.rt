@@ -1,16 +1,16 @@
-//! The writes that are asked for: the next one, and how it went.
+//! The calls for the writes that are due: `next` gives the next piece, and `took` takes the report of what became of it.
 ghost use Rattle.std.specs.Prelude.{◌≡◌, ◌≢◌, ◌+◌, ◌≤◌, ◌<◌, ◌^◌, ◌↔◌, ℕ, List, length, Some, IfOk, IfErr, IfSome, IfNone, OnOk, OnErr, IsTrue, not, ◌&&◌, if◌then◌else◌};
 ghost use Rattle.dfu_slots.specs.declared.fault.WriteFault.TheVariants.{Failed, NotVerified};
 ghost use Rattle.dfu_slots.specs.Medium.{Torn};
 ghost use Rattle.dfu_slots.specs.Image.{Active};
 ghost use Rattle.dfu_slots.specs.StoreView.{SlotsState};
-ghost use Rattle.dfu_asks.specs.Mapped.{grain_of, mapped, IsInSpare, IsSlotOf, IsProtectedRange};
+ghost use Rattle.dfu_asks.specs.Mapped.{grain_of, mapped_medium, RangeIsInSpare, IsSlotOf, IsProtectedRange};
 ghost use Rattle.dfu_asks.specs.Steps.{Step};
-ghost use Rattle.dfu_asks.specs.Carried.{IsPiece, ErasesWhole};
-ghost use Rattle.dfu_asks.specs.Jobs.{asked, PieceBounds};
-ghost use Rattle.dfu_asks.specs.Lent.{lent, HasRoom, IsSetUpAs};
+ghost use Rattle.dfu_asks.specs.Carried.{IsStepPiece, ErasesSectorOrPrograms};
+ghost use Rattle.dfu_asks.specs.Jobs.{step_of_piece, PieceBounds};
+ghost use Rattle.dfu_asks.specs.Lent.{lent, HasRoom, SameSetup};
 ghost use Rattle.dfu_asks.specs.Asks.{grain_in, steps_in, device_of};
-ghost use Rattle.dfu_asks.specs.Calls.{WritesPending, DevicePieceReported, PieceFollows, HasAtMost};
+ghost use Rattle.dfu_asks.specs.Calls.{WritesPending, DevicePieceReported, PieceFollows, AnswerHasAtMost};
 ghost use Rattle.dfu_asks.specs.Refused.{HasRemainingWrites, ReportRefusedFor, ReportAccepted};
 ghost use Rattle.dfu_asks.specs.declared.pending_writes.PendingWrites.{PendingWrites};
 
@@ -19,7 +19,7 @@ use crate::next_piece::next_piece;
 use crate::sector::behind_edge;
 use crate::{Asking, FlashOp, MAX_PROGRAM, Mapped, PendingWrites, Refusal, Reply, Sector};
 use dfu_slots::laws::active_image_is_one;
-use dfu_slots::{OPEN_GATE, Unit, WriteFault, check};
+use dfu_slots::{OPEN_GATE, Unit, WriteFault, check, flash_byte_at};
 
 // Returns the start of the slot that a place lies in, of two slots of this size.
 fn slot_start(at: u64, size: u64) -> u64
@@ -32,17 +32,17 @@ fn slot_start(at: u64, size: u64) -> u64
 fn is_spare(flash: &[u8], unit: Unit, sector: Sector, at: u64, len: u64) -> bool
     requires small { at + len < 2 ^ 44 }
     requires some { 0 < len }
-    ensures yes { let m = mapped (grain_of unit sector) flash.now in
-        IsTrue result → (image : List ℕ) → Active m image → IsInSpare m at len }
+    ensures yes { let m = mapped_medium (grain_of unit sector) flash.now in
+        IsTrue result → (image : List ℕ) → Active m image → RangeIsInSpare m at len }
     ensures inside { IsTrue result → at + len ≤ length flash.now }
-    ensures no { IsTrue (not result) → IsProtectedRange (mapped (grain_of unit sector) flash.now) at len }
+    ensures no { IsTrue (not result) → IsProtectedRange (mapped_medium (grain_of unit sector) flash.now) at len }
 {
     let half = flash.len() as u64 / 2;
     let slot = slot_start(at, half);
     if at + len > slot + half {
         return false;
     }
-    if flash[slot as usize] != OPEN_GATE {
+    if flash_byte_at(flash, slot as usize) != OPEN_GATE {
         return true;
     }
     let Some(medium) = Mapped::with_sector(flash, unit, sector) else {
@@ -58,11 +58,11 @@ fn is_spare(flash: &[u8], unit: Unit, sector: Sector, at: u64, len: u64) -> bool
     }
 }
 
-/// Returns whether a piece programs, or erases one whole sector.
+/// Returns true if `piece` programs, or erases one whole sector of `sector`.
 pub(crate) fn is_sound(sector: Sector, piece: FlashOp) -> bool
     requires some { 0 < piece.len }
     requires small { piece.at < 2 ^ 43 }
-    ensures { (bytes : List ℕ) → IsTrue result ↔ ErasesWhole sector.size (asked piece bytes) }
+    ensures { (bytes : List ℕ) → IsTrue result ↔ ErasesSectorOrPrograms sector.size (step_of_piece piece bytes) }
 {
     if !piece.erases {
         return true;
@@ -90,13 +90,13 @@ fn fault_of(failed: bool) -> WriteFault
 }
 
 impl Asking {
-    /// The next piece that is asked for: at most 256 bytes to be programmed, or one sector to be erased. It lies within the spare
-    /// slot of the flash as it is now, if that has an active image, also if what is kept was damaged. The bytes of a program are at
-    /// the front of `out` then.
+    /// Returns the next piece that is asked for: at most 256 bytes to be programmed, or one sector to be erased. The piece lies within the
+    /// spare slot of the flash as it is now, if that has an active image, also if the kept state was damaged. The bytes of a program are
+    /// at the front of `out` then.
     ///
-    /// None if no write is due, if its range is not within that slot, if the slot's gate is open and no image is active, or if
-    /// what is kept would erase less than a sector. Then `out` is unchanged.
-    /// It is Some if a call answered `Asks` and the pieces before this one are on the flash.
+    /// None if no write is due, if its range is not within that slot, if the slot's gate is open and no image is active, or if the kept
+    /// state would erase less than a sector. Then `out` is unchanged. It is Some if a call answered `Asks` and the pieces before this one
+    /// are on the flash.
     pub fn next(
         &self,
         block: &[u8],
@@ -105,18 +105,18 @@ impl Asking {
         out: &mut [u8; MAX_PROGRAM],
     ) -> Option<FlashOp>
         ensures piece { IfSome result (λ p. (w : PendingWrites) → self.now.work ≡ Some w →
-            IsPiece (steps_in (lent self.now block.now held.now) w) w.done (asked p out.new)) }
+            IsStepPiece (steps_in (lent self.now block.now held.now) w) w.done (step_of_piece p out.new)) }
         ensures most { IfSome result (λ p. PieceBounds self.now.sector.size p out.new) }
-        ensures sector { IfSome result (λ p. ErasesWhole self.now.sector.size (asked p out.new)) }
+        ensures sector { IfSome result (λ p. ErasesSectorOrPrograms self.now.sector.size (step_of_piece p out.new)) }
         ensures spare { IfSome result (λ p. (image : List ℕ) →
-            Active (mapped (grain_in (lent self.now block.now held.now)) flash.now) image →
-            IsInSpare (mapped (grain_in (lent self.now block.now held.now)) flash.now) p.at p.len) }
+            Active (mapped_medium (grain_in (lent self.now block.now held.now)) flash.now) image →
+            RangeIsInSpare (mapped_medium (grain_in (lent self.now block.now held.now)) flash.now) p.at p.len) }
         ensures inside { IfSome result (λ p. p.at + p.len ≤ length flash.now) }
         ensures due { IfSome result (λ p. (w : PendingWrites) × HasRemainingWrites (lent self.now block.now held.now) w) }
         ensures none { IfNone result ((w : PendingWrites) (p : Step) → self.now.work ≡ Some w →
-            IsPiece (steps_in (lent self.now block.now held.now) w) w.done p →
-            ErasesWhole self.now.sector.size p →
-            IsProtectedRange (mapped (grain_in (lent self.now block.now held.now)) flash.now) p.write.at (length p.write.bytes)) }
+            IsStepPiece (steps_in (lent self.now block.now held.now) w) w.done p →
+            ErasesSectorOrPrograms self.now.sector.size p →
+            IsProtectedRange (mapped_medium (grain_in (lent self.now block.now held.now)) flash.now) p.write.at (length p.write.bytes)) }
         ensures unchanged { IfNone result (out.new ≡ out.old) }
         ensures goes { IfNone result ((len : ℕ) (s : SlotsState) (was : List ℕ) →
             ¬ WritesPending (lent self.now block.now held.now) len s was flash.now) }
@@ -138,13 +138,14 @@ impl Asking {
         }
     }
 
-    /// The piece that `next` gave was carried out, or it failed. It is read back on the flash; after an erase the whole sector is FFh.
+    /// Takes the report that the piece that `next` gave was carried out, or that it `failed`. Its range is read back on the flash; after
+    /// an erase the whole sector is FFh.
     ///
-    /// It asks for the next piece, or returns the answer of the row, which has ended.
+    /// The call asks for the next piece, or returns the answer of the row, which has ended.
     ///
     /// # Errors
     ///
-    /// `NoRoom` if the buffer has less than 6 bytes; else `NoDevice` if no write is due. Nothing changes then.
+    /// `NoRoom` if `out` has less than 6 bytes; else `NoDevice` if no write is due. Nothing changes then.
     pub fn took(
         &mut self,
         block: &[u8],
@@ -157,20 +158,20 @@ impl Asking {
         ensures outcome { IfOk result
             (λ r. (len : ℕ) (s : SlotsState) (was before : List ℕ)
             (asks : WritesPending (lent self.old block.now held.old) len s was before) (p : Step) →
-            IsPiece (steps_in (lent self.old block.now held.old) asks.work) asks.work.done p →
+            IsStepPiece (steps_in (lent self.old block.now held.old) asks.work) asks.work.done p →
             Torn before p.write.at p.write.bytes flash.now →
             DevicePieceReported (device_of (lent self.old block.now held.old) s) len s was p.write failed flash.now out.old
             (lent self.new block.now held.new) out.new r) }
         ensures on { IfOk result (λ r. (w : PendingWrites) (p : Step) → self.old.work ≡ Some w →
-            IsPiece (steps_in (lent self.old block.now held.old) w) w.done p →
+            IsStepPiece (steps_in (lent self.old block.now held.old) w) w.done p →
             (r ≡ Reply.Asks) ↔ PieceFollows (lent self.old block.now held.old) w p.write failed flash.now) }
         ensures further { IfOk result (λ r. r ≡ Reply.Asks → (w : PendingWrites) (p : Step) → self.old.work ≡ Some w →
-            IsPiece (steps_in (lent self.old block.now held.old) w) w.done p →
+            IsStepPiece (steps_in (lent self.old block.now held.old) w) w.done p →
             self.new.work ≡ Some (record w { done = w.done + length p.write.bytes })) }
         ensures refused { IfErr result (λ e. ReportRefusedFor e (lent self.old block.now held.old) (length out.old)) }
         ensures taken { OnOk result (ReportAccepted (lent self.old block.now held.old) (length out.old)) }
-        ensures few { IfOk result (λ r. HasAtMost 6 r) }
-        ensures same { IsSetUpAs self.old self.new }
+        ensures few { IfOk result (λ r. AnswerHasAtMost 6 r) }
+        ensures same { SameSetup self.old self.new }
         ensures block { self.new.block_len ≡ self.old.block_len }
         ensures unchanged { OnErr result ((self.new ≡ self.old) × (held.new ≡ held.old) × (out.new ≡ out.old)) }
     {

@@ -1,18 +1,18 @@
 //! The next piece of the writes of a job: the operations of dfu_slots, each cut into its erases and pieces of at most 256 bytes.
 ghost use Rattle.std.specs.Prelude.{◌≡◌, ◌+◌, ◌*◌, ◌^◌, ◌<◌, ◌≤◌, ◌∷◌, [], length, not, true, if◌then◌else◌, IsTrue};
 ghost use Rattle.dfu_slots.specs.Operations.{operations};
-ghost use Rattle.dfu_asks.specs.Steps.{step_writes, some_steps, erase_step, close_step};
-ghost use Rattle.dfu_asks.specs.Carried.{total, IsPiece};
-ghost use Rattle.dfu_asks.specs.Jobs.{grain_for, steps_for};
-ghost use Rattle.dfu_asks.specs.Cuts.{source_bytes, range_in, step_of, IsCut};
-ghost use Rattle.dfu_asks.specs.OpSteps.{ops_steps, steps_at, MayCutAll};
+ghost use Rattle.dfu_asks.specs.Steps.{step_writes, write_some_steps, erase_step, close_step};
+ghost use Rattle.dfu_asks.specs.Carried.{total, IsStepPiece};
+ghost use Rattle.dfu_asks.specs.Jobs.{input_grain, steps_for};
+ghost use Rattle.dfu_asks.specs.Cuts.{source_bytes, range_of_source, step_of_cut, IsFoundPiece};
+ghost use Rattle.dfu_asks.specs.OpSteps.{ops_steps, op_steps_at, OpsHaveFewBytes};
 
 use crate::cut::Cut;
 use crate::sector::{Position, locate};
 use crate::{FlashOp, SlotWrite};
 use dfu_slots::{MAX_OPERATIONS, Op, Sequence, Source, VERSION, make_header};
 
-/// Most bytes that are programmed at a time.
+/// Largest number of bytes that are programmed at a time.
 pub const MAX_PROGRAM: usize = 256;
 
 // An erase of so many bytes there is found.
@@ -30,13 +30,13 @@ fn find_erase(at: u64, len: usize, cut: &mut Cut<'_>)
 // Returns whether the next piece is one of the erase of the sector that begins there. Then it is found; else the search goes on after it.
 fn erase_piece(at: u64, cut: &mut Cut<'_>) -> bool
     requires { at < 2 ^ 41 }
-    ensures found { IsTrue result → IsPiece (erase_step at cut.old.stock.sector.size ∷ []) cut.old.rest (step_of cut.new) }
+    ensures found { IsTrue result → IsStepPiece (erase_step at cut.old.stock.sector.size ∷ []) cut.old.rest (step_of_cut cut.new) }
     ensures same { (cut.new.stock ≡ cut.old.stock) × (cut.new.front ≡ cut.old.front) }
-    ensures is { IsTrue result → IsCut cut.old.stock.sector.size cut.new }
-    ensures end { IsTrue result → cut.old.rest + cut.new.piece.len ≤ 2 ^ 18 }
+    ensures is { IsTrue result → IsFoundPiece cut.old.stock.sector.size cut.new }
+    ensures end { IsTrue result → cut.old.rest + cut.new.piece.len ≤ 2 ^ 19 }
     ensures behind { IsTrue (not result) →
         total (step_writes (erase_step at cut.old.stock.sector.size ∷ [])) + cut.new.rest ≡ cut.old.rest }
-    ensures past { IsTrue (not result) → cut.old.rest ≤ cut.new.rest + 2 ^ 18 }
+    ensures past { IsTrue (not result) → cut.old.rest ≤ cut.new.rest + 2 ^ 19 }
 {
     let sector = cut.stock.sector.size() as usize;
     if cut.rest < sector {
@@ -54,15 +54,17 @@ fn write_piece(at: u64, source: Source, skip: usize, len: usize, cut: &mut Cut<'
     requires short { len ≤ 4608 }
     requires within { skip + len ≤ length (source_bytes source cut.old.stock cut.old.front) + 256 }
     requires skipped { skip ≤ 2 ^ 32 }
-    ensures found { IsTrue result → IsPiece (some_steps cut.old.stock.sector.size at (range_in source cut.old.stock cut.old.front skip len))
-        cut.old.rest (step_of cut.new) }
+    ensures found { IsTrue result → IsStepPiece (write_some_steps cut.old.stock.sector.size at
+        (range_of_source source cut.old.stock cut.old.front skip len))
+        cut.old.rest (step_of_cut cut.new) }
     ensures same { (cut.new.stock ≡ cut.old.stock) × (cut.new.front ≡ cut.old.front) }
-    ensures is { IsTrue result → IsCut cut.old.stock.sector.size cut.new }
-    ensures end { IsTrue result → cut.old.rest + cut.new.piece.len ≤ 2 ^ 18 }
+    ensures is { IsTrue result → IsFoundPiece cut.old.stock.sector.size cut.new }
+    ensures end { IsTrue result → cut.old.rest + cut.new.piece.len ≤ 2 ^ 19 }
     ensures behind { IsTrue (not result) →
-        total (step_writes (some_steps cut.old.stock.sector.size at (range_in source cut.old.stock cut.old.front skip len))) + cut.new.rest
+        total (step_writes (write_some_steps cut.old.stock.sector.size at (range_of_source source cut.old.stock cut.old.front skip len))) +
+        cut.new.rest
         ≡ cut.old.rest }
-    ensures past { IsTrue (not result) → cut.old.rest ≤ cut.new.rest + 2 ^ 18 }
+    ensures past { IsTrue (not result) → cut.old.rest ≤ cut.new.rest + 2 ^ 19 }
 {
     match locate(cut.stock.sector, at, len, cut.rest) {
         Position::Erase { place, len } => {
@@ -86,18 +88,18 @@ fn write_piece(at: u64, source: Source, skip: usize, len: usize, cut: &mut Cut<'
     }
 }
 
-/// Returns whether the next piece is one of the operation of this number. Then it is found; else the search goes on after that, if there is
-/// one.
+/// Returns true if the next piece is one of operation number `index` of `sequence`. `cut` has found the piece then; else the search goes
+/// on after the operation, if there is one.
 pub(crate) fn numbered_piece(sequence: Sequence, index: usize, cut: &mut Cut<'_>) -> bool
-    requires { MayCutAll cut.old.stock cut.old.front (operations (grain_for cut.old.stock) sequence) }
+    requires { OpsHaveFewBytes cut.old.stock cut.old.front (operations (input_grain cut.old.stock) sequence) }
     ensures found { let s = cut.old.stock in IsTrue result →
-        IsPiece (steps_at s cut.old.front (operations (grain_for s) sequence) index) cut.old.rest (step_of cut.new) }
+        IsStepPiece (op_steps_at s cut.old.front (operations (input_grain s) sequence) index) cut.old.rest (step_of_cut cut.new) }
     ensures same { (cut.new.stock ≡ cut.old.stock) × (cut.new.front ≡ cut.old.front) }
-    ensures is { IsTrue result → IsCut cut.old.stock.sector.size cut.new }
-    ensures end { IsTrue result → cut.old.rest + cut.new.piece.len ≤ 2 ^ 18 }
+    ensures is { IsTrue result → IsFoundPiece cut.old.stock.sector.size cut.new }
+    ensures end { IsTrue result → cut.old.rest + cut.new.piece.len ≤ 2 ^ 19 }
     ensures behind { let s = cut.old.stock in IsTrue (not result) →
-        total (step_writes (steps_at s cut.old.front (operations (grain_for s) sequence) index)) + cut.new.rest ≡ cut.old.rest }
-    ensures past { IsTrue (not result) → cut.old.rest ≤ cut.new.rest + 2 ^ 18 }
+        total (step_writes (op_steps_at s cut.old.front (operations (input_grain s) sequence) index)) + cut.new.rest ≡ cut.old.rest }
+    ensures past { IsTrue (not result) → cut.old.rest ≤ cut.new.rest + 2 ^ 19 }
 {
     match sequence.operation(cut.stock.unit, cut.stock.sector.size(), index) {
         None => false,
@@ -113,17 +115,18 @@ pub(crate) fn numbered_piece(sequence: Sequence, index: usize, cut: &mut Cut<'_>
     }
 }
 
-/// Returns whether the next piece is one of the operations of a sequence. Then it is found; else the search goes on after them.
+/// Returns true if the next piece is one of the operations of `sequence`. `cut` has found the piece then; else the search goes on after
+/// the operations.
 pub(crate) fn sequence_piece(sequence: Sequence, cut: &mut Cut<'_>) -> bool
-    requires { MayCutAll cut.old.stock cut.old.front (operations (grain_for cut.old.stock) sequence) }
+    requires { OpsHaveFewBytes cut.old.stock cut.old.front (operations (input_grain cut.old.stock) sequence) }
     ensures found { let s = cut.old.stock in IsTrue result →
-        IsPiece (ops_steps s cut.old.front (operations (grain_for s) sequence)) cut.old.rest (step_of cut.new) }
+        IsStepPiece (ops_steps s cut.old.front (operations (input_grain s) sequence)) cut.old.rest (step_of_cut cut.new) }
     ensures same { cut.new.stock ≡ cut.old.stock }
-    ensures is { IsTrue result → IsCut cut.old.stock.sector.size cut.new }
-    ensures end { IsTrue result → cut.old.rest + cut.new.piece.len ≤ 2 ^ 20 }
+    ensures is { IsTrue result → IsFoundPiece cut.old.stock.sector.size cut.new }
+    ensures end { IsTrue result → cut.old.rest + cut.new.piece.len ≤ 2 ^ 21 }
     ensures behind { let s = cut.old.stock in IsTrue (not result) →
-        total (step_writes (ops_steps s cut.old.front (operations (grain_for s) sequence))) + cut.new.rest ≡ cut.old.rest }
-    ensures past { IsTrue (not result) → cut.old.rest ≤ cut.new.rest + 2 ^ 20 }
+        total (step_writes (ops_steps s cut.old.front (operations (input_grain s) sequence))) + cut.new.rest ≡ cut.old.rest }
+    ensures past { IsTrue (not result) → cut.old.rest ≤ cut.new.rest + 2 ^ 21 }
 {
     for index in 0..MAX_OPERATIONS {
         if numbered_piece(sequence, index, cut) {
@@ -136,13 +139,13 @@ pub(crate) fn sequence_piece(sequence: Sequence, cut: &mut Cut<'_>) -> bool
 // Returns whether the next piece is one of those that close the gate of the slot that begins there, if that is to be closed.
 fn shut_piece(spare: u32, close: bool, cut: &mut Cut<'_>) -> bool
     ensures found { IsTrue result →
-        IsPiece (if close then close_step (grain_for cut.old.stock) spare ∷ [] else []) cut.old.rest (step_of cut.new) }
+        IsStepPiece (if close then close_step (input_grain cut.old.stock) spare ∷ [] else []) cut.old.rest (step_of_cut cut.new) }
     ensures same { cut.new.stock ≡ cut.old.stock }
-    ensures is { IsTrue result → IsCut cut.old.stock.sector.size cut.new }
-    ensures end { IsTrue result → cut.old.rest + cut.new.piece.len ≤ 2 ^ 20 }
+    ensures is { IsTrue result → IsFoundPiece cut.old.stock.sector.size cut.new }
+    ensures end { IsTrue result → cut.old.rest + cut.new.piece.len ≤ 2 ^ 21 }
     ensures behind { IsTrue (not result) →
-        total (step_writes (if close then close_step (grain_for cut.old.stock) spare ∷ [] else [])) + cut.new.rest ≡ cut.old.rest }
-    ensures past { IsTrue (not result) → cut.old.rest ≤ cut.new.rest + 2 ^ 20 }
+        total (step_writes (if close then close_step (input_grain cut.old.stock) spare ∷ [] else [])) + cut.new.rest ≡ cut.old.rest }
+    ensures past { IsTrue (not result) → cut.old.rest ≤ cut.new.rest + 2 ^ 21 }
 {
     close && sequence_piece(Sequence::Close { slot: spare }, cut)
 }
@@ -152,10 +155,10 @@ fn block_piece(spare: u32, close: bool, cut: &mut Cut<'_>) -> bool
     requires held { length cut.old.stock.held.now ≤ 256 }
     requires block { length cut.old.stock.block.now ≤ 4096 }
     ensures found { IsTrue result →
-        IsPiece (steps_for (SlotWrite.Block spare close) cut.old.stock) cut.old.rest (step_of cut.new) }
+        IsStepPiece (steps_for (SlotWrite.Block spare close) cut.old.stock) cut.old.rest (step_of_cut cut.new) }
     ensures same { cut.new.stock ≡ cut.old.stock }
-    ensures is { IsTrue result → IsCut cut.old.stock.sector.size cut.new }
-    ensures end { IsTrue result → cut.old.rest + cut.new.piece.len ≤ 2 ^ 21 }
+    ensures is { IsTrue result → IsFoundPiece cut.old.stock.sector.size cut.new }
+    ensures end { IsTrue result → cut.old.rest + cut.new.piece.len ≤ 2 ^ 22 }
     ensures none { IsTrue (not result) → total (step_writes (steps_for (SlotWrite.Block spare close) cut.old.stock)) ≤ cut.old.rest }
 {
     if shut_piece(spare, close, cut) {
@@ -174,10 +177,10 @@ fn block_piece(spare: u32, close: bool, cut: &mut Cut<'_>) -> bool
 fn commit_piece(spare: u32, generation: u8, register: u32, cut: &mut Cut<'_>) -> bool
     requires held { length cut.old.stock.held.now ≤ 256 }
     ensures found { IsTrue result →
-        IsPiece (steps_for (SlotWrite.Commit spare generation register) cut.old.stock) cut.old.rest (step_of cut.new) }
+        IsStepPiece (steps_for (SlotWrite.Commit spare generation register) cut.old.stock) cut.old.rest (step_of_cut cut.new) }
     ensures same { cut.new.stock ≡ cut.old.stock }
-    ensures is { IsTrue result → IsCut cut.old.stock.sector.size cut.new }
-    ensures end { IsTrue result → cut.old.rest + cut.new.piece.len ≤ 2 ^ 21 }
+    ensures is { IsTrue result → IsFoundPiece cut.old.stock.sector.size cut.new }
+    ensures end { IsTrue result → cut.old.rest + cut.new.piece.len ≤ 2 ^ 22 }
     ensures none { IsTrue (not result) →
         total (step_writes (steps_for (SlotWrite.Commit spare generation register) cut.old.stock)) ≤ cut.old.rest }
 {
@@ -191,14 +194,14 @@ fn commit_piece(spare: u32, generation: u8, register: u32, cut: &mut Cut<'_>) ->
     sequence_piece(sequence, cut)
 }
 
-/// Returns whether a piece of the writes of a job is left. Then the next one is found.
+/// Returns true if a piece of the writes of `job` is left. `cut` has found the next one then.
 pub(crate) fn next_piece(job: SlotWrite, cut: &mut Cut<'_>) -> bool
     requires held { length cut.old.stock.held.now ≤ 256 }
     requires block { length cut.old.stock.block.now ≤ 4096 }
-    ensures found { IsTrue result → IsPiece (steps_for job cut.old.stock) cut.old.rest (step_of cut.new) }
+    ensures found { IsTrue result → IsStepPiece (steps_for job cut.old.stock) cut.old.rest (step_of_cut cut.new) }
     ensures same { cut.new.stock ≡ cut.old.stock }
-    ensures is { IsTrue result → IsCut cut.old.stock.sector.size cut.new }
-    ensures end { IsTrue result → cut.old.rest + cut.new.piece.len ≤ 2 ^ 21 }
+    ensures is { IsTrue result → IsFoundPiece cut.old.stock.sector.size cut.new }
+    ensures end { IsTrue result → cut.old.rest + cut.new.piece.len ≤ 2 ^ 22 }
     ensures none { IsTrue (not result) → total (step_writes (steps_for job cut.old.stock)) ≤ cut.old.rest }
 {
     match job {

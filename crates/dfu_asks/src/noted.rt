@@ -1,9 +1,9 @@
 //! Flash that a device reads as memory, and what is noted of its active image.
 ghost use Rattle.std.specs.Prelude.{◌≡◌, ◌≤◌, ◌%◌, ◌↔◌, ℕ, List, length, IsTrue, IfSome, IfNone, ◌^◌, ◌<◌};
-ghost use Rattle.dfu_slots.specs.Units.{unit_size, in_place};
+ghost use Rattle.dfu_slots.specs.Units.{unit_size, in_place_grain};
 ghost use Rattle.dfu_slots.specs.Image.{HasImage};
-ghost use Rattle.dfu_asks.specs.Mapped.{grain_of, mapped};
-ghost use Rattle.dfu_asks.specs.Noted.{IsNoted, NotedIsOnFlash, IsView};
+ghost use Rattle.dfu_asks.specs.Mapped.{grain_of, mapped_medium};
+ghost use Rattle.dfu_asks.specs.Noted.{IsNoteOfMedium, NotedIsOnFlash, IsView};
 ghost use Rattle.dfu_asks.specs.Lent.{HasRoom};
 ghost use Rattle.dfu_asks.specs.Refused.{IsDeviceOn, RoomForBlocks};
 
@@ -11,7 +11,8 @@ use crate::{Asking, Sector};
 use dfu_device::{PutSoFar, is_filled};
 use dfu_slots::laws::active_image_is_one;
 use dfu_slots::{
-    Failed, Medium, Unit, capacity_of, check, gate_of, header_of, is_open, is_sized, length_in,
+    Failed, Medium, Unit, capacity_of, check, flash_byte_at, gate_of, header_of, is_open, is_sized,
+    length_in, read_flash,
 };
 
 /// Flash that is mapped into memory: it is read there, and no write or erase through this works. Its owner writes it, in this unit,
@@ -25,29 +26,32 @@ pub struct Mapped<'m> {
 }
 
 impl<'m> Mapped<'m> {
-    /// The medium of these bytes, which is written in place, in this unit; None if they are 2^32 or more.
+    /// Returns the medium of `bytes`, which is written in place, in units of `unit`; None if there are 2^32 bytes or more.
     pub fn new(bytes: &'m [u8], unit: Unit) -> Option<Mapped<'m>>
-        ensures some { IfSome result (λ m. mapped (grain_of m.unit m.sector) m.bytes.now ≡ mapped (in_place unit) bytes.now) }
+        ensures some { IfSome result (λ m. mapped_medium (grain_of m.unit m.sector) m.bytes.now ≡ mapped_medium
+            (in_place_grain unit) bytes.now) }
         ensures none { IfNone result (2 ^ 32 ≤ length bytes.now) }
     {
         Mapped::with_sector(bytes, unit, Sector::none())
     }
 
-    /// The medium of these bytes, which is written in this unit, in sectors of so many bytes that are erased before, or at 0 in place.
+    /// Returns the medium of `bytes`, which is written in units of `unit`, in sectors of `sector` bytes that are erased before, or if
+    /// `sector` is 0 in place.
     ///
-    /// None if the sector is neither 0 nor a multiple of 256 up to 131,072, or if there are 2^32 bytes or more.
+    /// None if `sector` is neither 0 nor a multiple of 256 up to 262,144, or if there are 2^32 bytes or more.
     pub fn with_sectors(bytes: &'m [u8], unit: Unit, sector: u32) -> Option<Mapped<'m>>
-        ensures some { IfSome result (λ m. mapped (grain_of m.unit m.sector) m.bytes.now
-            ≡ mapped (record { unit = unit; sector = sector }) bytes.now) }
-        ensures none { IfNone result ((sector % 256 ≡ 0) → (sector ≤ 2 ^ 17) → 2 ^ 32 ≤ length bytes.now) }
-        ensures refused { IfSome result (λ m. (sector % 256 ≡ 0) × (sector ≤ 2 ^ 17)) }
+        ensures some { IfSome result (λ m. mapped_medium (grain_of m.unit m.sector) m.bytes.now
+            ≡ mapped_medium (record { unit = unit; sector = sector }) bytes.now) }
+        ensures none { IfNone result ((sector % 256 ≡ 0) → (sector ≤ 2 ^ 18) → 2 ^ 32 ≤ length bytes.now) }
+        ensures refused { IfSome result (λ m. (sector % 256 ≡ 0) × (sector ≤ 2 ^ 18)) }
     {
         Mapped::with_sector(bytes, unit, Sector::new(sector)?)
     }
 
-    /// Maps the flash by a sector that is one.
+    /// Returns the medium of `bytes`, as `with_sectors` does, for a `sector` that is allowed; None if there are 2^32 bytes or more.
     pub(crate) fn with_sector(bytes: &'m [u8], unit: Unit, sector: Sector) -> Option<Mapped<'m>>
-        ensures some { IfSome result (λ m. mapped (grain_of m.unit m.sector) m.bytes.now ≡ mapped (grain_of unit sector) bytes.now) }
+        ensures some { IfSome result (λ m. mapped_medium (grain_of m.unit m.sector) m.bytes.now ≡ mapped_medium
+            (grain_of unit sector) bytes.now) }
         ensures parts { IfSome result (λ m. (m.unit ≡ unit) × (m.sector ≡ sector) × (m.bytes.now ≡ bytes.now)) }
         ensures none { IfNone result (2 ^ 32 ≤ length bytes.now) }
     {
@@ -63,7 +67,7 @@ impl<'m> Mapped<'m> {
 }
 
 impl<'m> Medium for Mapped<'m> {
-    ghost state = { λ m. mapped (grain_of m.unit m.sector) m.bytes.now };
+    ghost state = { λ m. mapped_medium (grain_of m.unit m.sector) m.bytes.now };
 
     fn len(&self) -> u32 {
         self.bytes.len() as u32
@@ -84,7 +88,7 @@ impl<'m> Medium for Mapped<'m> {
 
     fn read(&self, at: u32, out: &mut [u8]) {
         let from = at as usize;
-        out.copy_from_slice(&self.bytes[from..from + out.len()]);
+        read_flash(&self.bytes[from..from + out.len()], out);
     }
 
     fn write(&mut self, _at: u32, _bytes: &[u8]) -> Result<(), Failed> {
@@ -99,20 +103,20 @@ impl<'m> Medium for Mapped<'m> {
 /// Notes of the active image: which slot has it, and that slot's header as it was. A call that finds it there reads no image.
 #[derive(Clone, Copy, Drop)]
 pub struct Noted {
-    /// Tells whether it is the second slot.
+    /// True if the second slot has the image.
     pub second: bool,
     /// The header.
     pub header: [u8; 16],
 }
 
 impl Noted {
-    /// Returns the notes of this flash. It reads the image of each open slot.
+    /// Returns the notes of `flash`. The call reads the image of each open slot.
     ///
     /// None exactly if the flash has no active image, or 2^32 bytes or more.
     pub fn find(flash: &[u8], unit: Unit, sector: Sector) -> Option<Noted>
-        ensures some { IfSome result (λ n. IsNoted n (mapped (grain_of unit sector) flash.now)) }
-        ensures image { IfSome result (λ n. HasImage (mapped (grain_of unit sector) flash.now)) }
-        ensures none { IfNone result (¬ HasImage (mapped (grain_of unit sector) flash.now)) }
+        ensures some { IfSome result (λ n. IsNoteOfMedium n (mapped_medium (grain_of unit sector) flash.now)) }
+        ensures image { IfSome result (λ n. HasImage (mapped_medium (grain_of unit sector) flash.now)) }
+        ensures none { IfNone result (¬ HasImage (mapped_medium (grain_of unit sector) flash.now)) }
     {
         let medium = Mapped::with_sector(flash, unit, sector)?;
         match check(&medium) {
@@ -136,33 +140,33 @@ pub(crate) struct View {
     pub(crate) active: u32,
     /// Place at which the spare slot begins.
     pub(crate) spare: u32,
-    /// Most bytes of an image.
+    /// Largest number of bytes of an image.
     pub(crate) room: u32,
     /// Length of the active image.
     pub(crate) len: u32,
 }
 
-// Returns whether two headers are the same, byte by byte: that is less code than `==`.
+// Returns whether a header of flash is this one, byte by byte: that is less code than `==`.
 fn are_same(one: &[u8], other: &[u8; 16]) -> bool
     requires { length one.now ≡ 16 }
     ensures { IsTrue result ↔ (one.now ≡ other.now) }
 {
     for i in 0..16 {
-        if one[i] != other[i] {
+        if flash_byte_at(one, i) != other[i] {
             return false;
         }
     }
     true
 }
 
-/// The view of a medium on which the noted header is in an open slot; None exactly if it is not.
+/// Returns the view of `medium` if the header of `noted` is in an open slot of it; None exactly if it is not.
 #[inline(never)]
 pub(crate) fn look(medium: &Mapped<'_>, noted: &Noted) -> Option<View>
-    ensures stands { let m = mapped (grain_of medium.now.unit medium.now.sector) medium.now.bytes.now in
+    ensures stands { let m = mapped_medium (grain_of medium.now.unit medium.now.sector) medium.now.bytes.now in
         IfSome result (λ v. NotedIsOnFlash noted.now m) }
-    ensures view { let m = mapped (grain_of medium.now.unit medium.now.sector) medium.now.bytes.now in
+    ensures view { let m = mapped_medium (grain_of medium.now.unit medium.now.sector) medium.now.bytes.now in
         IfSome result (λ v. IsView v noted.now m) }
-    ensures none { let m = mapped (grain_of medium.now.unit medium.now.sector) medium.now.bytes.now in
+    ensures none { let m = mapped_medium (grain_of medium.now.unit medium.now.sector) medium.now.bytes.now in
         IfNone result (¬ NotedIsOnFlash noted.now m) }
 {
     if !is_sized(medium) {
@@ -197,12 +201,12 @@ fn may_end(unit: Unit, held: usize, end: u32, room: u32) -> bool
 }
 
 impl Asking {
-    /// Returns whether the record goes with what is seen, if the block's memory has so many bytes.
+    /// Returns true if the record goes with `medium` and `view`, and with a block's memory of `room` bytes.
     #[inline(never)]
     pub(crate) fn is_fit(&self, room: usize, medium: &Mapped<'_>, view: &View) -> bool
         requires unit { medium.now.unit ≡ self.now.unit }
         requires sector { medium.now.sector ≡ self.now.sector }
-        requires view { IsView view.now self.now.noted (mapped (grain_of self.now.unit self.now.sector) medium.now.bytes.now) }
+        requires view { IsView view.now self.now.noted (mapped_medium (grain_of self.now.unit self.now.sector) medium.now.bytes.now) }
         ensures kept { (block held : List ℕ) → length block ≡ room → HasRoom self.now.unit held →
             IsDeviceOn self.now block held medium.now.bytes.now → IsTrue result }
         ensures fits { IsTrue result → RoomForBlocks self.now room }

@@ -1,9 +1,9 @@
-//! A device that asks gets power.
+//! The calls that power a device on.
 ghost use Rattle.std.specs.Prelude.{◌≡◌, ℕ, List, IfSome, IfNone, None};
 ghost use Rattle.dfu_slots.specs.Image.{HasImage};
 ghost use Rattle.dfu_device.specs.DeviceView.{powered_on};
 ghost use Rattle.dfu_device.specs.Stage.{InDfuIdle};
-ghost use Rattle.dfu_asks.specs.Mapped.{grain_of, mapped};
+ghost use Rattle.dfu_asks.specs.Mapped.{grain_of, mapped_medium};
 ghost use Rattle.dfu_asks.specs.Lent.{lent};
 ghost use Rattle.dfu_asks.specs.Asks.{device_in, IsDevice};
 
@@ -12,18 +12,18 @@ use dfu_device::{Config, DeviceState};
 use dfu_slots::Unit;
 
 impl Asking {
-    /// A device that is powered on: in appIDLE, with no block, on flash that it reads. The flash is written in this unit, and erased in
-    /// sectors before, or if there are none written over in place. It reads the images, to see which is active.
+    /// Returns a device that is powered on: in appIDLE, with no block, on `flash`, of which the images are read, to see which is active.
+    /// The flash is written in units of `unit`, and erased before in sectors of `sector`, or if there are none written over in place.
     ///
     /// None exactly if the flash has no active image, or 2^32 bytes or more.
     pub fn power_on(config: Config, unit: Unit, sector: Sector, flash: &[u8]) -> Option<Asking>
-        ensures device { let m = mapped (grain_of unit sector) flash.now in (block held : List ℕ) →
+        ensures device { let m = mapped_medium (grain_of unit sector) flash.now in (block held : List ℕ) →
             IfSome result (λ a. device_in (lent a block held) flash.now ≡ powered_on config m) }
         ensures is { (block held : List ℕ) → IfSome result (λ a. IsDevice (lent a block held) flash.now) }
         ensures work { IfSome result (λ a. (a.work ≡ None) × (a.block_len ≡ 0) × (a.config ≡ config) × (a.unit ≡ unit)) }
         ensures sector { IfSome result (λ a. a.sector ≡ sector) }
         ensures fresh { IfSome result (λ a. (a.mode ≡ DeviceState.AppIdle) × (a.held_len ≡ 0) × (a.put_end ≡ 0)) }
-        ensures none { IfNone result (¬ HasImage (mapped (grain_of unit sector) flash.now)) }
+        ensures none { IfNone result (¬ HasImage (mapped_medium (grain_of unit sector) flash.now)) }
     {
         let noted = Noted::find(flash, unit, sector)?;
         Some(Asking {
@@ -39,18 +39,18 @@ impl Asking {
         })
     }
 
-    /// A device that is powered on and begins in dfuIDLE, as by `power_on`, a DETACH and a reset of the bus (USB DFU 1.1, section 5.1):
-    /// what a bootloader starts that was entered to take a download.
+    /// Returns a device that is powered on and begins in dfuIDLE, as by `power_on`, a DETACH and a reset of the bus (USB DFU 1.1, section
+    /// 5.1). A bootloader that was entered to take a download must start so.
     ///
     /// None exactly if the flash has no active image, or 2^32 bytes or more.
     pub fn begin(config: Config, unit: Unit, sector: Sector, flash: &[u8]) -> Option<Asking>
-        ensures device { let m = mapped (grain_of unit sector) flash.now in (block held : List ℕ) →
+        ensures device { let m = mapped_medium (grain_of unit sector) flash.now in (block held : List ℕ) →
             IfSome result (λ a. device_in (lent a block held) flash.now ≡ record (powered_on config m) { stage = InDfuIdle }) }
         ensures is { (block held : List ℕ) → IfSome result (λ a. IsDevice (lent a block held) flash.now) }
         ensures work { IfSome result (λ a. (a.work ≡ None) × (a.block_len ≡ 0) × (a.config ≡ config) × (a.unit ≡ unit)) }
         ensures sector { IfSome result (λ a. a.sector ≡ sector) }
         ensures fresh { IfSome result (λ a. (a.mode ≡ DeviceState.DfuIdle) × (a.held_len ≡ 0) × (a.put_end ≡ 0)) }
-        ensures none { IfNone result (¬ HasImage (mapped (grain_of unit sector) flash.now)) }
+        ensures none { IfNone result (¬ HasImage (mapped_medium (grain_of unit sector) flash.now)) }
     {
         let mut device = Asking::power_on(config, unit, sector, flash)?;
         device.mode = DeviceState::DfuIdle;

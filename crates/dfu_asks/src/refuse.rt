@@ -1,9 +1,9 @@
-//! The program of a device that asks refuses an image.
+//! The calls by which the program of a device refuses an image.
 ghost use Rattle.std.specs.Prelude.{◌≡◌, ◌↔◌, ℕ, List, not, IsTrue, IfOk, IfErr, OnOk, OnErr, IsSome};
 ghost use Rattle.dfu_device.specs.Rows.{ClosesDownload};
 ghost use Rattle.dfu_device.specs.Stage.{InError};
 ghost use Rattle.dfu_device.specs.Table.{objection_code, refuse_stage};
-ghost use Rattle.dfu_asks.specs.Lent.{lent, IsSetUpAs};
+ghost use Rattle.dfu_asks.specs.Lent.{lent, SameSetup};
 ghost use Rattle.dfu_asks.specs.Asks.{device_in, IsDevice};
 ghost use Rattle.dfu_asks.specs.Refused.{RoomForBlocks};
 
@@ -12,8 +12,8 @@ use crate::{Asking, Refusal};
 use dfu_device::{DeviceState, Objection};
 
 impl Asking {
-    /// The program refuses the image that this setup closes, as `Device::refuse_close`: true if it closes one, and then the caller stalls
-    /// the request. It needs neither the flash nor the memory of the block.
+    /// Refuses the image that `setup` closes, for `objection` of the program, as `Device::refuse_close`. Returns true if the setup closes
+    /// an image, and then the caller must stall the request. The call needs neither the flash nor the memory of the block.
     ///
     /// # Errors
     ///
@@ -29,7 +29,7 @@ impl Asking {
         ensures other { IfOk result (λ b. IsTrue (not b) → self.new ≡ self.old) }
         ensures work { OnOk result ((self.old.work ≡ None) × (self.new.work ≡ None)) }
         ensures asked { IfErr result (λ e. (e ≡ Refusal.Asked) × IsSome self.old.work) }
-        ensures same { IsSetUpAs self.old self.new }
+        ensures same { SameSetup self.old self.new }
         ensures unchanged { OnErr result (self.new ≡ self.old) }
     {
         if self.work.is_some() {
@@ -42,7 +42,8 @@ impl Asking {
         Ok(true)
     }
 
-    /// The program refuses the image that was closed, as `Device::refuse`. It needs neither the flash nor the memory of the block.
+    /// Refuses the image that was closed, for `objection` of the program, as `Device::refuse`. The call needs neither the flash nor the
+    /// memory of the block.
     ///
     /// # Errors
     ///
@@ -55,7 +56,7 @@ impl Asking {
         ensures fits { (room : ℕ) → OnOk result (RoomForBlocks self.old room → RoomForBlocks self.new room) }
         ensures work { OnOk result ((self.old.work ≡ None) × (self.new.work ≡ None)) }
         ensures asked { IfErr result (λ e. (e ≡ Refusal.Asked) × IsSome self.old.work) }
-        ensures same { IsSetUpAs self.old self.new }
+        ensures same { SameSetup self.old self.new }
         ensures unchanged { OnErr result (self.new ≡ self.old) }
     {
         if self.work.is_some() {

@@ -1,30 +1,30 @@
 //! The sectors of a flash, and how far a write has come with the erases before it.
 ghost use Rattle.std.specs.Prelude.{◌≡◌, ◌+◌, ◌%◌, ◌^◌, ◌≤◌, ◌<◌, IfSome, IfNone};
-ghost use Rattle.dfu_asks.specs.Position.{LeadsToErase, LeadsTo, LeadsInto};
+ghost use Rattle.dfu_asks.specs.Position.{LeadsToErase, LeadsToPosition, LeadsIntoPlainWrite};
 
 use dfu_slots::{MAX_SECTOR, PAGE};
 
-/// Bytes of flash that are erased at a time: 0 if it is written over in place, else a multiple of 256 up to 131,072.
+/// The number of bytes of flash that are erased at a time: 0 if the flash is written over in place, else a multiple of 256 up to 262,144.
 #[derive(Clone, Copy, Drop)]
 pub struct Sector {
     size: u32,
     ghost pages: { size % 256 ≡ 0 },
-    ghost most: { size ≤ 2 ^ 17 },
+    ghost most: { size ≤ 2 ^ 18 },
 }
 
 impl Sector {
-    /// The flash is written over in place, and never erased.
+    /// Returns the sector of a flash that is written over in place, and never erased.
     pub fn none() -> Sector
         ensures { result.size ≡ 0 }
     {
         Sector { size: 0 }
     }
 
-    /// Sectors of so many bytes; None if that is not a multiple of 256, or more than 131,072.
+    /// Returns the sector of `size` bytes; None if `size` is not a multiple of 256, or more than 262,144.
     pub fn new(size: u32) -> Option<Sector>
         ensures some { IfSome result (λ s. s.size ≡ size) }
-        ensures fits { IfSome result (λ s. (size % 256 ≡ 0) × (size ≤ 2 ^ 17)) }
-        ensures none { IfNone result ((size % 256 ≡ 0) → ¬ (size ≤ 2 ^ 17)) }
+        ensures fits { IfSome result (λ s. (size % 256 ≡ 0) × (size ≤ 2 ^ 18)) }
+        ensures none { IfNone result ((size % 256 ≡ 0) → ¬ (size ≤ 2 ^ 18)) }
     {
         if size % PAGE == 0 && size <= MAX_SECTOR {
             Some(Sector { size })
@@ -37,30 +37,30 @@ impl Sector {
     pub fn size(self) -> u32
         ensures value { result ≡ self.size }
         ensures pages { result % 256 ≡ 0 }
-        ensures most { result ≤ 2 ^ 17 }
+        ensures most { result ≤ 2 ^ 18 }
     {
         self.size
     }
 }
 
-/// The position after so many bytes of a write and of the erases before it.
+/// The position after a number of bytes of a write and of the erases before the write.
 #[derive(Clone, Copy, Drop)]
 pub(crate) enum Position {
-    /// So many bytes of a sector are to be erased there.
+    /// In the erase of a sector, of which `len` bytes are still to be erased, from `place` on.
     Erase {
-        /// Place of the first of them.
+        /// Place of the first byte that is still to be erased.
         place: u64,
         /// Number of bytes.
         len: usize,
     },
-    /// In the write, so many bytes after its first one.
+    /// In the write, `from` bytes after its first one.
     Program {
-        /// So many bytes of it are written.
+        /// Number of bytes of the write that are written already.
         from: usize,
     },
-    /// All is written, and so many bytes of what comes after it.
+    /// Behind the write, `rest` bytes into what comes after it.
     Behind {
-        /// So many bytes of that.
+        /// Number of bytes behind the end of the write.
         rest: usize,
     },
 }
@@ -69,19 +69,19 @@ pub(crate) enum Position {
 /// small processor does by a call.
 pub(crate) fn behind_edge(sector: u32, at: u64) -> u32
     requires some { 0 < sector }
-    requires most { sector ≤ 2 ^ 17 }
+    requires most { sector ≤ 2 ^ 18 }
     requires small { at < 2 ^ 43 }
     ensures { result ≡ at % sector }
 {
-    let high = (at / 32_768) as u32 % sector;
-    (high * 32_768 + (at % 32_768) as u32) % sector
+    let high = (at / 16_384) as u32 % sector;
+    (high * 16_384 + (at % 16_384) as u32) % sector
 }
 
 // The position after so many bytes of the erases that begin in a range.
 fn locate_erase(sector: u32, at: u64, len: usize, done: usize) -> Position
     requires some { 0 < sector }
     requires large { 1 < sector }
-    requires most { sector ≤ 2 ^ 17 }
+    requires most { sector ≤ 2 ^ 18 }
     requires small { at < 2 ^ 41 }
     requires short { len ≤ 4608 }
     ensures { LeadsToErase sector at len done result }
@@ -112,7 +112,7 @@ fn locate_erase(sector: u32, at: u64, len: usize, done: usize) -> Position
 
 // The position after so many bytes of a write of `len` bytes, past its erases.
 fn locate_write(len: usize, rest: usize) -> Position
-    ensures { LeadsInto len rest result }
+    ensures { LeadsIntoPlainWrite len rest result }
 {
     if rest < len {
         Position::Program { from: rest }
@@ -121,12 +121,12 @@ fn locate_write(len: usize, rest: usize) -> Position
     }
 }
 
-/// The position after so many bytes of a write of `len` bytes there and of the erases of the sectors that begin in its range.
+/// Returns the position after `done` bytes of a write of `len` bytes at `at` and of the erases of the sectors that begin in its range.
 #[inline(never)]
 pub(crate) fn locate(sector: Sector, at: u64, len: usize, done: usize) -> Position
     requires small { at < 2 ^ 41 }
     requires short { len ≤ 4608 }
-    ensures { LeadsTo sector.size at len done result }
+    ensures { LeadsToPosition sector.size at len done result }
 {
     let size = sector.size();
     if size == 0 {

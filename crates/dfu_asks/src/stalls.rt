@@ -1,16 +1,16 @@
-//! Tells before the body of a setup is there whether a device will stall it.
+//! The calls that tell, before the body of a setup is there, if a device will stall the setup.
 ghost use Rattle.std.specs.Prelude.{◌≡◌, ◌-◌, ◌*◌, ◌/◌, ℕ, List, length, Some, IfOk, IfErr, OnOk, IsSome, None};
 ghost use Rattle.dfu_device.specs.Stage.{Profile as TableProfile};
 ghost use Rattle.dfu_device.specs.Table.{plan};
-ghost use Rattle.dfu_device.specs.Rows.{meant};
+ghost use Rattle.dfu_device.specs.Rows.{request_for_table};
 ghost use Rattle.dfu_device.specs.Parts.{stage_of};
-ghost use Rattle.dfu_device.specs.Decision.{profile_in, plan_of, HasWrittenBytes, HasLength};
+ghost use Rattle.dfu_device.specs.Decision.{profile_in, plan_of, HasWrittenBytes, HasBodyLength};
 ghost use Rattle.dfu_slots.specs.Units.{gate_room};
 ghost use Rattle.dfu_asks.specs.Asks.{grain_in, device_in, IsDevice};
 ghost use Rattle.dfu_asks.specs.InMode.{IsDeviceIn};
 ghost use Rattle.dfu_asks.specs.Lent.{LentDevice, lent};
 ghost use Rattle.dfu_asks.specs.Mapped.{grain_of};
-ghost use Rattle.dfu_asks.specs.Verdict.{verdict, IsStallVerdict};
+ghost use Rattle.dfu_asks.specs.Verdict.{stall_verdict, IsStallVerdict};
 
 use crate::gates::gate_room;
 use crate::{Asking, Refusal, Sector};
@@ -20,7 +20,8 @@ use dfu_wire::{Request, Setup};
 
 // Returns whether a decision answers with a stall.
 fn stalls(decision: Decision) -> bool
-    ensures { (c : TableProfile) (image spare block body : List ℕ) → Some result ≡ verdict (plan_of c image spare block body decision) }
+    ensures { (c : TableProfile) (image spare block body : List ℕ)
+        → Some result ≡ stall_verdict (plan_of c image spare block body decision) }
 {
     match decision {
         Decision::Sure { reply, .. }
@@ -32,8 +33,8 @@ fn stalls(decision: Decision) -> bool
 
 // Returns whether a device of this profile stalls this request of the class in this mode, whatever body of the right length comes with it.
 fn will_stall(profile: &Profile, mode: DeviceState, request: Request) -> bool
-    ensures { (image spare unwritten body : List ℕ) → HasWrittenBytes mode spare → HasLength request body
-        → Some result ≡ verdict (plan (profile_in profile.now) image (stage_of mode spare unwritten) (meant request body)) }
+    ensures { (image spare unwritten body : List ℕ) → HasWrittenBytes mode spare → HasBodyLength request body
+        → Some result ≡ stall_verdict (plan (profile_in profile.now) image (stage_of mode spare unwritten) (request_for_table request body)) }
 {
     stalls(decide(profile, mode, request))
 }
@@ -45,8 +46,8 @@ fn room_in(unit: Unit, sector: Sector, size: usize) -> u64
     (size as u64 / 2).saturating_sub(2 * u64::from(gate_room(unit, sector)))
 }
 
-/// Returns whether a device of this configuration in this mode, on flash of so many bytes that is written in this unit and erased in these
-/// sectors, stalls this setup, as `Asking::would_stall`.
+/// Returns true if a device with `config` in `mode` stalls `setup`, as `Asking::would_stall`, on a flash of `size` bytes that is written
+/// in units of `unit` and erased in sectors of `sector`.
 pub fn mode_stalls(
     config: &Config,
     unit: Unit,
@@ -63,8 +64,8 @@ pub fn mode_stalls(
 }
 
 impl Asking {
-    /// Returns whether `handle` will stall this setup, whatever body of wLength bytes comes with it: true exactly if so (USB DFU 1.1,
-    /// appendix A). `size` is how many bytes the flash has. A stack that stalls a request before its data stage asks this first.
+    /// Returns true exactly if `handle` will stall `setup`, whatever body of wLength bytes comes with it (USB DFU 1.1, appendix A). `size`
+    /// is the number of bytes of the flash. A stack that stalls a request before its data stage must ask by this call first.
     ///
     /// # Errors
     ///

@@ -1,30 +1,29 @@
 //! Writes of a row that begins, and the test that flash is erased where it is programmed with no erase before.
-ghost use Rattle.std.specs.Prelude.{◌≡◌, ◌⊎◌, ◌+◌, ◌≤◌, ◌++◌, true, ℕ, List, Option, length, take, slice_range, Some, IsTrue, ◌^◌, ◌<◌, ◌↔◌, slice_index};
+ghost use Rattle.std.specs.Prelude.{◌≡◌, ◌⊎◌, ◌+◌, ◌≤◌, ◌++◌, true, ℕ, List, Option, length, take, slice_range, Some, IsTrue, ◌^◌, ◌<◌, ◌↔◌};
 ghost use Rattle.dfu_suffix.specs.Register.{register};
 ghost use Rattle.dfu_device.specs.Parts.{stage_of, is_put};
 ghost use Rattle.dfu_asks.specs.declared.pending_writes.PendingWrites.{PendingWrites};
-ghost use Rattle.dfu_asks.specs.Mapped.{grain_of, mapped};
+ghost use Rattle.dfu_asks.specs.Mapped.{grain_of, mapped_medium};
 ghost use Rattle.dfu_asks.specs.Noted.{IsView};
-ghost use Rattle.dfu_asks.specs.Lent.{lent, HasRoom, IsSetUpAs};
+ghost use Rattle.dfu_asks.specs.Lent.{lent, HasRoom, SameSetup};
 ghost use Rattle.dfu_asks.specs.Due.{DueRow, IsDueStage};
-ghost use Rattle.dfu_asks.specs.Asks.{device_in, store_in, IsDevice, IsBlockJob, IsCommitJob, IsJobOf};
-ghost use Rattle.dfu_asks.specs.Calls.{DeviceCalled, HasAtMost};
-ghost use Rattle.dfu_asks.specs.Ahead.{IsStretch, IsClear};
+ghost use Rattle.dfu_asks.specs.Asks.{device_in, flash_store, IsDevice, IsBlockJob, IsCommitJob, IsJobOfMode};
+ghost use Rattle.dfu_asks.specs.Calls.{DeviceCalled, AnswerHasAtMost};
+ghost use Rattle.dfu_asks.specs.Ahead.{IsStretchToSector, IsErasedAhead};
 
 use crate::noted::View;
 use crate::sector::behind_edge;
 use crate::{Asking, Mapped, PendingWrites, Reply, Sector, SlotWrite};
 use dfu_device::DeviceState;
-use dfu_slots::{WriteFault, data_at, is_open};
-use dfu_suffix::Crc;
+use dfu_slots::{WriteFault, crc_of_flash, data_at, is_flash_erased, is_open};
 
 // Returns the end of so many bytes from there on, or the place at which the first sector begins among them.
 fn stretch_end(size: u32, at: u64, len: u64) -> u64
     requires some { 0 < size }
-    requires most { size ≤ 2 ^ 17 }
+    requires most { size ≤ 2 ^ 18 }
     requires small { at < 2 ^ 43 }
     requires short { len < 2 ^ 43 }
-    ensures { IsStretch size at len result }
+    ensures { IsStretchToSector size at len result }
 {
     let behind = behind_edge(size, at);
     if behind == 0 {
@@ -33,31 +32,18 @@ fn stretch_end(size: u32, at: u64, len: u64) -> u64
     at + len.min(u64::from(size - behind))
 }
 
-// Returns whether these bytes of flash are FFh.
-fn are_erased(flash: &[u8], from: usize, to: usize) -> bool
-    requires { to ≤ length flash.now }
-    ensures { IsTrue result ↔ ((p : ℕ) → from ≤ p → p < to → slice_index flash.now p ≡ 255) }
-{
-    for i in from..to {
-        if flash[i] != 0xff {
-            return false;
-        }
-    }
-    true
-}
-
 // Returns whether so many bytes from there on are FFh, up to the sector that begins next; flash without sectors is written over.
 fn is_clear(flash: &[u8], sector: Sector, at: u64, len: u64) -> bool
     requires small { at < 2 ^ 43 }
     requires short { len < 2 ^ 43 }
-    ensures { IsTrue result ↔ IsClear sector.size flash.now at len }
+    ensures { IsTrue result ↔ IsErasedAhead sector.size flash.now at len }
 {
     let size = sector.size();
     if size == 0 {
         return true;
     }
     let end = stretch_end(size, at, len).min(flash.len() as u64);
-    are_erased(flash, at as usize, end as usize)
+    is_flash_erased(flash, at as usize, end as usize)
 }
 
 // The register over bytes of flash, and these after them.
@@ -65,8 +51,7 @@ fn register_of(flash: &[u8], from: usize, size: usize, held: &[u8]) -> u32
     requires { from + size ≤ length flash.now }
     ensures { result ≡ register (slice_range flash.now from (from + size) ++ held.now) }
 {
-    let mut crc = Crc::new();
-    crc.update_small(&flash[from..from + size]);
+    let mut crc = crc_of_flash(&flash[from..from + size]);
     crc.update_small(held);
     crc.value()
 }
@@ -76,12 +61,12 @@ impl Asking {
     fn commit_job(&self, held: &[u8], medium: &Mapped<'_>, view: &View) -> SlotWrite
         requires unit { medium.now.unit ≡ self.now.unit }
         requires sector { medium.now.sector ≡ self.now.sector }
-        requires view { IsView view.now self.now.noted (mapped (grain_of self.now.unit self.now.sector) medium.now.bytes.now) }
+        requires view { IsView view.now self.now.noted (mapped_medium (grain_of self.now.unit self.now.sector) medium.now.bytes.now) }
         requires end { self.now.put_end ≤ view.now.room }
         requires held { self.now.held_len ≤ self.now.put_end }
         requires memory { HasRoom self.now.unit held.now }
         ensures { (block : List ℕ) → let a = lent self.now block held.now in IsDevice a medium.now.bytes.now →
-            IsCommitJob self.now.put_end (store_in a medium.now.bytes.now) result self.now.put_end a.held }
+            IsCommitJob self.now.put_end (flash_store a medium.now.bytes.now) result self.now.put_end a.held }
     {
         let from = data_at(medium, view.spare) as usize;
         let size = self.put_end as usize - self.held_len;
@@ -97,8 +82,8 @@ impl Asking {
     fn block_job(&self, written: u32, medium: &Mapped<'_>, view: &View) -> (SlotWrite, usize, u32)
         requires unit { medium.now.unit ≡ self.now.unit }
         requires sector { medium.now.sector ≡ self.now.sector }
-        requires view { IsView view.now self.now.noted (mapped (grain_of self.now.unit self.now.sector) medium.now.bytes.now) }
-        ensures job { (block held : List ℕ) → let s = store_in (lent self.now block held) medium.now.bytes.now in
+        requires view { IsView view.now self.now.noted (mapped_medium (grain_of self.now.unit self.now.sector) medium.now.bytes.now) }
+        ensures job { (block held : List ℕ) → let s = flash_store (lent self.now block held) medium.now.bytes.now in
             IsDevice (lent self.now block held) medium.now.bytes.now → (written ≡ 0) ⊎ (is_put written s ≡ true) →
             IsBlockJob written s result.0 result.2 (take result.1 held) }
         ensures few { result.1 ≤ 256 }
@@ -121,13 +106,13 @@ impl Asking {
     fn begin_job(&self, held: &[u8], medium: &Mapped<'_>, view: &View) -> (SlotWrite, usize, u32)
         requires unit { medium.now.unit ≡ self.now.unit }
         requires sector { medium.now.sector ≡ self.now.sector }
-        requires view { IsView view.now self.now.noted (mapped (grain_of self.now.unit self.now.sector) medium.now.bytes.now) }
+        requires view { IsView view.now self.now.noted (mapped_medium (grain_of self.now.unit self.now.sector) medium.now.bytes.now) }
         requires end { self.now.put_end ≤ view.now.room }
         requires held { self.now.held_len ≤ self.now.put_end }
         requires memory { HasRoom self.now.unit held.now }
         ensures due { (block spare unwritten : List ℕ) (asked : Option ℕ) (len : ℕ) → let a = lent self.now block held.now in
             IsDevice a medium.now.bytes.now → IsDueStage (stage_of self.now.mode spare unwritten) asked len →
-            IsJobOf self.now.mode (store_in a medium.now.bytes.now) result.0 result.2 (take result.1 held.now) }
+            IsJobOfMode self.now.mode (flash_store a medium.now.bytes.now) result.0 result.2 (take result.1 held.now) }
         ensures few { result.1 ≤ 256 }
     {
         match self.mode {
@@ -145,7 +130,7 @@ impl Asking {
     fn is_ahead(&self, end: u32, medium: &Mapped<'_>, view: &View) -> bool
         requires unit { medium.now.unit ≡ self.now.unit }
         requires sector { medium.now.sector ≡ self.now.sector }
-        requires view { IsView view.now self.now.noted (mapped (grain_of self.now.unit self.now.sector) medium.now.bytes.now) }
+        requires view { IsView view.now self.now.noted (mapped_medium (grain_of self.now.unit self.now.sector) medium.now.bytes.now) }
         requires end { self.now.put_end ≤ view.now.room }
         requires held { self.now.held_len ≤ self.now.put_end }
         ensures { (block held : List ℕ) → HasRoom self.now.unit held → IsDevice (lent self.now block held) medium.now.bytes.now →
@@ -159,8 +144,8 @@ impl Asking {
         is_clear(medium.bytes, self.sector, u64::from(at), len as u64)
     }
 
-    /// Begins the work of the row that is due. If what it programs behind the puts is not erased, so that what is kept is no device on
-    /// this flash, the row ends with NotVerified, and nothing is written.
+    /// Begins the work of the row that is due. Nothing is written, and the row ends with NotVerified, if the flash behind the bytes put so
+    /// far is not erased: for example because somebody else has written there.
     pub(crate) fn start(
         &mut self,
         asked: Option<u16>,
@@ -173,7 +158,7 @@ impl Asking {
         requires room { 6 ≤ length out.old }
         requires unit { medium.now.unit ≡ self.old.unit }
         requires sector { medium.now.sector ≡ self.old.sector }
-        requires view { IsView view.now self.old.noted (mapped (grain_of self.old.unit self.old.sector) medium.now.bytes.now) }
+        requires view { IsView view.now self.old.noted (mapped_medium (grain_of self.old.unit self.old.sector) medium.now.bytes.now) }
         requires end { self.old.put_end ≤ view.now.room }
         requires held { self.old.held_len ≤ self.old.put_end }
         requires memory { HasRoom self.old.unit held.old }
@@ -182,8 +167,8 @@ impl Asking {
             (len : ℕ) → IsDevice a flash → IsDueStage (device_in a flash).stage asked len →
             DeviceCalled a flash out.old (DueRow len) (lent self.new block.now held.new) out.new result }
         ensures first { result ≡ Reply.Asks → (w : PendingWrites) × (self.new.work ≡ Some w) × (w.done ≡ 0) }
-        ensures few { HasAtMost 6 result }
-        ensures same { IsSetUpAs self.old self.new }
+        ensures few { AnswerHasAtMost 6 result }
+        ensures same { SameSetup self.old self.new }
         ensures block { self.new.block_len ≡ self.old.block_len }
     {
         let (job, held_len, put_end) = self.begin_job(held, medium, view);

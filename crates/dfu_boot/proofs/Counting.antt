@@ -2,76 +2,89 @@
 use Rattle.std.proofs.Common.{◌≡◌, ⊎_elim, ℕ, zero, suc, ◌+◌, ◌≤◌, ◌<◌, Bool, true, false, ◌∙◌, ap, arith, if◌then◌else◌}
 use Rattle.std.proofs.lemmas.Bool.{cases_Bool, cases_lt}
 use Rattle.dfu_slots.specs.Medium.{MediumState}
-use Rattle.dfu_boot.specs.trial.Marks.{is_set, set_from}
+use Rattle.dfu_boot.specs.trial.Marks.{is_mark_set, marks_set_in_row}
 
--- A mark that is set counts, with those after it.
-counts_on : (m : MediumState) (at i most : ℕ) → is_set m at i ≡ true → set_from m at i (suc most) ≡ set_from m at (i + 1) most + 1
-counts_on m at i most set = ap (λ (b : Bool). if b then set_from m at (i + 1) most + 1 else 0) set
+-- A mark that is set counts one, and the marks after it are counted.
+set_mark_is_counted : (m : MediumState) (at i most : ℕ) → is_mark_set m at i ≡ true
+    → marks_set_in_row m at i (suc most) ≡ marks_set_in_row m at (i + 1) most + 1
+set_mark_is_counted m at i most set = ap (λ (b : Bool). if b then marks_set_in_row m at (i + 1) most + 1 else 0) set
 
--- At one that is not the count ends.
-counts_none : (m : MediumState) (at i most : ℕ) → is_set m at i ≡ false → set_from m at i (suc most) ≡ 0
-counts_none m at i most unset = ap (λ (b : Bool). if b then set_from m at (i + 1) most + 1 else 0) unset
+-- The count ends at a mark that is not set.
+unset_mark_ends_count : (m : MediumState) (at i most : ℕ) → is_mark_set m at i ≡ false → marks_set_in_row m at i (suc most) ≡ 0
+unset_mark_ends_count m at i most unset = ap (λ (b : Bool). if b then marks_set_in_row m at (i + 1) most + 1 else 0) unset
 
--- Of so many marks no more are set.
-pub at_most : (m : MediumState) (at i most : ℕ) → set_from m at i most ≤ most
-at_most m at i zero = omega arith
-at_most m at i (suc most) = ⊎_elim
-    (λ set. omega (arith, counts_on m at i most set, at_most m at (i + 1) most))
-    (λ unset. omega (arith, counts_none m at i most unset))
-    (cases_Bool (is_set m at i))
+-- Of `most` marks no more than `most` are set.
+pub at_most_all_marks : (m : MediumState) (at i most : ℕ) → marks_set_in_row m at i most ≤ most
+at_most_all_marks m at i zero = omega arith
+at_most_all_marks m at i (suc most) = ⊎_elim
+    (λ set. omega (arith, set_mark_is_counted m at i most set, at_most_all_marks m at (i + 1) most))
+    (λ unset. omega (arith, unset_mark_ends_count m at i most unset))
+    (cases_Bool (is_mark_set m at i))
 
--- If fewer are, the next one is not set.
-pub next_unset : (m : MediumState) (at i most : ℕ) → set_from m at i most < most → is_set m at (i + set_from m at i most) ≡ false
-next_unset m at i zero lt = absurd (omega (arith, lt))
-next_unset m at i (suc most) lt = ⊎_elim
+-- If fewer marks than `most` are set, the next mark is not set.
+pub next_mark_not_set : (m : MediumState) (at i most : ℕ) → marks_set_in_row m at i most < most
+    → is_mark_set m at (i + marks_set_in_row m at i most) ≡ false
+next_mark_not_set m at i zero lt = absurd (omega (arith, lt))
+next_mark_not_set m at i (suc most) lt = ⊎_elim
     (λ set.
-    let on = counts_on m at i most set in
-    let e : i + set_from m at i (suc most) ≡ i + 1 + set_from m at (i + 1) most = omega (arith, on) in
-    ap (λ (k : ℕ). is_set m at k) e ∙ next_unset m at (i + 1) most (omega (arith, on, lt)))
+    let on = set_mark_is_counted m at i most set in
+    let e : i + marks_set_in_row m at i (suc most) ≡ i + 1 + marks_set_in_row m at (i + 1) most = omega (arith, on) in
+    ap (λ (k : ℕ). is_mark_set m at k) e ∙ next_mark_not_set m at (i + 1) most (omega (arith, on, lt)))
     (λ unset.
-    let none = counts_none m at i most unset in
-    let e : i + set_from m at i (suc most) ≡ i = omega (arith, none) in
-    ap (λ (k : ℕ). is_set m at k) e ∙ unset)
-    (cases_Bool (is_set m at i))
+    let none = unset_mark_ends_count m at i most unset in
+    let e : i + marks_set_in_row m at i (suc most) ≡ i = omega (arith, none) in
+    ap (λ (k : ℕ). is_mark_set m at k) e ∙ unset)
+    (cases_Bool (is_mark_set m at i))
 
--- If the first one is not, none counts.
-pub none_counted : (m : MediumState) (at i most : ℕ) → (0 < most → is_set m at i ≡ false) → set_from m at i most ≡ 0
-none_counted m at i zero unset = omega arith
-none_counted m at i (suc most) unset = counts_none m at i most (unset (omega arith))
+-- If the first mark is not set, no mark counts.
+pub no_mark_counts : (m : MediumState) (at i most : ℕ) → (0 < most → is_mark_set m at i ≡ false) → marks_set_in_row m at i most ≡ 0
+no_mark_counts m at i zero unset = omega arith
+no_mark_counts m at i (suc most) unset = unset_mark_ends_count m at i most (unset (omega arith))
 
--- Each of them is set.
-pub each_set : (m : MediumState) (at i most k : ℕ) → i ≤ k → k < i + set_from m at i most → is_set m at k ≡ true
-each_set m at i zero k low high = absurd (omega (arith, low, high))
-each_set m at i (suc most) k low high = ⊎_elim
+-- Each mark that is counted is set.
+pub counted_mark_is_set : (m : MediumState) (at i most k : ℕ) → i ≤ k → k < i + marks_set_in_row m at i most → is_mark_set m at k ≡ true
+counted_mark_is_set m at i zero k low high = absurd (omega (arith, low, high))
+counted_mark_is_set m at i (suc most) k low high = ⊎_elim
     (λ set.
-    let on = counts_on m at i most set in
+    let on = set_mark_is_counted m at i most set in
     ⊎_elim
-    (λ later. each_set m at (i + 1) most k (omega (arith, later)) (omega (arith, high, on)))
-    (λ le. let e : k ≡ i = omega (arith, low, le) in ap (λ (x : ℕ). is_set m at x) e ∙ set)
+    (λ later. counted_mark_is_set m at (i + 1) most k (omega (arith, later)) (omega (arith, high, on)))
+    (λ le. let e : k ≡ i = omega (arith, low, le) in ap (λ (x : ℕ). is_mark_set m at x) e ∙ set)
     (cases_lt i k))
-    (λ unset. absurd (omega (arith, counts_none m at i most unset, low, high)))
-    (cases_Bool (is_set m at i))
+    (λ unset. absurd (omega (arith, unset_mark_ends_count m at i most unset, low, high)))
+    (cases_Bool (is_mark_set m at i))
 
--- So many that are set count.
-pub count_least : (m : MediumState) (at i most n : ℕ) → n ≤ most → ((k : ℕ) → i ≤ k → k < i + n → is_set m at k ≡ true)
-    → n ≤ set_from m at i most
-count_least m at i most zero le each = omega arith
-count_least m at i zero (suc n) le each = absurd (omega (arith, le))
-count_least m at i (suc most) (suc n) le each =
-    let on = counts_on m at i most (each i (omega arith) (omega arith)) in
-    omega (arith, on, count_least m at (i + 1) most n (omega (arith, le)) (λ k low high. each k (omega (arith, low)) (omega (arith, high))))
+-- If the first n marks are set, n marks at least are counted.
+pub set_marks_are_counted : (m : MediumState) (at i most n : ℕ) → n ≤ most → ((k : ℕ) → i ≤ k → k < i + n → is_mark_set m at k ≡ true)
+    → n ≤ marks_set_in_row m at i most
+set_marks_are_counted m at i most zero le each = omega arith
+set_marks_are_counted m at i zero (suc n) le each = absurd (omega (arith, le))
+set_marks_are_counted m at i (suc most) (suc n) le each =
+    let on = set_mark_is_counted m at i most (each i (omega arith) (omega arith)) in
+    omega (
+      arith,
+      on,
+      set_marks_are_counted m at (i + 1) most n (omega (arith, le)) (λ k low high. each k (omega (arith, low)) (omega
+          (arith, high))),
+    )
 
--- Media whose marks agree have as many.
-pub count_same : (m n : MediumState) (at i most : ℕ) → ((k : ℕ) → i ≤ k → k < i + most → is_set n at k ≡ is_set m at k)
-    → set_from n at i most ≡ set_from m at i most
-count_same m n at i zero same = omega arith
-count_same m n at i (suc most) same = ⊎_elim
+-- If the marks of two media agree, their counts are equal.
+pub equal_marks_equal_count : (m n : MediumState) (at i most : ℕ) → ((k : ℕ) → i ≤ k → k < i + most → is_mark_set n at k
+    ≡ is_mark_set m at k)
+    → marks_set_in_row n at i most ≡ marks_set_in_row m at i most
+equal_marks_equal_count m n at i zero same = omega arith
+equal_marks_equal_count m n at i (suc most) same = ⊎_elim
     (λ set.
     omega (
       arith,
-      counts_on m at i most set,
-      counts_on n at i most (same i (omega arith) (omega arith) ∙ set),
-      count_same m n at (i + 1) most (λ k low high. same k (omega (arith, low)) (omega (arith, high))),
+      set_mark_is_counted m at i most set,
+      set_mark_is_counted n at i most (same i (omega arith) (omega arith) ∙ set),
+      equal_marks_equal_count m n at (i + 1) most (λ k low high. same k (omega (arith, low)) (omega (arith, high))),
     ))
-    (λ unset. omega (arith, counts_none m at i most unset, counts_none n at i most (same i (omega arith) (omega arith) ∙ unset)))
-    (cases_Bool (is_set m at i))
+    (λ unset. omega (
+      arith,
+      unset_mark_ends_count m at i most unset,
+      unset_mark_ends_count n at i most (same i (omega arith) (omega arith)
+          ∙ unset),
+    ))
+    (cases_Bool (is_mark_set m at i))

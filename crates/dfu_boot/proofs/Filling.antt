@@ -1,40 +1,41 @@
--- The bytes of a piece.
+-- Bytes of a piece.
 use Rattle.std.proofs.Common.{◌≡◌, ℕ, ◌+◌, ◌-◌, ◌<◌, min, List, ◌++◌, length, take, drop, replicate, slice_index, length-drop, ap, ◌∙◌, arith}
 use Rattle.std.proofs.lemmas.List.{drop-replicate, drop_min, take_min, take_rest, length-take, get_or-take, get_or-drop}
 use Rattle.std.proofs.Math.ListN.{get_or-append}
 use Rattle.dfu_boot.specs.install.Area.{program_piece}
 
--- A buffer of FFh, to whose front bytes were copied.
-pub filled_up : (bytes copied : List ℕ) (most : ℕ) → copied ≡ bytes
+-- A buffer of FFh to whose front bytes were copied has those bytes, and FFh after them.
+pub buffer_filled_with_ff : (bytes copied : List ℕ) (most : ℕ) → copied ≡ bytes
     → copied ++ drop (length bytes) (replicate most 255) ≡ bytes ++ replicate (most - length bytes) 255
-filled_up bytes copied most is = λ i. is i ++ drop-replicate (length bytes) most 255 i
+buffer_filled_with_ff bytes copied most is = λ i. is i ++ drop-replicate (length bytes) most 255 i
 
--- The bytes are equally many, whichever of two numbers is the smaller.
-front_of : (xs : List ℕ) (n : ℕ) → take (min (length xs) n) xs ≡ take n xs
-front_of xs n = let e : min (length xs) n ≡ min n (length xs) = omega arith in ap (λ (k : ℕ). take k xs) e ∙ take_min n xs
+-- The front of a list has the same elements, whichever of its length and n is smaller.
+front_by_shorter_length : (xs : List ℕ) (n : ℕ) → take (min (length xs) n) xs ≡ take n xs
+front_by_shorter_length xs n = let e : min (length xs) n ≡ min n (length xs) = omega arith in ap (λ (k : ℕ). take k xs) e ∙ take_min n xs
 
 -- Rest of the image from a place on.
-rest_of : (image : List ℕ) (at : ℕ) → take (length image - min at (length image)) (drop (min at (length image)) image) ≡ drop at image
-rest_of image at = take_rest image (min at (length image)) ∙ drop_min at image
+rest_of_image_from : (image : List ℕ) (at : ℕ) → take (length image - min at (length image)) (drop (min at (length image)) image)
+    ≡ drop at image
+rest_of_image_from image at = take_rest image (min at (length image)) ∙ drop_min at image
 
--- The front of what is left, filled up, is the piece.
-pub piece_made : (image made : List ℕ) (at from end_ : ℕ) → from ≡ min at (length image)
+-- The front of the image's rest, filled up with FFh, is the piece.
+pub filled_rest_is_piece : (image made : List ℕ) (at from end_ : ℕ) → from ≡ min at (length image)
     → end_ ≡ min (length (take (length image - from) (drop from image))) 256
     → made ≡ take end_ (take (length image - from) (drop from image))
     ++ replicate (256 - length (take end_ (take (length image - from) (drop from image)))) 255
     → made ≡ program_piece image at
-piece_made image made at from end_ is_from is_end is =
+filled_rest_is_piece image made at from end_ is_from is_end is =
     let rest : List ℕ = take (length image - from) (drop from image) in
     let left : rest ≡ drop at image =
-    ap (λ (n : ℕ). take (length image - n) (drop n image)) is_from ∙ rest_of image at in
+    ap (λ (n : ℕ). take (length image - n) (drop n image)) is_from ∙ rest_of_image_from image at in
     let front : take end_ rest ≡ take 256 (drop at image) =
-    ap (λ (n : ℕ). take n rest) is_end ∙ front_of rest 256 ∙ ap (λ (l : List ℕ). take 256 l) left in
+    ap (λ (n : ℕ). take n rest) is_end ∙ front_by_shorter_length rest 256 ∙ ap (λ (l : List ℕ). take 256 l) left in
     is ∙ ap (λ (l : List ℕ). l ++ replicate (256 - length l) 255) front
 
 -- A piece has the bytes of the image, as far as the image goes.
-pub piece_has : (image : List ℕ) (at i : ℕ) → i < 256 → at + i < length image
+pub piece_has_image_bytes : (image : List ℕ) (at i : ℕ) → i < 256 → at + i < length image
     → slice_index (program_piece image at) i ≡ slice_index image (at + i)
-piece_has image at i few inside =
+piece_has_image_bytes image at i few inside =
     let bytes : List ℕ = take 256 (drop at image) in
     let long : i < length bytes = omega (arith, few, inside, length-take 256 (drop at image), length-drop at image) in
     get_or-append bytes (replicate (256 - length bytes) 255) 0 i long

@@ -1,38 +1,39 @@
--- A program costs one of the pieces that are left.
+-- Cost of a program: one of the pieces that are left.
 use Rattle.std.proofs.Common.{◌≡◌, ◌≢◌, ◌⊎◌, inl, inr, ◌<◌, ◌≤◌, ◌+◌, ◌*◌, ◌%◌, ℕ, suc, zero, List, length, slice_index, Some, sym, ◌∙◌, subst, arith}
 use Rattle.std.proofs.lemmas.Bool.{cases_lt}
-use Rattle.dfu_boot.specs.install.Allowed.{Differs}
-use Rattle.dfu_boot.specs.install.Area.{AreSame, AreBlank, start_of}
-use Rattle.dfu_boot.specs.install.Next.{IsReady, IsNext, IsProgramOf, look_from}
+use Rattle.dfu_boot.specs.install.Allowed.{ImageByteDiffers}
+use Rattle.dfu_boot.specs.install.Area.{RangeMatchesImage, RangeIsBlank, start_of}
+use Rattle.dfu_boot.specs.install.Next.{HasNoRefusal, IsNextDifference, IsProgramOf, search_start}
 use Rattle.dfu_boot.specs.install.Operations.{OutsideUnchanged}
-use Rattle.dfu_boot.proofs.WholeStarts.{whole_in, start_is_whole, start_is_near, start_keeps, part_fits, edge_is_whole}
-use Rattle.dfu_boot.proofs.Tidy.{IsTidy, IsToErase, HasLeft, Costs}
+use Rattle.dfu_boot.proofs.WholeStarts.{whole_in_pieces, part_start_is_multiple, place_before_part_end, part_start_not_before_edge, part_ends_by_edge, part_end_is_multiple}
+use Rattle.dfu_boot.proofs.Tidy.{IsTidySector, IsToErase, HasPiecesLeft, CostsAtMost}
 
--- Facts when a piece is programmed: it is in the sector of the last operation, and all between is done.
-pub record IsInside (image run : List ℕ) (sector last piece at : ℕ) : Type 0 where
-  pub ready : IsReady image run sector
+-- Facts of a piece that is programmed: it is in the sector of the last operation, and all bytes between are done.
+pub record IsDueProgram (image run : List ℕ) (sector last piece at : ℕ) : Type 0 where
+  pub ready : HasNoRefusal image run sector
   pub after : last ≤ piece
   pub sector_is : start_of sector last ≡ start_of sector piece
   pub is : piece ≡ start_of 256 at
   pub inside : at < length image
   pub from : last ≤ at
-  pub same : AreSame image run last at
+  pub same : RangeMatchesImage image run last at
   pub differs : slice_index run at ≢ slice_index image at
 
--- The first byte that differs is not before the last operation, since the piece is not.
-first_is_after : (image run : List ℕ) (last piece at : ℕ) → IsNext image run (look_from image (Some last)) at → piece ≡ start_of 256 at
-    → last ≤ piece → (last ≤ at) × AreSame image run last at × (at < length image) × (slice_index run at ≢ slice_index image at)
-first_is_after image run last piece at (inl d) is le =
+-- The first byte that differs is not before the last operation, because its piece is not.
+difference_after_last_operation : (image run : List ℕ) (last piece at : ℕ) → IsNextDifference image run (search_start image (Some last)) at
+    → piece ≡ start_of 256 at
+    → last ≤ piece → (last ≤ at) × RangeMatchesImage image run last at × (at < length image) × (slice_index run at ≢ slice_index image at)
+difference_after_last_operation image run last piece at (inl d) is le =
     let low : last ≤ at = omega (arith, is, le) in
-    let same : AreSame image run last at = λ i x y z. d.before i (omega (arith, x)) y z in
+    let same : RangeMatchesImage image run last at = λ i x y z. d.before i (omega (arith, x)) y z in
     (low, same, d.within, d.differs)
-first_is_after image run last piece at (inr (same, d)) is le =
+difference_after_last_operation image run last piece at (inr (same, d)) is le =
     absurd (omega (arith, is, le, d.within))
 
-pub is_inside : (image run : List ℕ) (sector last piece at : ℕ) → IsReady image run sector
-    → IsProgramOf image run sector (Some last) piece at → IsInside image run sector last piece at
-is_inside image run sector last piece at ready p =
-    let f = first_is_after image run last piece at p.next p.is p.may.0 in record {
+pub due_program_facts : (image run : List ℕ) (sector last piece at : ℕ) → HasNoRefusal image run sector
+    → IsProgramOf image run sector (Some last) piece at → IsDueProgram image run sector last piece at
+due_program_facts image run sector last piece at ready p =
+    let f = difference_after_last_operation image run last piece at p.next p.is p.may.0 in record {
       ready = ready;
       after = p.may.0;
       sector_is = p.may.1;
@@ -44,40 +45,41 @@ is_inside image run sector last piece at ready p =
     }
 
 -- The piece ends at the end of its sector, or before.
-pub piece_fits : (image run : List ℕ) (sector last piece at : ℕ) → IsInside image run sector last piece at
+pub piece_ends_in_its_sector : (image run : List ℕ) (sector last piece at : ℕ) → IsDueProgram image run sector last piece at
     → piece + 256 ≤ start_of sector piece + sector
-piece_fits image run sector last piece at p =
+piece_ends_in_its_sector image run sector last piece at p =
     let edge : ℕ = start_of sector piece + sector in
-    let whole : edge % sector ≡ 0 = edge_is_whole sector piece in
-    part_fits 256 piece edge (subst (λ (x : ℕ). x % 256 ≡ 0) (sym p.is) (start_is_whole 256 at))
-    (whole_in 256 sector edge p.ready.area.pieces whole) (start_is_near sector piece p.ready.area.some)
+    let whole : edge % sector ≡ 0 = part_end_is_multiple sector piece in
+    part_ends_by_edge 256 piece edge (subst (λ (x : ℕ). x % 256 ≡ 0) (sym p.is) (part_start_is_multiple 256 at))
+    (whole_in_pieces 256 sector edge p.ready.area.pieces whole) (place_before_part_end sector piece p.ready.area.some)
 
 -- A tidy sector stays tidy when its next piece is programmed.
-tidy_stays : (image run run' : List ℕ) (sector last piece at : ℕ) → IsInside image run sector last piece at
-    → OutsideUnchanged run run' piece (piece + 256) → AreSame image run' piece (piece + 256) → IsTidy image run sector last
-    → IsTidy image run' sector piece
-tidy_stays image run run' sector last piece at p leaves same tidy = record {
-  whole = subst (λ (x : ℕ). x % 256 ≡ 0) (sym p.is) (start_is_whole 256 at);
+program_keeps_sector_tidy : (image run run' : List ℕ) (sector last piece at : ℕ) → IsDueProgram image run sector last piece at
+    → OutsideUnchanged run run' piece (piece + 256) → RangeMatchesImage image run' piece (piece + 256) → IsTidySector image run sector last
+    → IsTidySector image run' sector piece
+program_keeps_sector_tidy image run run' sector last piece at p leaves same tidy = record {
+  whole = subst (λ (x : ℕ). x % 256 ≡ 0) (sym p.is) (part_start_is_multiple 256 at);
   done = done;
   here = inl same;
   blank = blank;
 }
   where
-    done : AreSame image run' (start_of sector piece) piece
+    done : RangeMatchesImage image run' (start_of sector piece) piece
     done i low high inside = leaves.others i (inl high) ∙ by_order (cases_lt i last)
       where
         by_order : (i < last) ⊎ (last ≤ i) → slice_index run i ≡ slice_index image i
         by_order (inl less) = tidy.done i (omega (arith, low, p.sector_is)) less inside
         by_order (inr le) = p.same i le (omega (arith, high, p.is)) inside
 
-    blank : AreBlank run' (piece + 256) (start_of sector piece + sector)
+    blank : RangeIsBlank run' (piece + 256) (start_of sector piece + sector)
     blank i low high =
         leaves.others i (inr low) ∙ tidy.blank i (omega (arith, low, p.after)) (omega (arith, high, p.sector_is))
 
--- The byte that differs after the program differed before.
-off_stays : (image run run' : List ℕ) (sector piece begins : ℕ) → OutsideUnchanged run run' piece (piece + 256)
-    → AreSame image run' piece (piece + 256) → Differs image run' begins (begins + sector) → Differs image run begins (begins + sector)
-off_stays image run run' sector piece begins leaves same off = record {
+-- A byte that differs after the program differed before.
+difference_was_before_program : (image run run' : List ℕ) (sector piece begins : ℕ) → OutsideUnchanged run run' piece (piece + 256)
+    → RangeMatchesImage image run' piece (piece + 256) → ImageByteDiffers image run' begins (begins + sector)
+    → ImageByteDiffers image run begins (begins + sector)
+difference_was_before_program image run run' sector piece begins leaves same off = record {
   at = off.at;
   after = off.after;
   before = off.before;
@@ -88,54 +90,60 @@ off_stays image run run' sector piece begins leaves same off = record {
     by_order : (off.at < piece) ⊎ (piece ≤ off.at) → slice_index run off.at ≡ slice_index image off.at
         → slice_index run' off.at ≡ slice_index image off.at
     by_order (inl less) e = leaves.others off.at (inl less) ∙ e
-    by_order (inr le) e = by_end (cases_lt off.at (piece + 256))
+    by_order (inr le) e = difference_by_piece_end (cases_lt off.at (piece + 256))
       where
-        by_end : (off.at < piece + 256) ⊎ (piece + 256 ≤ off.at) → slice_index run' off.at ≡ slice_index image off.at
-        by_end (inl less) = same off.at le less off.inside
-        by_end (inr beyond) = leaves.others off.at (inr beyond) ∙ e
+        difference_by_piece_end : (off.at < piece + 256) ⊎ (piece + 256 ≤ off.at) → slice_index run' off.at ≡ slice_index image off.at
+        difference_by_piece_end (inl less) = same off.at le less off.inside
+        difference_by_piece_end (inr beyond) = leaves.others off.at (inr beyond) ∙ e
 
--- No sector has to be erased that had not to be before.
-erase_stays : (image run run' : List ℕ) (sector last piece at begins : ℕ) → IsInside image run sector last piece at
-    → OutsideUnchanged run run' piece (piece + 256) → AreSame image run' piece (piece + 256)
+-- A sector that has to be erased after the program had to be before.
+to_erase_before_program : (image run run' : List ℕ) (sector last piece at begins : ℕ) → IsDueProgram image run sector last piece at
+    → OutsideUnchanged run run' piece (piece + 256) → RangeMatchesImage image run' piece (piece + 256)
     → IsToErase image run' sector (Some piece) begins → IsToErase image run sector (Some last) begins
-erase_stays image run run' sector last piece at begins p leaves same to_erase = record {
+to_erase_before_program image run run' sector last piece at begins p leaves same to_erase = record {
   whole = to_erase.whole;
-  off = off_stays image run run' sector piece begins leaves same to_erase.off;
-  untidy = λ tidy. to_erase.untidy (sym p.sector_is ∙ tidy.0, tidy_stays image run run' sector last piece at p leaves same tidy.1);
+  off = difference_was_before_program image run run' sector piece begins leaves same to_erase.off;
+  is_untidy = λ tidy. to_erase.is_untidy (
+    sym p.sector_is ∙ tidy.0,
+    program_keeps_sector_tidy image run run' sector last piece at p leaves
+        same tidy.1,
+  );
 }
 
--- The pieces that were left reach to the sector's end, this one among them.
-left_reaches : (image run : List ℕ) (sector last piece at left : ℕ) → IsInside image run sector last piece at
-    → HasLeft image run sector (Some last) left → start_of sector piece + sector ≤ piece + 256 * left
-left_reaches image run sector last piece at left p (inl most) = omega (arith, most, p.sector_is, p.after)
-left_reaches image run sector last piece at left p (inr (whole, same, most)) =
+-- The pieces that are left, this one among them, reach to the end of the sector.
+pieces_left_reach_sector_end : (image run : List ℕ) (sector last piece at left : ℕ) → IsDueProgram image run sector last piece at
+    → HasPiecesLeft image run sector (Some last) left → start_of sector piece + sector ≤ piece + 256 * left
+pieces_left_reach_sector_end image run sector last piece at left p (inl most) = omega (arith, most, p.sector_is, p.after)
+pieces_left_reach_sector_end image run sector last piece at left p (inr (whole, same, most)) =
     by_order (cases_lt at (last + 256))
   where
     by_order : (at < last + 256) ⊎ (last + 256 ≤ at) → start_of sector piece + sector ≤ piece + 256 * left
     by_order (inl less) = absurd (p.differs (same at p.from less p.inside))
     by_order (inr le) =
-        let later : last + 256 ≤ start_of 256 at = start_keeps 256 (last + 256) at (omega arith) (omega (arith, whole)) le in
+        let later : last + 256 ≤ start_of 256 at = part_start_not_before_edge 256 (last + 256) at (omega arith) (omega (arith, whole)) le in
         omega (arith, most, later, p.sector_is, p.is)
 
--- A program costs one of them.
-pub program_costs : (image run run' : List ℕ) (sector k last piece at most : ℕ) → IsInside image run sector last piece at
-    → OutsideUnchanged run run' piece (piece + 256) → AreSame image run' piece (piece + 256) → Costs image run sector k (Some last) most
-    → (least : ℕ) × ((suc least ≤ most) × Costs image run' sector k (Some piece) least)
-program_costs image run run' sector k last piece at most p leaves same costs =
-    by_left costs.left (left_reaches image run sector last piece at costs.left p costs.has) costs.enough
+-- A program costs one of the pieces that are left.
+pub program_costs_one_piece : (image run run' : List ℕ) (sector k last piece at most : ℕ) → IsDueProgram image run sector last piece at
+    → OutsideUnchanged run run' piece (piece + 256) → RangeMatchesImage image run' piece (piece + 256)
+    → CostsAtMost image run sector k (Some last) most
+    → (least : ℕ) × ((suc least ≤ most) × CostsAtMost image run' sector k (Some piece) least)
+program_costs_one_piece image run run' sector k last piece at most p leaves same costs =
+    cost_by_pieces_left costs.left (pieces_left_reach_sector_end image run sector last piece at costs.left p costs.has) costs.enough
   where
-    by_left : (left : ℕ) → start_of sector piece + sector ≤ piece + 256 * left → length costs.sectors * (1 + k) + left ≤ most
-        → (least : ℕ) × ((suc least ≤ most) × Costs image run' sector k (Some piece) least)
-    by_left zero reaches enough = absurd (omega (arith, reaches, piece_fits image run sector last piece at p))
-    by_left (suc left) reaches enough = (
+    cost_by_pieces_left : (left : ℕ) → start_of sector piece + sector ≤ piece + 256 * left → length costs.sectors * (1 + k) + left ≤ most
+        → (least : ℕ) × ((suc least ≤ most) × CostsAtMost image run' sector k (Some piece) least)
+    cost_by_pieces_left zero reaches enough = absurd (omega (arith, reaches, piece_ends_in_its_sector image run sector last piece at p))
+    cost_by_pieces_left (suc left) reaches enough = (
       length costs.sectors * (1 + k) + left,
       (
         omega (arith, enough),
         record {
           sectors = costs.sectors;
           left = left;
-          covers = λ i x. costs.covers i (erase_stays image run run' sector last piece at i p leaves same x);
-          has = inr (subst (λ (x : ℕ). x % 256 ≡ 0) (sym p.is) (start_is_whole 256 at), same, reaches);
+          has_each_to_erase = λ i x. costs.has_each_to_erase i (to_erase_before_program image run run' sector last piece at i p leaves same
+              x);
+          has = inr (subst (λ (x : ℕ). x % 256 ≡ 0) (sym p.is) (part_start_is_multiple 256 at), same, reaches);
           enough = omega arith;
         },
       ),

@@ -1,38 +1,38 @@
 -- Work that is left of a run area, as long as the medium works.
 use Rattle.std.proofs.Common.{◌≡◌, ◌⊎◌, ◌≤◌, ◌+◌, ◌*◌, ◌%◌, ℕ, suc, List, length, Option, Some, None}
-use Rattle.dfu_boot.specs.install.Allowed.{Differs}
-use Rattle.dfu_boot.specs.install.Area.{AreSame, AreBlank, start_of}
-use Rattle.dfu_boot.proofs.Members.{IsIn}
+use Rattle.dfu_boot.specs.install.Allowed.{ImageByteDiffers}
+use Rattle.dfu_boot.specs.install.Area.{RangeMatchesImage, RangeIsBlank, start_of}
+use Rattle.dfu_boot.proofs.Members.{IsInList}
 
--- The sector of this piece is as the last operation there left it: what is before the piece is done, what is after it is blank.
-pub record IsTidy (image run : List ℕ) (sector piece : ℕ) : Type 0 where
+-- A tidy sector, as the last operation in it left it: the bytes before the piece are done, and those after it are blank.
+pub record IsTidySector (image run : List ℕ) (sector piece : ℕ) : Type 0 where
   pub whole : piece % 256 ≡ 0
-  pub done : AreSame image run (start_of sector piece) piece
-  pub here : AreSame image run piece (piece + 256) ⊎ AreBlank run piece (piece + 256)
-  pub blank : AreBlank run (piece + 256) (start_of sector piece + sector)
+  pub done : RangeMatchesImage image run (start_of sector piece) piece
+  pub here : RangeMatchesImage image run piece (piece + 256) ⊎ RangeIsBlank run piece (piece + 256)
+  pub blank : RangeIsBlank run (piece + 256) (start_of sector piece + sector)
 
--- The last operation left the sector that begins there tidy.
+-- The last operation left the sector that begins at a place tidy.
 abbrev pub LeftTidy : List ℕ → List ℕ → ℕ → Option ℕ → ℕ → Type 0
 LeftTidy image run sector None begins = ⊥
-LeftTidy image run sector (Some last) begins = (start_of sector last ≡ begins) × IsTidy image run sector last
+LeftTidy image run sector (Some last) begins = (start_of sector last ≡ begins) × IsTidySector image run sector last
 
--- The sector that begins there has to be erased.
+-- The sector that begins at a place has to be erased: it has a difference, and was not left tidy.
 pub record IsToErase (image run : List ℕ) (sector : ℕ) (last : Option ℕ) (begins : ℕ) : Type 0 where
   pub whole : begins % sector ≡ 0
-  pub off : Differs image run begins (begins + sector)
-  pub untidy : ¬ LeftTidy image run sector last begins
+  pub off : ImageByteDiffers image run begins (begins + sector)
+  pub is_untidy : ¬ LeftTidy image run sector last begins
 
--- So many pieces may be programmed before the next erase.
-abbrev pub HasLeft : List ℕ → List ℕ → ℕ → Option ℕ → ℕ → Type 0
-HasLeft image run sector None left = Unit {0}
-HasLeft image run sector (Some last) left =
+-- Number of pieces that may be programmed before the next erase.
+abbrev pub HasPiecesLeft : List ℕ → List ℕ → ℕ → Option ℕ → ℕ → Type 0
+HasPiecesLeft image run sector None left = Unit {0}
+HasPiecesLeft image run sector (Some last) left =
     (start_of sector last + sector ≤ last + 256 * left)
-    ⊎ ((last % 256 ≡ 0) × AreSame image run last (last + 256) × (start_of sector last + sector ≤ last + 256 * suc left))
+    ⊎ ((last % 256 ≡ 0) × RangeMatchesImage image run last (last + 256) × (start_of sector last + sector ≤ last + 256 * suc left))
 
--- At most so many operations are left, in sectors of k pieces.
-pub record Costs (image run : List ℕ) (sector k : ℕ) (last : Option ℕ) (most : ℕ) : Type 0 where
+-- Cost of what is left: at most `most` operations, in sectors of k pieces.
+pub record CostsAtMost (image run : List ℕ) (sector k : ℕ) (last : Option ℕ) (most : ℕ) : Type 0 where
   pub sectors : List ℕ
   pub left : ℕ
-  pub covers : (i : ℕ) → IsToErase image run sector last i → IsIn i sectors
-  pub has : HasLeft image run sector last left
+  pub has_each_to_erase : (i : ℕ) → IsToErase image run sector last i → IsInList i sectors
+  pub has : HasPiecesLeft image run sector last left
   pub enough : length sectors * (1 + k) + left ≤ most

@@ -1,4 +1,4 @@
--- The operation that is due of two areas is told.
+-- Operations of two areas that are due, as a call in C tells them.
 use Rattle.std.proofs.Common.{◌≡◌, ◌⊎◌, inl, ℕ, ℤ, List, subst}
 use Rattle.dfu_slots.specs.Medium.{MediumState}
 use Rattle.dfu_home.specs.declared.due.Due.{Due}
@@ -7,14 +7,15 @@ use Rattle.dfu_home.specs.Next.{IsNextDue}
 use Rattle.dfu_core.specs.declared.config.DfuConfig.{DfuConfig}
 use Rattle.dfu_core.specs.declared.records.DfuAsk.{DfuAsk}
 use Rattle.dfu_boot_c.specs.declared.home.numbers.DfuHomeRecord.{DfuHomeRecord}
-use Rattle.dfu_boot_c.specs.home.Flash.{home_state, progress_of, RefusesFlash}
-use Rattle.dfu_boot_c.specs.home.DueRecords.{HomeDueInAsk, HomeResult}
+use Rattle.dfu_boot_c.specs.home.Flash.{home_medium_state, progress_of, RefusesFlash}
+use Rattle.dfu_boot_c.specs.home.DueRecords.{HomeDueInAsk, HomeNextResult}
 
--- By the medium that the flash is, and by the progress that the record is.
-pub told : (c : DfuConfig) (r : DfuHomeRecord) (flash : List ℕ) (m : MediumState) (p : Progress) (due : Due) (n : ℤ) (before after : DfuAsk)
-    → m ≡ home_state c flash → p ≡ progress_of r → IsNextDue m p due → HomeDueInAsk (home_state c flash) due n before after
-    → HomeResult c r flash n before after ⊎ (RefusesFlash c flash n × (after ≡ before))
-told c r flash m p due n before after state progress does tells = inl (record {
+-- The call tells the operation that is due on the medium of the flash, with the progress of the record.
+pub home_operation_is_told : (c : DfuConfig) (r : DfuHomeRecord) (flash : List ℕ) (m : MediumState) (p : Progress) (due : Due) (n : ℤ)
+    (before after : DfuAsk)
+    → m ≡ home_medium_state c flash → p ≡ progress_of r → IsNextDue m p due → HomeDueInAsk (home_medium_state c flash) due n before after
+    → HomeNextResult c r flash n before after ⊎ (RefusesFlash c flash n × (after ≡ before))
+home_operation_is_told c r flash m p due n before after state progress does tells = inl (record {
   due = due;
   does = subst (λ (x : MediumState). IsNextDue x (progress_of r) due) state (subst (λ (q : Progress). IsNextDue m q due) progress does);
   tells = tells;

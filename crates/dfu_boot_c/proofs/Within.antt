@@ -1,39 +1,44 @@
--- The slots of a trial lie within the medium.
+-- Slots of a trial, which lie within the medium.
 use Rattle.std.proofs.Common.{◌≡◌, ⊎_elim, ℕ, ◌+◌, ◌≤◌, Bool, true, false, nat_lt, Some, length, refl, sym, subst, arith, if◌then◌else◌}
 use Rattle.dfu_slots.specs.Medium.{MediumState}
 use Rattle.dfu_slots.specs.Layout.{slot_size}
-use Rattle.dfu_boot.specs.trial.Calls.{sets, trial_start}
+use Rattle.dfu_boot.specs.trial.Calls.{mark_op, trial_start}
 use Rattle.dfu_boot.specs.trial.Again.{MatchesMedium}
 use Rattle.dfu_boot.specs.declared.trial.operation.Operation.TheVariants.{Close}
 use Rattle.dfu_boot.specs.declared.trial.standing.Trial.{Trial}
 use Rattle.dfu_boot.specs.declared.trial.standing.Standing.{Standing}
 use Rattle.dfu_boot.specs.declared.trial.standing.Standing.TheVariants as standing
 use Rattle.dfu_boot.specs.declared.trial.starting.Starting.{Starting}
-use Rattle.dfu_boot.proofs.Places.{turned, slot_in}
+use Rattle.dfu_boot.proofs.Places.{slot_places_symmetric, slot_ends_within_medium}
 
--- The slots of what starts end within the medium.
-abbrev pub AreWithin : MediumState → Starting → Type 0
-AreWithin m s = (s.slot + slot_size m.bytes ≤ length m.bytes) × (s.otherwise + slot_size m.bytes ≤ length m.bytes)
+-- The slot that starts, and the slot that starts otherwise, end within the medium.
+abbrev pub StartSlotsEndWithin : MediumState → Starting → Type 0
+StartSlotsEndWithin m s = (s.slot + slot_size m.bytes ≤ length m.bytes) × (s.otherwise + slot_size m.bytes ≤ length m.bytes)
 
 module _ (m : MediumState) (tries : ℕ) where
   on_trial : (t : Trial) → MatchesMedium m tries (standing.OnTrial t) → (b : Bool) → nat_lt t.starts tries ≡ b
-      → AreWithin m (trial_start m.grain tries (standing.OnTrial t))
+      → StartSlotsEndWithin m (trial_start m.grain tries (standing.OnTrial t))
   on_trial t fits b is =
-      let marks : Starting = record { operation = Some (sets m.grain t.slot (t.starts + 1)); slot = t.slot; otherwise = t.base } in
+      let marks : Starting = record { operation = Some (mark_op m.grain t.slot (t.starts + 1)); slot = t.slot; otherwise = t.base } in
       let gives_up : Starting = record { operation = Some (Close t.slot); slot = t.base; otherwise = t.base } in
-      let mine = slot_in m t.slot t.base fits.0 fits.1 in
-      let base = slot_in m t.base t.slot fits.0 (turned m.bytes t.slot t.base fits.1) in
-      subst (λ (x : Bool). AreWithin m (if x then marks else gives_up)) (sym is) (either b mine base)
+      let mine = slot_ends_within_medium m t.slot t.base fits.0 fits.1 in
+      let base = slot_ends_within_medium m t.base t.slot fits.0 (slot_places_symmetric m.bytes t.slot t.base fits.1) in
+      subst (λ (x : Bool). StartSlotsEndWithin m (if x then marks else gives_up)) (sym is) (either b mine base)
     where
       either : (b : Bool) → t.slot + slot_size m.bytes ≤ length m.bytes → t.base + slot_size m.bytes ≤ length m.bytes
-          → AreWithin m (if b then record { operation = Some (sets m.grain t.slot (t.starts + 1)); slot = t.slot; otherwise = t.base }
+          → StartSlotsEndWithin m (if b then record {
+            operation = Some (mark_op m.grain t.slot (t.starts + 1));
+            slot = t.slot;
+            otherwise =
+                t.base;
+          }
           else record { operation = Some (Close t.slot); slot = t.base; otherwise = t.base })
       either true mine base = (mine, base)
       either false mine base = (base, base)
 
-  pub starts_within : (s : Standing) → MatchesMedium m tries s → AreWithin m (trial_start m.grain tries s)
-  starts_within (standing.Settled s) fits =
+  pub trial_start_slots_end_within : (s : Standing) → MatchesMedium m tries s → StartSlotsEndWithin m (trial_start m.grain tries s)
+  trial_start_slots_end_within (standing.Settled s) fits =
       let within : s.slot + slot_size m.bytes ≤ length m.bytes =
       ⊎_elim (λ p. omega (arith, p, fits.0.even)) (λ p. omega (arith, p, fits.0.even)) fits.1 in
       (within, within)
-  starts_within (standing.OnTrial t) fits = on_trial t fits (nat_lt t.starts tries) refl
+  trial_start_slots_end_within (standing.OnTrial t) fits = on_trial t fits (nat_lt t.starts tries) refl

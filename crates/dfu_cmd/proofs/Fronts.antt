@@ -1,11 +1,11 @@
--- What a buffer has written.
+-- Bytes that a buffer has written.
 use Rattle.std.proofs.Common.{refl, sym, ℕ, List, None, Option, Some, IfSome}
 use Rattle.std.specs.Io.KnownBytes.{Keeps, append_known}
 use Rattle.dfu_cmd.specs.Buffering.{HasFront}
 
--- What the writer of a buffer got is a prefix of what was written, if that is known.
-pub front_out : (written behind : Option (List ℕ)) (buffer : List ℕ) → Keeps written (append_known behind buffer)
+-- The bytes that the writer got of a buffer are a prefix of those written into the buffer, if these are known.
+pub buffer_front_is_out : (written behind : Option (List ℕ)) (buffer : List ℕ) → Keeps written (append_known behind buffer)
     → IfSome written (λ w. HasFront w behind)
-front_out None behind buffer kept = tt
-front_out (Some w) None buffer kept = absurd kept
-front_out (Some w) (Some front) buffer kept = record { front = front; rest = buffer; whole = sym kept; out = refl }
+buffer_front_is_out None behind buffer kept = tt
+buffer_front_is_out (Some w) None buffer kept = absurd kept
+buffer_front_is_out (Some w) (Some front) buffer kept = record { front = front; rest = buffer; whole = sym kept; out = refl }

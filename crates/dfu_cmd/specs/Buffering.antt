@@ -5,14 +5,14 @@ use Rattle.dfu_output.specs.declared.exit.Exit.{Exit}
 use Rattle.dfu_output.specs.declared.exit.Exit.TheVariants.{Fault}
 use Rattle.dfu_cmd.specs.RunText.{WritesRun, WritesPrinted}
 
--- Of what was written these bytes are out, and they are a prefix of it.
+-- A prefix of what was written is out.
 pub record HasFront (written : List ℕ) (new : Option (List ℕ)) : Type 0 where
   pub front : List ℕ
   pub rest : List ℕ
   pub whole : written ≡ front ++ rest
   pub out : new ≡ Some front
 
--- The text that was written is out whole, and the end is that of the writing; or a prefix of it is out, and the end is a fault.
+-- The text that was written is out whole, and the result is that of writing; or a prefix of it is out, and the result is a fault.
 abbrev pub FlushResult : (written new : Option (List ℕ)) (end result : Exit) → Type 0
 FlushResult written new end result =
     (Keeps written new × (result ≡ end)) ⊎ (IfSome written (λ w. HasFront w new) × (result ≡ Fault))
@@ -23,4 +23,4 @@ pub record RunsBuffered (file given old new : Option (List ℕ)) (result : Exit)
   pub end : Exit
   pub run : WritesRun file given old written end
   pub printed : WritesPrinted file given old written end
-  pub comes_out : FlushResult written new end result
+  pub written_comes_out : FlushResult written new end result

@@ -4,22 +4,22 @@ use Rattle.dfu_fs.specs.declared.changing.Change.{Change}
 use Rattle.dfu_wire.specs.declared.ids.Ids.{Ids}
 use Rattle.dfu_wire.specs.Identifier.{identifier_in}
 
--- Three numbers are the identifiers of a device, if each of them is there.
-abbrev pub ids_in : (vendor product device : Option ℕ) → Option Ids
-ids_in (Some vendor) (Some product) (Some device) = Some (record { device = device; product = product; vendor = vendor })
-ids_in vendor product device = None
+-- Identifiers of three numbers, if each of them is there.
+abbrev pub ids_of_numbers : (vendor product device : Option ℕ) → Option Ids
+ids_of_numbers (Some vendor) (Some product) (Some device) = Some (record { device = device; product = product; vendor = vendor })
+ids_of_numbers vendor product device = None
 
--- Three texts are the identifiers of a device, if each is four hexadecimal digits.
+-- Identifiers of three texts, if each is four hexadecimal digits.
 abbrev pub ids_said : (vendor product device : List ℕ) → Option Ids
-ids_said vendor product device = ids_in (identifier_in vendor) (identifier_in product) (identifier_in device)
+ids_said vendor product device = ids_of_numbers (identifier_in vendor) (identifier_in product) (identifier_in device)
 
--- The first option whose text is no identifier, as a label, and the text.
+-- The first option whose text is no identifier, with its label.
 abbrev pub wrong_option : (vendor product device : List ℕ) → Option (List ℕ × List ℕ)
 wrong_option vendor product device =
     if is_some (identifier_in vendor) then (if is_some (identifier_in product) then (if is_some (identifier_in device) then None
     else Some (codes "--did ", device)) else Some (codes "--pid ", product)) else Some (codes "--vid ", vendor)
 
--- The identifiers that change: of each option that is given and is four hexadecimal digits the number. Any other stays.
+-- Change of identifiers: each option that is given, and is four hexadecimal digits, gives its number. Any other identifier stays.
 abbrev pub change_said : (vendor product device : Option (List ℕ)) → Change
 change_said vendor product device = record {
   vendor = option_and_then identifier_in vendor;

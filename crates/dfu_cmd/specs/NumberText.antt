@@ -5,10 +5,9 @@ use Rattle.dfu_suffix.specs.declared.fault.SuffixFault.TheVariants as suffix
 use Rattle.dfu_output.specs.declared.exit.Exit.{Exit}
 use Rattle.dfu_output.specs.declared.exit.Exit.TheVariants.{Refused}
 use Rattle.dfu_output.specs.AnswerLines.{fault_line}
-use Rattle.dfu_output.specs.Output.{Wrote}
+use Rattle.dfu_output.specs.Output.{TextIsOut}
 
--- A line that names a line of the script by its number is written, or, if there is no memory for that, the line that
--- says so.
+-- A line that names a line of the script by its number is written; or, if there is no memory for it, the line that says so.
 abbrev pub WritesNumber : List ℕ → ℕ → Option (List ℕ) → Option (List ℕ) → Exit → Type 0
 WritesNumber text n old new result =
-    Wrote old new (text ++ decimal n ++ 10 ∷ []) Refused result ⊎ Wrote old new (fault_line suffix.NoMemory) Refused result
+    TextIsOut old new (text ++ decimal n ++ 10 ∷ []) Refused result ⊎ TextIsOut old new (fault_line suffix.NoMemory) Refused result

@@ -1,7 +1,7 @@
 -- Reasons for which words are refused.
 use Rattle.std.specs.Prelude.{ℕ, List, codes}
 use Rattle.dfu_cmd.specs.declared.words.WordFault.{WordFault}
-use Rattle.dfu_cmd.specs.declared.words.WordFault.TheVariants.{Kind, Out, Place, Format, Fill, LoneFill, NoChange, File, Interface, Device}
+use Rattle.dfu_cmd.specs.declared.words.WordFault.TheVariants.{Kind, Out, Place, Format, Fill, LoneFill, NoChange, File, Interface, Device, Boot, Areas}
 
 -- Label of a word that has this fault, and the reason for which it is refused.
 abbrev pub label_and_why : WordFault → List ℕ × List ℕ
@@ -15,3 +15,5 @@ label_and_why NoChange = (codes "FILE ", codes "nothing is to change: give --vid
 label_and_why File = (codes "--file ", codes "the script is standard input already")
 label_and_why Interface = (codes "--interface ", codes "it has to be a number from 0 to 255")
 label_and_why Device = (codes "--device ", codes "it has to be only, or a bus and a device, as 1.7")
+label_and_why Boot = (codes "--boot ", codes "it has to be a size of at most 4,294,967,295 bytes, as 32k, 0x8000 or 32768")
+label_and_why Areas = (codes "--areas ", codes "it has to be 2 or 3")

@@ -26,8 +26,8 @@ pub fn run_buffered<R: Read + Drop, W: Write + Drop>(
     (exit, writer)
 }
 
-/// Does what `run_buffered` does, with the bytes of `file` as FILE, if there are any, and returns
-/// the fault at which the script stopped too.
+/// Does what `run_buffered` does, with the bytes of `file` as FILE, if it is given, and also returns the fault at which the script
+/// stopped.
 pub(crate) fn run_buffered_with_fault<R: Read + Drop, W: Write + Drop>(
     alloc: Global,
     file: Option<&[u8]>,

@@ -4,15 +4,16 @@ use crate::numbering::number_of;
 use dfu_conformance::captures::{Address, CaptureFault};
 use std::io::{self, Read};
 
-/// The most bytes of a capture.
+/// Largest number of bytes of a capture.
 pub(crate) const MAX_CAPTURE: usize = 16_777_216;
 
-/// The number of an interface, 0 to 255.
+/// Reads `word` as the number of an interface, 0 to 255; None if it is none.
 pub(crate) fn interface_in(word: &str) -> Option<u8> {
     u8::try_from(number_of(word)?).ok()
 }
 
-/// The address that `--device` says as BUS.DEVICE, up to 65,535 and 255; `Some(None)` if it is `only`, and `None` if it is neither.
+/// Reads `word`, the value of `--device`: `Some(Some(address))` for BUS.DEVICE, up to 65,535 and 255; `Some(None)` for `only`; and `None`
+/// for anything else.
 pub(crate) fn device_in(word: &str) -> Option<Option<Address>> {
     if word == "only" {
         return Some(None);
@@ -23,7 +24,7 @@ pub(crate) fn device_in(word: &str) -> Option<Option<Address>> {
     Some(Some(Address { bus, device }))
 }
 
-/// Bytes that were read, and the reader of those after them.
+/// The first bytes of a reader, which were read, and the reader of the bytes after them.
 #[derive(Drop)]
 pub(crate) struct Headed<R> {
     head: [u8; 4],
@@ -33,7 +34,7 @@ pub(crate) struct Headed<R> {
 }
 
 impl<R: Read + Drop> Headed<R> {
-    /// A reader whose first four bytes were read, or fewer if it has no more.
+    /// Returns a reader of all bytes of `rest`, of which the first four were read, or fewer if it has no more.
     pub(crate) fn new(mut rest: R) -> io::Result<Headed<R>> {
         let mut head = [0u8; 4];
         let mut to = 0usize;
@@ -55,7 +56,7 @@ impl<R: Read + Drop> Headed<R> {
         })
     }
 
-    /// The bytes that were read first.
+    /// Returns the first four bytes, or fewer if the reader had no more.
     pub(crate) fn head(&self) -> &[u8] {
         self.head.get(..self.to).unwrap_or(&[])
     }
@@ -74,7 +75,7 @@ impl<R: Read> Read for Headed<R> {
     }
 }
 
-/// The line of a capture that gives no log.
+/// Returns the line for a capture that gives no log because of `fault`.
 pub(crate) fn capture_line(fault: CaptureFault) -> &'static str {
     match fault {
         CaptureFault::NotUsbmon => "refused NotUsbmon\n",
@@ -85,7 +86,7 @@ pub(crate) fn capture_line(fault: CaptureFault) -> &'static str {
     }
 }
 
-/// Returns the reason in words for which a capture gives no log.
+/// Returns the reason in words for which a capture gives no log because of `fault`.
 pub(crate) fn capture_why(fault: CaptureFault) -> Option<&'static str> {
     match fault {
         CaptureFault::NotUsbmon => Some(

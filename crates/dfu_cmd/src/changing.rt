@@ -39,7 +39,7 @@ fn how_said(
     }
 }
 
-/// Adds a suffix, if the words can be used.
+/// Adds a suffix with the identifiers of `texts` to `file`, if the words can be used.
 pub(crate) fn perform_add<R: Files + Input + Print + AllocGlobal>(
     rt: &R,
     file: &str,
@@ -64,7 +64,7 @@ where
     }
 }
 
-/// The text of an option; one that isn't given counts as an identifier that is right.
+/// Returns the text of an option; `ffff`, an identifier that is right, if it isn't given.
 fn text_in(text: &Option<String>) -> &str {
     match text {
         Some(text) => text,
@@ -72,7 +72,7 @@ fn text_in(text: &Option<String>) -> &str {
     }
 }
 
-/// Changes identifiers, if the words can be used.
+/// Changes the identifiers of `file`, if the words can be used.
 pub(crate) fn perform_set<R: Files + Input + Print + AllocGlobal>(
     rt: &R,
     file: &str,

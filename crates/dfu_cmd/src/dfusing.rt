@@ -22,7 +22,7 @@ struct FollowedDevice {
 }
 
 impl FollowedDevice {
-    /// A device before the first byte of a log; `None` if an allocation was refused.
+    /// Returns a device before the first byte of a log; `None` if an allocation was refused.
     fn new(alloc: Global) -> Option<FollowedDevice> {
         Some(FollowedDevice {
             judge: DfuseJudge::new(),
@@ -33,7 +33,7 @@ impl FollowedDevice {
         })
     }
 
-    /// An event comes. If the device departs, it returns the departure.
+    /// Takes the next event of the log. Returns the departure if the device departs from DfuSe at `event`.
     fn come(&mut self, event: &LogEvent) -> Option<Departure> {
         self.events = self.events.saturating_add(1);
         match self.judge.take(event) {
@@ -50,7 +50,7 @@ impl FollowedDevice {
         }
     }
 
-    /// A byte comes. If it ends a line at which the device departs, it returns the departure.
+    /// Takes the next byte of the log, at `interface`. Returns the departure if `byte` ends a line at which the device departs from DfuSe.
     fn take(&mut self, interface: u8, byte: u8) -> Result<Option<Departure>, LogFault> {
         match self.lines.take(interface, byte)? {
             Some(Line::Came(event)) => Ok(self.come(&event)),
@@ -58,7 +58,7 @@ impl FollowedDevice {
         }
     }
 
-    /// The verdict on all events that came.
+    /// Returns the verdict on all events that were taken: NotKept if the device departed at one of them, and else Kept.
     fn verdict(&self) -> Verdict {
         if self.has_departed {
             Verdict::NotKept
@@ -68,7 +68,7 @@ impl FollowedDevice {
     }
 }
 
-/// A byte of the log comes, and a departure is written.
+/// Takes the next byte of the log, and writes a departure at the line that `byte` ends to `writer`.
 fn step<W: Write>(
     alloc: Global,
     interface: u8,
@@ -88,7 +88,7 @@ fn step<W: Write>(
     }
 }
 
-/// All of a log comes, and the end of its last line.
+/// Takes all bytes that `reader` gives, and the end of the last line, and writes the departures to `writer`.
 fn judge_all<R: Read + Drop, W: Write>(
     alloc: Global,
     interface: u8,
@@ -112,7 +112,7 @@ fn judge_all<R: Read + Drop, W: Write>(
     step(alloc, interface, followed, b'\n', writer)
 }
 
-/// Writes the verdict on all events that came.
+/// Writes the verdict on all events that were taken to `writer`.
 fn verdict_out<W: Write>(alloc: Global, followed: &FollowedDevice, writer: &mut W) -> Exit {
     let verdict = followed.verdict();
     let exit = match verdict {

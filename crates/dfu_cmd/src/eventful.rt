@@ -17,7 +17,7 @@ pub(crate) struct Eventful<W> {
 }
 
 impl<W> Eventful<W> {
-    /// An output to which nothing was written.
+    /// Returns an output before the first byte is written to `out`.
     pub(crate) fn new(out: W) -> Eventful<W> {
         Eventful {
             out,
@@ -31,7 +31,7 @@ impl<W> Eventful<W> {
         !self.is_passing && self.held == NONE.len()
     }
 
-    /// The output that it writes to.
+    /// Returns the output to which the bytes are passed on.
     pub(crate) fn behind(&mut self) -> &mut W {
         &mut self.out
     }

@@ -39,7 +39,7 @@ static FOREIGN: [Foreign; 19] = [
 /// Options of dfu-suffix that have a value, and stand before the file.
 static VALUED: [&str; 8] = ["-v", "--vid", "-p", "--pid", "-d", "--did", "-S", "--spec"];
 
-/// What stands for a word, if it is one of another program.
+/// Returns what to type in place of `word`, if it is a word of another program; else None.
 fn typed_for(word: &str) -> Option<&'static str> {
     for Foreign(name, typed) in &FOREIGN {
         if *name == word {
@@ -49,7 +49,7 @@ fn typed_for(word: &str) -> Option<&'static str> {
     None
 }
 
-/// Whether a word is an option that has a value.
+/// Returns true if `word` is an option that has a value.
 fn is_valued(word: &str) -> bool {
     for name in &VALUED {
         if *name == word {
@@ -59,8 +59,8 @@ fn is_valued(word: &str) -> bool {
     false
 }
 
-/// The line that says what to type, if the first word behind options that have values is one of another program. None too if there is
-/// no memory.
+/// Returns the line that says what to type, if the first of `words` behind options that have values is a word of another program. None if
+/// it is no such word, or if there is no memory.
 pub(crate) fn foreign_reason(alloc: Global, words: &[String]) -> Option<String> {
     let mut is_value = false;
     for word in words.get(1..)? {

@@ -2,20 +2,20 @@
 
 ghost use Rattle.std.specs.Prelude.{◌≡◌, IfOk, fold, map};
 ghost use Rattle.std.specs.String.{string_bytes};
-ghost use Rattle.dfu_cmd.specs.HexWords.{bare_digits, is_between, is_mark, step, word_step};
+ghost use Rattle.dfu_cmd.specs.HexWords.{bare_digits, is_between, is_hex_mark, digits_after_byte, digits_after_word};
 
 use std::alloc::{AllocError, Global};
 
-/// Returns whether a character separates bytes.
+/// Returns true if `byte` is a character that separates bytes.
 fn is_between(byte: u8) -> bool
     ensures { result ≡ is_between byte }
 {
     byte == b' ' || byte == b'\t' || byte == b'\n' || byte == b'\r' || byte == b':' || byte == b','
 }
 
-/// Returns whether a sign is the x of a 0x before a byte.
+/// Returns true if `byte`, after `digits`, is the x of a 0x before a byte.
 fn is_mark(digits: &[u8], byte: u8) -> bool
-    ensures { result ≡ is_mark digits.now byte }
+    ensures { result ≡ is_hex_mark digits.now byte }
 {
     if byte != b'x' && byte != b'X' || digits.len() % 2 != 1 {
         return false;
@@ -23,10 +23,10 @@ fn is_mark(digits: &[u8], byte: u8) -> bool
     digits[digits.len() - 1] == b'0'
 }
 
-/// The digits with one more sign.
-#[tactic(auto, using(std::proofs::lemmas::Bool::Decides::nat_tests), unfolding(crate::specs::HexWords::step))]
+/// Returns `digits` with one sign, `byte`, more.
+#[tactic(auto, using(std::proofs::lemmas::Bool::Decides::nat_tests), unfolding(crate::specs::HexWords::digits_after_byte))]
 fn stepped(mut digits: Vec<u8>, byte: u8) -> Result<Vec<u8>, AllocError>
-    ensures { IfOk result (λ v. v.items ≡ step digits.items byte) }
+    ensures { IfOk result (λ v. v.items ≡ digits_after_byte digits.items byte) }
 {
     if is_between(byte) {
         if digits.len() % 2 == 0 {
@@ -43,9 +43,9 @@ fn stepped(mut digits: Vec<u8>, byte: u8) -> Result<Vec<u8>, AllocError>
     Ok(digits)
 }
 
-/// The digits with one more word.
+/// Returns `digits` with one word, `word`, more.
 fn with_word(digits: Vec<u8>, word: &str) -> Result<Vec<u8>, AllocError>
-    ensures { IfOk result (λ v. v.items ≡ word_step digits.items word.now) }
+    ensures { IfOk result (λ v. v.items ≡ digits_after_word digits.items word.now) }
 {
     let mut digits = digits;
     for byte in word.as_bytes() {
@@ -54,8 +54,8 @@ fn with_word(digits: Vec<u8>, word: &str) -> Result<Vec<u8>, AllocError>
     stepped(digits, b' ')
 }
 
-/// The digits of bytes in words: without signs between bytes, as spaces, line ends, colons and commas, and without 0x before a byte. If a
-/// byte is parted, there is `?` in it, which is no digit.
+/// Returns the digits of the bytes in `words`: without signs between bytes, as spaces, line ends, colons and commas, and without 0x before
+/// a byte. If a byte is parted, the digits have `?` there, which is no digit.
 pub(crate) fn bare(alloc: Global, words: &[String]) -> Result<Vec<u8>, AllocError>
     ensures { IfOk result (λ v. v.items ≡ bare_digits (map string_bytes words.now)) }
 {

@@ -20,7 +20,7 @@ pub(crate) struct IdTexts<'t> {
 }
 
 impl<'t> IdTexts<'t> {
-    /// These texts.
+    /// Returns the texts `vendor`, `product` and `device` as one value.
     pub(crate) fn new(vendor: &'t str, product: &'t str, device: &'t str) -> IdTexts<'t>
         ensures vendor { result.vendor.now ≡ vendor.now }
         ensures product { result.product.now ≡ product.now }
@@ -34,7 +34,7 @@ impl<'t> IdTexts<'t> {
     }
 }
 
-/// The identifiers, if each text is four hexadecimal digits.
+/// Returns the identifiers that `texts` say; None if a text is not four hexadecimal digits.
 pub(crate) fn ids_said(texts: &IdTexts<'_>) -> Option<Ids>
     ensures { result ≡ ids_said texts.now.vendor.now texts.now.product.now texts.now.device.now }
 {
@@ -48,7 +48,7 @@ pub(crate) fn ids_said(texts: &IdTexts<'_>) -> Option<Ids>
     })
 }
 
-/// The first option whose text is no identifier, as a label, and the text.
+/// Returns the first option of `texts` whose text is no identifier, as a label, and the text; None if each is one.
 pub(crate) fn wrong_option<'t>(texts: &IdTexts<'t>) -> Option<(&'static str, &'t str)>
     ensures { option_map (λ o. (o.0.now, o.1.now)) result
         ≡ wrong_option texts.now.vendor.now texts.now.product.now texts.now.device.now }
@@ -65,7 +65,7 @@ pub(crate) fn wrong_option<'t>(texts: &IdTexts<'t>) -> Option<(&'static str, &'t
     None
 }
 
-/// The number of an option, if it is given and is four hexadecimal digits.
+/// Returns the number that `text` says; None if it is not given, or is not four hexadecimal digits.
 fn number_in(text: &Option<String>) -> Option<u16>
     ensures { result ≡ option_and_then identifier_in (option_map string_bytes text.now) }
 {
@@ -75,7 +75,7 @@ fn number_in(text: &Option<String>) -> Option<u16>
     }
 }
 
-/// The identifiers that change: of each text that is given and is four hexadecimal digits the number. Any other stays.
+/// Returns the change of identifiers: a number for each text that is given and is four hexadecimal digits. Every other identifier stays.
 pub(crate) fn change_said(
     vendor: &Option<String>,
     product: &Option<String>,

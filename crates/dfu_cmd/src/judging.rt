@@ -16,7 +16,7 @@ use std::alloc::Global;
 use std::io::{self, Printer, Read};
 use std::rt::Files;
 
-/// Returns the fault of a line, in words.
+/// Returns the fault `why` of a line, in words.
 fn fault_why(why: LineFault) -> &'static str {
     match why {
         LineFault::Long => "it has over 262,158 bytes",
@@ -30,7 +30,7 @@ fn fault_why(why: LineFault) -> &'static str {
     }
 }
 
-/// Returns the reason for which a log was judged no further, if its line doesn't say it.
+/// Returns the line of the reason for which log `name` was judged no further because of `fault`, if the line of the fault doesn't say it.
 fn stop_reason<S>(
     alloc: Global,
     name: &str,
@@ -61,11 +61,11 @@ fn stop_reason<S>(
 pub(crate) struct JudgeOptions {
     /// The number of the interface.
     pub interface: u8,
-    /// Of a capture the address, if one is named.
+    /// The address of the device of a capture, if one is named.
     pub only: Option<Address>,
-    /// Tells whether the device is to speak DfuSe.
+    /// True if the device is to speak DfuSe.
     pub dfuse: bool,
-    /// Tells whether each line is an object.
+    /// True if each line is an object.
     pub json: bool,
 }
 
@@ -81,7 +81,7 @@ pub(crate) struct Judged<'w> {
 }
 
 impl<'w> Judged<'w> {
-    /// A file with no name before its lines.
+    /// Returns the value for file `name`, without its name before the lines.
     fn bare(name: &'w str, how: JudgeOptions) -> Judged<'w> {
         Judged {
             name,
@@ -91,7 +91,7 @@ impl<'w> Judged<'w> {
     }
 }
 
-/// The output for the lines of what is judged.
+/// Returns the output for the lines of `judged`.
 pub(crate) fn output<'o, R: Print + AllocGlobal>(
     rt: &'o R,
     judged: Judged<'o>,
@@ -107,7 +107,7 @@ pub(crate) fn output<'o, R: Print + AllocGlobal>(
     )
 }
 
-/// Judges the log that a reader gives.
+/// Judges the log that `log` gives, and returns the outcome.
 pub(crate) fn judge_text_of<R: Print + AllocGlobal, S: Read + Drop>(
     rt: &R,
     judged: Judged<'_>,
@@ -136,7 +136,7 @@ pub(crate) fn judge_text_of<R: Print + AllocGlobal, S: Read + Drop>(
     Outcome { exit, reason }
 }
 
-/// Judges the log of a device that is in a capture.
+/// Judges the log of a device that is in `capture`, and returns the outcome.
 fn judge_bytes<R: Print + AllocGlobal>(rt: &R, judged: Judged<'_>, capture: &[u8]) -> Outcome {
     let alloc = rt.alloc();
     match log_of(alloc, capture, judged.how.interface, judged.how.only) {
@@ -145,7 +145,7 @@ fn judge_bytes<R: Print + AllocGlobal>(rt: &R, judged: Judged<'_>, capture: &[u8
     }
 }
 
-/// Judges the capture that a reader gives.
+/// Judges the capture that `capture` gives, and returns the outcome.
 fn judge_capture<R: Print + AllocGlobal, S: Read + Drop>(
     rt: &R,
     judged: Judged<'_>,
@@ -162,7 +162,7 @@ fn judge_capture<R: Print + AllocGlobal, S: Read + Drop>(
     }
 }
 
-/// A file or standard input that can't be read.
+/// Writes the line for a file or standard input that can't be read, and returns the outcome with the reason of `error`.
 pub(crate) fn unread<R: Print + AllocGlobal>(
     rt: &R,
     judged: Judged<'_>,
@@ -195,7 +195,7 @@ fn judge_file<R: Files + Input + Print + AllocGlobal>(rt: &R, judged: Judged<'_>
     }
 }
 
-/// Judges one of several files, with its name before each line.
+/// Judges file `name`, one of several, with its name before each line, and returns the outcome.
 fn judge_named<R: Files + Input + Print + AllocGlobal>(
     rt: &R,
     name: &str,

@@ -3,7 +3,7 @@
 use dfu_link::{Field, LineFault, Reason, SetupFault};
 use std::alloc::{AllocError, Global};
 
-/// Returns the words for the kind of word that a field takes.
+/// Returns the words for the kind of word that `field` takes.
 fn wanted(field: Field) -> &'static str {
     match field {
         Field::Identifier => "four hexadecimal digits",
@@ -20,7 +20,7 @@ fn wanted(field: Field) -> &'static str {
     }
 }
 
-/// Returns the fault of the words of a line, which has this many.
+/// Returns the text of `fault`, of a line that has `words` words.
 fn words_why(alloc: Global, fault: LineFault, words: usize) -> Result<String, AllocError> {
     let why = match fault {
         LineFault::Word(field, number) => {

@@ -19,7 +19,7 @@ pub(crate) struct LineEnds<R> {
     is_ended: bool,
 }
 
-/// Copies bytes up to a carriage return, as far as they fit. It returns how many it copied.
+/// Copies `bytes` up to a carriage return to `to`, as far as they fit. Returns the number of bytes copied.
 fn copied(bytes: &[u8], to: &mut [u8]) -> usize {
     let most = bytes.len().min(to.len());
     for at in 0..most {
@@ -33,7 +33,7 @@ fn copied(bytes: &[u8], to: &mut [u8]) -> usize {
 }
 
 impl<R> LineEnds<R> {
-    /// A reader from which nothing was read yet.
+    /// Returns a reader before the first byte is read from `reader`.
     pub(crate) fn new(reader: R) -> LineEnds<R> {
         LineEnds {
             reader,
@@ -45,7 +45,7 @@ impl<R> LineEnds<R> {
         }
     }
 
-    /// The next byte at hand, if any, which stays there.
+    /// Returns the next byte that was read and not given, and keeps it; None if there is none.
     fn ahead(&self) -> Option<u8> {
         if self.from < self.to {
             self.piece.get(self.from).copied()
@@ -54,7 +54,7 @@ impl<R> LineEnds<R> {
         }
     }
 
-    /// The next byte to give, if it is known.
+    /// Takes the next byte to give; None if it isn't known before more bytes are read.
     fn next(&mut self) -> Option<u8> {
         if self.is_returned {
             return self.after_return();
@@ -68,7 +68,8 @@ impl<R> LineEnds<R> {
         Some(byte)
     }
 
-    /// Gives the bytes at hand up to a carriage return, as far as they fit; or what stands for that. It returns how many it gave.
+    /// Writes the bytes that were read, up to a carriage return, to `buf`, as far as they fit; or the byte that stands for a carriage
+    /// return. Returns the number of bytes written.
     fn give(&mut self, buf: &mut [u8]) -> usize {
         let count = if self.is_returned {
             0
@@ -92,7 +93,8 @@ impl<R> LineEnds<R> {
         }
     }
 
-    /// The byte to give if a carriage return was read: the line feed after it, or it. Nothing is known if no byte is at hand yet.
+    /// Takes the byte to give after a carriage return was read: the line feed after it, or the carriage return. None if the byte after it
+    /// has to be read first.
     fn after_return(&mut self) -> Option<u8> {
         let ahead = self.ahead();
         if ahead.is_none() && !self.is_ended {
@@ -108,7 +110,7 @@ impl<R> LineEnds<R> {
 }
 
 impl<R: Read> LineEnds<R> {
-    /// Has bytes at hand, unless the reader has none left.
+    /// Reads bytes if none is left to give, unless the reader has ended.
     fn fill(&mut self) -> io::Result<()> {
         if self.from < self.to || self.is_ended {
             return Ok(());

@@ -18,9 +18,11 @@ mod identifiers;
 mod judging;
 mod line;
 mod line_ends;
+mod nearest;
 mod numbering;
 mod passes;
 mod performing;
+mod planning;
 mod prefixing;
 mod running;
 mod scripts;
@@ -40,10 +42,10 @@ use std::env::{Env, FillError};
 use std::io::{self, ErrorKind, IsTerminal};
 use std::process::ExitCode;
 
-/// The most bytes of a word that is looked at.
+/// Largest number of bytes of a word that is looked at.
 const WORD_BYTES: usize = 4096;
 
-/// The words of the command line.
+/// Returns the words of the command line.
 fn words_of(rt: &HostRuntime) -> io::Result<Vec<String>> {
     let mut words = Vec::new(rt.alloc());
     for word in std::env::args(rt)? {
@@ -102,7 +104,7 @@ fn refuse_word(rt: &HostRuntime, is_wanted: bool) -> Exit {
     exit
 }
 
-/// Words that can't be had: one of them isn't text, or there is no memory for them.
+/// Refuses words that can't be had: one of them isn't text, or there is no memory for them.
 fn refuse_words(rt: &HostRuntime, error: &io::Error, is_wanted: bool) -> Exit {
     match error.kind() {
         ErrorKind::InvalidData => refuse_word(rt, is_wanted),

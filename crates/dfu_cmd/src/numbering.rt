@@ -6,18 +6,23 @@ ghost use Rattle.std.specs.String.{string_bytes};
 ghost use Rattle.dfu_cmd.specs.NumberText.{WritesNumber};
 
 use dfu_output::{Exit, fault_text, write_out};
+use dfu_places::Areas;
 use dfu_suffix::SuffixFault;
 use std::alloc::{AllocError, Global};
 use std::io::Write;
 
-/// A text and a number after it.
+/// Returns the line of `text` and `number` after it.
+///
+/// # Errors
+///
+/// AllocError if there is no memory for the line.
 fn numbered(alloc: Global, text: &str, number: u32) -> Result<String, AllocError>
     ensures { IfOk result (λ t. string_bytes t ≡ text.now ++ decimal number ++ 10 ∷ []) }
 {
     format!(in alloc; "{text}{number}\n")
 }
 
-/// Writes the line that names a line of the script.
+/// Writes the line of `text` and `number`, that of a line of the script, to `writer`.
 pub(crate) fn number_text<W: Write>(alloc: Global, text: &str, number: u32, writer: &mut W) -> Exit
     ensures { WritesNumber text.now number (W.contents writer.old) (W.contents writer.new) result }
 {
@@ -27,7 +32,7 @@ pub(crate) fn number_text<W: Write>(alloc: Global, text: &str, number: u32, writ
     }
 }
 
-/// A number of 1 to 10 decimal digits, up to 4,294,967,295.
+/// Reads `word` as a number of 1 to 10 decimal digits, up to 4,294,967,295; None if it is anything else.
 pub(crate) fn number_of(word: &str) -> Option<u32> {
     let digits = word.as_bytes();
     if digits.len() > 10 || !digits.iter().all(|digit| digit.is_ascii_digit()) {
@@ -36,5 +41,14 @@ pub(crate) fn number_of(word: &str) -> Option<u32> {
     match word.parse::<u32>() {
         Ok(number) => Some(number),
         Err(_) => None,
+    }
+}
+
+/// Areas that the word `2` or `3` asks for.
+pub(crate) fn areas_in(word: &str) -> Option<Areas> {
+    match word {
+        "2" => Some(Areas::Two),
+        "3" => Some(Areas::Three),
+        _ => None,
     }
 }

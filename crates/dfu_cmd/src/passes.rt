@@ -9,7 +9,7 @@ use std::fs;
 use std::io::Error;
 use std::rt::Files;
 
-/// A capture that gives no log.
+/// Writes the line for a capture that gives no log because of `fault`, and returns the outcome with its reason.
 pub(crate) fn without_log<R: Print + AllocGlobal>(
     rt: &R,
     judged: Judged<'_>,
@@ -25,7 +25,7 @@ pub(crate) fn without_log<R: Print + AllocGlobal>(
     }
 }
 
-/// Whether a file can be read again from its beginning.
+/// Returns true if file `name` can be read again from its beginning.
 pub(crate) fn is_kept<R: Files>(rt: &R, name: &str) -> bool {
     if name == "-" {
         return false;
@@ -36,7 +36,7 @@ pub(crate) fn is_kept<R: Files>(rt: &R, name: &str) -> bool {
     }
 }
 
-/// What a pass over a capture found, or the outcome if that gives no log.
+/// Returns the devices that a pass over a capture `found`; else writes the line of the fault or the error, and returns the outcome.
 fn passed<R: Print + AllocGlobal>(
     rt: &R,
     judged: Judged<'_>,
@@ -49,7 +49,8 @@ fn passed<R: Print + AllocGlobal>(
     }
 }
 
-/// Reads the capture in a file twice: for the devices that it has, and for a fault, because no line of a log is judged if it has one.
+/// Reads the capture in file `judged` twice: for the devices that it has, and for a fault, because no line of a log is judged if the
+/// capture has a fault.
 fn looked_at<R: Files + Print + AllocGlobal>(
     rt: &R,
     judged: Judged<'_>,
@@ -67,7 +68,7 @@ fn looked_at<R: Files + Print + AllocGlobal>(
     passed(rt, judged, found)
 }
 
-/// Judges the capture in a file, of any size, in three passes over it.
+/// Judges the capture in file `judged`, of any size, in three passes over the file.
 pub(crate) fn judge_passes<R: Files + Print + AllocGlobal>(rt: &R, judged: Judged<'_>) -> Outcome {
     let devices = match looked_at(rt, judged) {
         Ok(devices) => devices,

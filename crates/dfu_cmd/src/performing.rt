@@ -1,4 +1,4 @@
-//! Does what the words of a command line ask for.
+//! The run of a command: the words of the command line are read, and what they ask for is done.
 
 use crate::captures::{device_in, interface_in};
 use crate::changing::{perform_add, perform_set};
@@ -6,6 +6,7 @@ use crate::foreign::foreign_reason;
 use crate::hexing::bare;
 use crate::identifiers::IdTexts;
 use crate::judging::{JudgeOptions, judge_files};
+use crate::planning::{PlanWords, perform_plan};
 use crate::scripts::{Ways, run_script};
 use crate::shown::{Remembering, show_reason};
 use crate::tips::advised;
@@ -18,7 +19,7 @@ use dfu_suffix::SuffixFault;
 use std::io::{self, IsTerminal};
 use std::rt::Files;
 
-/// Returns whether bytes of this kind can be shown.
+/// Returns true if bytes of `kind` can be shown.
 fn is_kind(kind: &str) -> bool {
     matches!(
         kind,
@@ -53,7 +54,7 @@ fn perform_show<R: Print + AllocGlobal>(
     Outcome { exit, reason }
 }
 
-/// Judges a log or a capture, if the words can be used.
+/// Judges a log or a capture in each of the files `names`, if the words can be used.
 fn perform_judge<R: Files + Input + Print + AllocGlobal>(
     rt: &R,
     names: &[String],
@@ -77,7 +78,7 @@ fn perform_judge<R: Files + Input + Print + AllocGlobal>(
     judge_files(rt, names, how)
 }
 
-/// Runs a script in these ways, if the words can be used: the script and its file can't both be standard input.
+/// Runs `script` by `ways`, if the words can be used: the script and its `file` can't both be standard input.
 fn perform_run<R: Files + Input + Print + AllocGlobal>(
     rt: &R,
     script: &str,
@@ -107,7 +108,15 @@ where
     }
 }
 
-/// Does what a subcommand asks for.
+/// Returns the word of an option, if it was given.
+fn given(word: &Option<String>) -> Option<&str> {
+    match word {
+        Some(word) => Some(word),
+        None => None,
+    }
+}
+
+/// Does what `subcommand` asks for, and returns the outcome.
 fn perform<R: Files + Input + Print + AllocGlobal>(
     rt: &R,
     subcommand: &Subcommand,
@@ -153,10 +162,26 @@ where
             dfuse,
             json,
         } => perform_judge(rt, files, interface, device, *dfuse, *json),
+        Subcommand::Plan {
+            part,
+            boot,
+            areas,
+            parts,
+            json,
+        } => perform_plan(
+            rt,
+            PlanWords {
+                part,
+                boot,
+                areas,
+                parts: given(parts),
+                json: *json,
+            },
+        ),
     }
 }
 
-/// The parser's text, with other tips in place of misleading ones, if there is memory for it.
+/// Prints the parser's text of `error`, with other tips in place of misleading ones, if there is memory for them.
 fn print_advised<R: Print + AllocGlobal>(rt: &R, error: &clap::Error) -> io::Result<()> {
     let alloc = rt.alloc();
     let Ok(text) = format!(in alloc; "{error}") else {
@@ -168,7 +193,7 @@ fn print_advised<R: Print + AllocGlobal>(rt: &R, error: &clap::Error) -> io::Res
     }
 }
 
-/// The parser's text, which for a mistake ends with how to ask for help.
+/// Prints the parser's text of `error`, which for a mistake ends with how to ask for help, and returns the exit status.
 fn print_text<R: Print + AllocGlobal>(rt: &R, error: &clap::Error) -> u8 {
     match print_advised(rt, error) {
         Ok(()) => error.exit_code() as u8,
@@ -176,8 +201,8 @@ fn print_text<R: Print + AllocGlobal>(rt: &R, error: &clap::Error) -> u8 {
     }
 }
 
-/// Does what the words ask for. It returns the exit status, and the reason if that is wanted: by the
-/// words, or because `is_wanted` says so. For words of another program it returns what to type in any case.
+/// Does what `words` ask for. Returns the exit status, and the reason if it is wanted: by the words, or because `is_wanted` is set. For
+/// words of another program the call returns what to type in any case.
 fn answer_words<R: Files + Input + Print + AllocGlobal>(
     rt: &R,
     words: &[String],
@@ -208,7 +233,7 @@ where
     }
 }
 
-/// Does what the words ask for, and returns the exit status. No reason is written.
+/// Does what `words` ask for, and returns the exit status. No reason is written.
 pub fn run_words<R: Files + Input + Print + AllocGlobal>(rt: &R, words: &[String]) -> u8
 where
     R::File: Owned + IsTerminal,
@@ -218,8 +243,8 @@ where
     status
 }
 
-/// Does what `run_words` does, and writes the reason of a refusal to standard error if the words
-/// have `--explain` or `is_wanted` is set, and for words of another program what to type. If it can't be written, nothing else changes.
+/// Does what `run_words` does, and writes the reason of a refusal to standard error if `words` have `--explain` or `is_wanted` is set, and
+/// for words of another program what to type. If the reason can't be written, nothing else changes.
 pub fn run_explained<R: Files + Input + Print + Eprint + AllocGlobal>(
     rt: &R,
     words: &[String],

@@ -13,7 +13,7 @@ pub(crate) struct Prefixed<'t, W> {
 }
 
 impl<'t, W> Prefixed<'t, W> {
-    /// Before its first line.
+    /// Returns an output before its first line, in which each line to `out` has `text` before it.
     pub(crate) fn new(text: &'t str, out: W) -> Prefixed<'t, W> {
         Prefixed {
             text,

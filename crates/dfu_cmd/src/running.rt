@@ -13,7 +13,7 @@ use dfu_suffix::SuffixFault;
 use std::alloc::Global;
 use std::io::{Read, Write};
 
-/// Writes the line for a script that stopped. If the writer failed, nothing more is written.
+/// Writes the line for a script that stopped at `fault` to `writer`. If the writer failed, nothing more is written.
 pub(crate) fn stop_text<W: Write>(alloc: Global, fault: ScriptFault, writer: &mut W) -> Exit
     ensures { WritesStop fault (W.contents writer.old) (W.contents writer.new) result }
 {
@@ -37,7 +37,7 @@ pub(crate) fn stop_text<W: Write>(alloc: Global, fault: ScriptFault, writer: &mu
     }
 }
 
-/// Writes the line for a script that came to this end, if it stopped, and returns the end and the fault at which it did.
+/// Writes the line for a script that came to the end `answer`, if it stopped, and returns the end and the fault at which it did.
 pub(crate) fn end_text<W: Write>(
     alloc: Global,
     answer: Result<(), ScriptFault>,
@@ -71,8 +71,8 @@ pub fn run_text<R: Read + Drop, W: Write>(alloc: Global, reader: R, writer: &mut
     exit
 }
 
-/// Does what `run_text` does, with the bytes of `file` as FILE, if there are any, and returns
-/// with the end the fault at which the script stopped; what is wrong with the script is noted in `stopped`.
+/// Does what `run_text` does, with the bytes of `file` as FILE, if it is given, and also returns the fault at which the script stopped.
+/// What is wrong with the script is noted in `stopped`.
 pub(crate) fn run_with_fault<R: Read + Drop, W: Write>(
     alloc: Global,
     file: Option<&[u8]>,
@@ -89,9 +89,8 @@ pub(crate) fn run_with_fault<R: Read + Drop, W: Write>(
     end_text(alloc, answer, writer)
 }
 
-/// Does what `run_with_fault` does, with a line for each action of the host to `trace`, as
-/// `dfu_link::script_traced_with` writes it. It returns the end, the fault, and whether each line of the
-/// trace is out.
+/// Does what `run_with_fault` does, with a line for each action of the host to `trace`, as `dfu_link::script_traced_with` writes it.
+/// Returns the end, the fault, and true if each line of the trace was written.
 pub(crate) fn run_traced_with_fault<R: Read + Drop, W: Write, N: Write>(
     alloc: Global,
     file: Option<&[u8]>,

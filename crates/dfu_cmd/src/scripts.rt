@@ -15,12 +15,12 @@ use std::alloc::Global;
 use std::io::{self, BufWriter, IsTerminal, Printer, Read, Write};
 use std::rt::Files;
 
-/// Bytes of the buffer of `run`. Two writes after one another put out at least this many, whatever the lines are; so there is at most one
-/// for each 8,192 bytes, and one more.
+/// Number of bytes of the buffer of `run`. Two writes after one another put out at least this number of bytes, whatever the lines are; so
+/// there is at most one write for each 8,192 bytes, and one more.
 const BUFFER: usize = 16_384;
 
-/// A buffer in front of the output: with this room, or, if there is no memory for that, with none,
-/// so that each text goes through at once.
+/// Returns a buffer of `room` bytes in front of the output, or if there is no memory for it, one of no bytes, so that each text goes
+/// through at once.
 fn buffer_of<R: Print + AllocGlobal>(rt: &R, room: usize) -> BufWriter<Printer<'_, R>> {
     if let Ok(buffer) = BufWriter::with_capacity(rt.alloc(), room, io::writer(rt)) {
         return buffer;
@@ -34,16 +34,16 @@ fn buffer_of<R: Print + AllocGlobal>(rt: &R, room: usize) -> BufWriter<Printer<'
 /// Options of a script's run, beside its own lines.
 #[derive(Clone, Copy)]
 pub(crate) struct Ways<'f> {
-    /// Tells whether each action of the host is printed.
+    /// True if each action of the host is printed.
     pub trace: bool,
     /// The bytes of FILE, if there are any.
     pub file: Option<&'f [u8]>,
-    /// Tells whether the reason is wanted if it stops.
+    /// True if the reason is wanted if the script stops.
     pub explain: bool,
 }
 
 impl Ways<'_> {
-    /// These ways, and no bytes of FILE.
+    /// Returns the ways `trace` and `explain`, without bytes of FILE.
     pub(crate) fn without_file(trace: bool, explain: bool) -> Ways<'static>
         ensures trace { result.trace ≡ trace }
         ensures file { result.file ≡ None }
@@ -105,7 +105,7 @@ fn fault_reason<S>(
     }
 }
 
-/// The line that says why, of a line of a script.
+/// Returns the line that says `why`, for line `number` of script `name`; None if there is no memory.
 fn line_reason(alloc: Global, name: &str, number: u32, why: &str) -> Option<String> {
     match format!(in alloc; "line {number}: {why}") {
         Ok(why) => file_reason(alloc, name, &why),
@@ -140,7 +140,7 @@ fn run_traced<R: Read + Drop, W: Write + Drop>(
     }
 }
 
-/// Runs a script in these ways.
+/// Runs the script that `reader` gives by `ways`.
 fn run_in<R: Read + Drop, W: Write + Drop>(
     alloc: Global,
     ways: Ways<'_>,
@@ -175,7 +175,7 @@ fn run_from<R: Print + AllocGlobal, S: Read + IsTerminal + Drop>(
     Outcome { exit, reason }
 }
 
-/// Runs a script, or that of standard input if the name is `-`, in these ways.
+/// Runs `script`, or that of standard input if the name is `-`, by `ways`.
 pub(crate) fn run_script<R: Files + Input + Print + AllocGlobal>(
     rt: &R,
     script: &str,

@@ -22,7 +22,7 @@ impl<W: Write + Drop> Shared<W> {
         }))
     }
 
-    /// One of its writers.
+    /// Returns one of the writers of the output.
     pub(crate) fn writer(&self) -> SharedWriter<'_, W> {
         SharedWriter(self)
     }
@@ -49,7 +49,7 @@ impl<W: Write + Drop> Shared<W> {
 #[derive(Drop)]
 pub(crate) struct SharedWriter<'o, W: Write + Drop>(&'o Shared<W>);
 
-/// The output can't be written any more.
+/// Returns the error of an output that can't be written any more.
 fn broken() -> io::Error {
     io::Error::from(ErrorKind::BrokenPipe)
 }

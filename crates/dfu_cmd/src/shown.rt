@@ -18,7 +18,7 @@ pub(crate) struct Remembering<W> {
 }
 
 impl<W> Remembering<W> {
-    /// An output to which nothing was written.
+    /// Returns an output before the first byte is written to `out`.
     pub(crate) fn new(out: W) -> Remembering<W> {
         Remembering {
             out,
@@ -27,12 +27,12 @@ impl<W> Remembering<W> {
         }
     }
 
-    /// The first bytes that were written, at most 32.
+    /// Returns the first bytes that were written, at most 32.
     pub(crate) fn front(&self) -> &[u8] {
         self.kept.get(..self.count).unwrap_or(&[])
     }
 
-    /// Remembers more bytes, as far as there is room.
+    /// Keeps the first of `bytes`, as far as there is room.
     fn keep(&mut self, bytes: &[u8]) {
         for byte in bytes {
             match self.kept.get_mut(self.count) {
@@ -56,7 +56,7 @@ impl<W: Write> Write for Remembering<W> {
     }
 }
 
-/// Returns the reason for which bytes are refused, by the line that was printed, and what to do.
+/// Returns the reason for which bytes are refused, by `line`, the line that was printed, and what to do; None for any other line.
 fn why(line: &str) -> Option<&'static str> {
     match line {
         "refused BadHex\n" => Some(
@@ -83,8 +83,8 @@ fn why(line: &str) -> Option<&'static str> {
     }
 }
 
-/// The line that says why bytes of this kind are refused, if `line` is a refusal of `dfu show`. None
-/// if it is no such line, or if there is no memory.
+/// Returns the line that says why bytes of `kind` are refused, if `line` is a refusal of `dfu show`. None if `line` is no such line, or if
+/// there is no memory.
 pub(crate) fn show_reason(alloc: Global, kind: &str, line: &[u8]) -> Option<String> {
     // Each line of a refusal is ASCII.
     let why = why(std::str::from_utf8(line).unwrap_or(""))?;

@@ -2,19 +2,20 @@
 
 use std::alloc::{AllocError, Global};
 
-/// The commands that have an option.
+/// Returns the names of the commands that have `option`; None if no command has it.
 fn owners(option: &str) -> Option<&'static str> {
     match option {
         "--vid" | "--pid" | "--did" => Some("add and set"),
         "--format" | "--fill" => Some("add"),
         "--trace" | "--file" => Some("run"),
         "--interface" | "--device" | "--dfuse" => Some("judge"),
+        "--part" | "--boot" | "--areas" | "--parts" => Some("plan"),
         "--json" => Some("check, show and judge"),
         _ => None,
     }
 }
 
-/// The option that the first line of a text says is unexpected.
+/// Returns the option, with its `--`, that `line`, the first line of a text, says is unexpected; None if it says something else.
 fn unexpected(line: &str) -> Option<&str> {
     let option = line.strip_prefix("error: unexpected argument '")?;
     let option = option.strip_suffix("' found")?;
@@ -44,8 +45,8 @@ fn push_tips(text: &mut String, option: &str, tips: &str) -> Result<(), AllocErr
     Ok(())
 }
 
-/// The parser's text: for an option that another command has, it says which command that is, and for no option how it would be a
-/// value.
+/// Returns `text`, that of the parser, with other tips: for an option that another command has, which command that is, and for no option
+/// how it would be a value.
 pub(crate) fn advised(alloc: Global, text: &str) -> Result<String, AllocError> {
     let Some((line, rest)) = text.split_once('\n') else {
         return String::from_str(alloc, text);

@@ -7,7 +7,7 @@ use std::alloc::Global;
 use std::io::{self, Read};
 use std::rt::Files;
 
-/// The most bytes of a file.
+/// Largest number of bytes of a file.
 const MAX_FILE: usize = 16_777_216;
 
 /// A reader, and the error at which it failed.
@@ -18,7 +18,7 @@ pub(crate) struct Watched<R> {
 }
 
 impl<R> Watched<R> {
-    /// A reader from which nothing was read yet.
+    /// Returns a reader before the first byte is read from `reader`.
     pub(crate) fn new(reader: R) -> Watched<R> {
         Watched {
             reader,
@@ -26,7 +26,7 @@ impl<R> Watched<R> {
         }
     }
 
-    /// Returns the reason for which the file with this name could not be read, if reading it failed.
+    /// Returns the reason for which file `name` could not be read, if reading it failed; else None.
     pub(crate) fn reason(&self, alloc: Global, name: &str) -> Option<String> {
         match &self.error {
             Some(error) => error_reason(alloc, name, error),
@@ -48,8 +48,8 @@ impl<R: Read> Read for Watched<R> {
     }
 }
 
-/// A file, or standard input if the name is `-`, read whole; or the outcome if it can't be, which is
-/// that of `dfu check`.
+/// Reads the whole file `name`, or standard input if the name is `-`; or returns the outcome if it can't be read, which is that of `dfu
+/// check`.
 pub(crate) fn read_file<R: Files + Input + Print + AllocGlobal>(
     rt: &R,
     name: &str,

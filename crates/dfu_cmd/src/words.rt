@@ -11,7 +11,7 @@ use dfu_output::{Outcome, bad_words, reason_line};
 use std::alloc::{AllocError, Global};
 use std::io;
 
-/// Refuses words, for this reason.
+/// Refuses words, for `reason`.
 pub(crate) fn refused<R: Print>(rt: &R, reason: Option<String>) -> Outcome {
     Outcome {
         exit: bad_words(&mut io::writer(rt)),
@@ -19,7 +19,7 @@ pub(crate) fn refused<R: Print>(rt: &R, reason: Option<String>) -> Outcome {
     }
 }
 
-/// Refuses a word that has this fault.
+/// Refuses `word`, which has `fault`.
 pub(crate) fn refused_word<R: Print + AllocGlobal>(
     rt: &R,
     fault: WordFault,
@@ -28,7 +28,7 @@ pub(crate) fn refused_word<R: Print + AllocGlobal>(
     refused(rt, word_reason(rt.alloc(), fault, word))
 }
 
-/// The line, if there was memory for it.
+/// Returns the line, if there was memory for it; else None.
 fn made(line: Result<String, AllocError>) -> Option<String>
     ensures { (t : _) → IfOk line (λ s. string_bytes s ≡ t) → IfSome result (λ s. string_bytes s ≡ t) }
 {
@@ -74,9 +74,13 @@ pub(crate) enum WordFault {
     Interface,
     /// A device of a capture isn't a bus and a device.
     Device,
+    /// The size of a bootloader is no size.
+    Boot,
+    /// Areas are neither two nor three.
+    Areas,
 }
 
-/// Returns the label of a word that has this fault, and the reason for which it is refused.
+/// Returns the label of a word that has `fault`, and the reason for which the word is refused.
 fn label_and_why(fault: WordFault) -> (&'static str, &'static str)
     ensures label { result.0.now ≡ (label_and_why fault).0 }
     ensures why { result.1.now ≡ (label_and_why fault).1 }
@@ -104,10 +108,15 @@ fn label_and_why(fault: WordFault) -> (&'static str, &'static str)
             "--device ",
             "it has to be only, or a bus and a device, as 1.7",
         ),
+        WordFault::Boot => (
+            "--boot ",
+            "it has to be a size of at most 4,294,967,295 bytes, as 32k, 0x8000 or 32768",
+        ),
+        WordFault::Areas => ("--areas ", "it has to be 2 or 3"),
     }
 }
 
-/// Returns the reason for which a word is refused that has this fault.
+/// Returns the line of the reason for which `word` is refused, which has `fault`.
 pub(crate) fn word_reason(alloc: Global, fault: WordFault, word: &str) -> Option<String>
     ensures { IfSome result (λ t. string_bytes t ≡ reason_line (label_and_why fault).0 word.now (label_and_why fault).1) }
 {

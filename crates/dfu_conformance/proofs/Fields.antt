@@ -6,13 +6,13 @@ use Rattle.std.proofs.lemmas.Bool.{ltb-false, false_from_ne_true, cond-true}
 use Rattle.std.proofs.lemmas.List.Sums.{prefix_len-le-length}
 use Rattle.std.proofs.lemmas.Option.{cond_some, none-some}
 
--- A place that was found is that of the first such element.
-pub found : {X : Type 0} (p : X → Bool) (xs : List X) (at : ℕ) → position p xs ≡ Some at → at ≡ position_or_len p xs
-found p xs at e = sym (cond_some (nat_lt (position_or_len p xs) (length xs)) (position_or_len p xs) at e).1
+-- A position that was found is that of the first element that passes.
+pub found_place_is_first : {X : Type 0} (p : X → Bool) (xs : List X) (at : ℕ) → position p xs ≡ Some at → at ≡ position_or_len p xs
+found_place_is_first p xs at e = sym (cond_some (nat_lt (position_or_len p xs) (length xs)) (position_or_len p xs) at e).1
 
--- If none was found, the place is the end.
-pub not_found : {X : Type 0} (p : X → Bool) (xs : List X) → position p xs ≡ None → length xs ≡ position_or_len p xs
-not_found p xs e =
+-- If no element passes, the position is the end of the list.
+pub missing_place_is_end : {X : Type 0} (p : X → Bool) (xs : List X) → position p xs ≡ None → length xs ≡ position_or_len p xs
+missing_place_is_end p xs e =
     let at = position_or_len p xs in
     let none = false_from_ne_true (nat_lt at (length xs)) (λ t. none-some at (sym e ∙ cond-true (nat_lt at (length xs)) (Some at) None t)) in
     omega (arith, ltb-false at (length xs) none, prefix_len-le-length (λ x. not (p x)) xs)

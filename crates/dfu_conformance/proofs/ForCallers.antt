@@ -16,9 +16,9 @@ use Rattle.dfu_conformance.specs.declared.row.Gives.TheVariants as gives
 use Rattle.dfu_conformance.specs.declared.event.LogEvent.{LogEvent}
 use Rattle.dfu_conformance.specs.declared.drifts.TheConstants.{DRIFTS}
 use Rattle.dfu_conformance.specs.RowMatches.{place_number, request_number, asks, answer_matches}
-use Rattle.dfu_conformance.specs.Candidates.{meets, reading_bit}
+use Rattle.dfu_conformance.specs.Candidates.{is_row_for, reading_bit}
 use Rattle.dfu_conformance.specs.MayAnswer.{RowStep, MovesBy, MayMove, Run}
-use Rattle.dfu_conformance.proofs.Places.{same_place}
+use Rattle.dfu_conformance.proofs.Places.{equal_place_numbers_equal_place}
 
 -- Answer that a row gives, by number.
 abbrev pub gives_number : Gives → ℕ
@@ -31,17 +31,17 @@ gives_number gives.Full = 5
 gives_number gives.Short = 6
 gives_number gives.Silent = 7
 
-gives_of : ℕ → Gives
-gives_of n =
+gives_of_number : ℕ → Gives
+gives_of_number n =
     if n == 0 then gives.Ack else if n == 1 then gives.Stall else if n == 2 then gives.Status else if n == 3 then gives.NoCode
     else if n == 4 then gives.State else if n == 5 then gives.Full else if n == 6 then gives.Short else gives.Silent
 
-gives_back : (g : Gives) → gives_of (gives_number g) ≡ g
-unfolding gives_of
-gives_back gives.Ack = refl
-gives_back g = refl
+gives_number_goes_back : (g : Gives) → gives_of_number (gives_number g) ≡ g
+unfolding gives_of_number
+gives_number_goes_back gives.Ack = refl
+gives_number_goes_back g = refl
 
--- For which devices a row is, by number.
+-- The number of `When`, which says for which devices a row is.
 abbrev pub when_number : When → ℕ
 when_number Always = 0
 when_number CanDownload = 1
@@ -51,18 +51,18 @@ when_number NotTolerant = 4
 when_number WillDetach = 5
 when_number (By reading) = 6 + reading_bit reading
 
-when_of : ℕ → When
-when_of n =
+when_of_number : ℕ → When
+when_of_number n =
     if n == 0 then Always else if n == 1 then CanDownload else if n == 2 then CanUpload else if n == 3 then Tolerant
     else if n == 4 then NotTolerant else if n == 5 then WillDetach else if n == 6 then By Bootloader else if n == 7 then By RuntimeMute
     else if n == 8 then By SelfReset else if n == 9 then By DetachAtOnce else if n == 10 then By DetachLeaves else By ErrorWithoutCode
 
-when_back : (w : When) → when_of (when_number w) ≡ w
-unfolding when_of
-when_back Always = refl
-when_back (By Bootloader) = refl
-when_back (By reading) = refl
-when_back w = refl
+when_number_goes_back : (w : When) → when_of_number (when_number w) ≡ w
+unfolding when_of_number
+when_number_goes_back Always = refl
+when_number_goes_back (By Bootloader) = refl
+when_number_goes_back (By reading) = refl
+when_number_goes_back w = refl
 
 -- The row has these fields.
 abbrev pub is_row : StandardState → EventKind → When → Gives → StandardState → Row → Bool
@@ -71,21 +71,24 @@ is_row from asked when g next row =
     && ((when_number row.when == when_number when) && ((gives_number row.gives == gives_number g)
     && (place_number row.next == place_number next))))
 
--- A device goes by a row with these fields, which some row of the list has.
-pub by_row : (rows : List Row) (from : StandardState) (asked : EventKind) (when : When) (g : Gives) (next : StandardState) (a r : ℕ)
+-- A device goes by a row with these fields, if a row of the list has them.
+pub device_goes_by_listed_row : (rows : List Row) (from : StandardState) (asked : EventKind) (when : When) (g : Gives) (next :
+    StandardState) (a r : ℕ)
     (e : LogEvent)
-    → list_any (is_row from asked when g next) rows ≡ true → meets when a r ≡ true → asks asked e ≡ true
+    → list_any (is_row from asked when g next) rows ≡ true → is_row_for when a r ≡ true → asks asked e ≡ true
     → answer_matches g from next e.length e.answer ≡ true → RowStep rows a r from e next
-by_row rows from asked when g next a r e some of_it is_asked is_shown =
+device_goes_by_listed_row rows from asked when g next a r e some row_is_for_device is_asked is_shown =
     let (k, row, in', is, fields) = Any-from_list_any (is_row from asked when g next) rows some in
     let f = and_parts _ _ fields in
     let q = and_parts _ _ f.1 in
     let w = and_parts _ _ q.1 in
     let n = and_parts _ _ w.1 in
-    let same_from : row.from ≡ from = same_place row.from from (eqb-true _ _ f.0) in
-    let same_next : row.next ≡ next = same_place row.next next (eqb-true _ _ n.1) in
-    let same_when : row.when ≡ when = sym (when_back row.when) ∙ ap when_of (eqb-true _ _ w.0) ∙ when_back when in
-    let same_gives : row.gives ≡ g = sym (gives_back row.gives) ∙ ap gives_of (eqb-true _ _ n.0) ∙ gives_back g in
+    let same_from : row.from ≡ from = equal_place_numbers_equal_place row.from from (eqb-true _ _ f.0) in
+    let same_next : row.next ≡ next = equal_place_numbers_equal_place row.next next (eqb-true _ _ n.1) in
+    let equal_when_numbers_equal_when : row.when ≡ when = sym (when_number_goes_back row.when) ∙ ap when_of_number (eqb-true _ _ w.0)
+    ∙ when_number_goes_back when in
+    let same_gives : row.gives ≡ g = sym (gives_number_goes_back row.gives) ∙ ap gives_of_number (eqb-true _ _ n.0)
+    ∙ gives_number_goes_back g in
     record {
       row = row;
       listed = (k, in', is);
@@ -94,7 +97,7 @@ by_row rows from asked when g next a r e some of_it is_asked is_shown =
       speaks = and_from _ _
           (ap (λ (x : ℕ). (x == request_number e.asked) || (not e.is_plain && (x == 8))) (eqb-true _ _ q.0) ∙ is_asked)
           ((λ i. answer_matches (same_gives i) (same_from i) (same_next i) e.length e.answer) ∙ is_shown);
-      of_it = ap (λ (x : When). meets x a r) same_when ∙ of_it;
+      row_is_for_device = ap (λ (x : When). is_row_for x a r) equal_when_numbers_equal_when ∙ row_is_for_device;
     }
 
 -- The move has these fields.
@@ -102,86 +105,88 @@ abbrev pub is_move : StandardState → When → StandardState → Drift → Bool
 is_move from when next d =
     (place_number d.from == place_number from) && ((when_number d.when == when_number when) && (place_number d.next == place_number next))
 
--- A device makes a move with these fields, which some move of the list has.
-pub by_move : (moves : List Drift) (from : StandardState) (when : When) (next : StandardState) (a r : ℕ)
+-- A device makes a move with these fields, if a move of the list has them.
+pub device_moves_by_listed_drift : (moves : List Drift) (from : StandardState) (when : When) (next : StandardState) (a r : ℕ)
     → list_any (is_move from when next) moves ≡ true
-    → meets when a r ≡ true → MovesBy moves a r from next
-by_move moves from when next a r some of_it =
+    → is_row_for when a r ≡ true → MovesBy moves a r from next
+device_moves_by_listed_drift moves from when next a r some row_is_for_device =
     let (k, row, in', is, fields) = Any-from_list_any (is_move from when next) moves some in
     let f = and_parts _ _ fields in
     let w = and_parts _ _ f.1 in
     record {
       row = row;
       listed = (k, in', is);
-      begins = same_place row.from from (eqb-true _ _ f.0);
-      ends = same_place row.next next (eqb-true _ _ w.1);
-      of_it = ap (λ (x : When). meets x a r) (sym (when_back row.when) ∙ ap when_of (eqb-true _ _ w.0) ∙ when_back when) ∙ of_it;
+      begins = equal_place_numbers_equal_place row.from from (eqb-true _ _ f.0);
+      ends = equal_place_numbers_equal_place row.next next (eqb-true _ _ w.1);
+      row_is_for_device = ap (λ (x : When). is_row_for x a r) (sym (when_number_goes_back row.when)
+          ∙ ap when_of_number (eqb-true _ _ w.0) ∙ when_number_goes_back when) ∙ row_is_for_device;
     }
 
--- A move leads from where this one begins to where that one ends, for all devices that make both.
-closes : Drift → Drift → Drift → Bool
-closes d e f =
+-- The move `f` leads from the start of `d` to the end of `e`, for all devices that make both.
+drift_joins_two : Drift → Drift → Drift → Bool
+drift_joins_two d e f =
     ((place_number f.from == place_number d.from) && (place_number f.next == place_number e.next))
     && ((when_number f.when == 0) || ((when_number f.when == when_number d.when) || (when_number f.when == when_number e.when)))
 
--- Two moves that follow each other have a third that leads as both do.
-follow : Drift → Drift → Bool
-follow d e = not (place_number d.next == place_number e.from) || list_any (closes d e) DRIFTS
+-- If `e` follows `d`, a move of the list leads as both do.
+drifts_follow : Drift → Drift → Bool
+drifts_follow d e = not (place_number d.next == place_number e.from) || list_any (drift_joins_two d e) DRIFTS
 
-all_follow : list_all (λ (d : Drift). list_all (λ (e : Drift). follow d e) DRIFTS) DRIFTS ≡ true
-unfolding follow closes
-all_follow = refl
+all_drifts_follow : list_all (λ (d : Drift). list_all (λ (e : Drift). drifts_follow d e) DRIFTS) DRIFTS ≡ true
+unfolding drifts_follow drift_joins_two
+all_drifts_follow = refl
 
--- If all elements of a list pass a test, each one does.
-pub passes : {X : Type 0} (p : X → Bool) (xs : List X) (x : X) → Contains xs x → list_all p xs ≡ true → p x ≡ true
-passes p xs x (k, in', is) all = true_from_ne_false (p x) (λ fails.
+-- If all elements of a list pass a test, the element `x` passes it.
+pub each_element_passes : {X : Type 0} (p : X → Bool) (xs : List X) (x : X) → Contains xs x → list_all p xs ≡ true → p x ≡ true
+each_element_passes p xs x (k, in', is) all = true_from_ne_false (p x) (λ fails.
     both_ways (list_all p xs) (list_all_at p xs k x in' (ap p is ∙ fails)) all)
 
 -- Two moves that a device makes are one.
-one_move : (a r : ℕ) (p q s : StandardState) → MovesBy DRIFTS a r p q → MovesBy DRIFTS a r q s → MovesBy DRIFTS a r p s
-unfolding follow closes
-one_move a r p q s m n =
-    let both : follow m.row n.row ≡ true =
-    passes (λ (e : Drift). follow m.row e) DRIFTS n.row n.listed
-    (passes (λ (d : Drift). list_all (λ (e : Drift). follow d e) DRIFTS) DRIFTS m.row m.listed all_follow) in
+two_listed_moves_are_one : (a r : ℕ) (p q s : StandardState) → MovesBy DRIFTS a r p q → MovesBy DRIFTS a r q s → MovesBy DRIFTS a r p s
+unfolding drifts_follow drift_joins_two
+two_listed_moves_are_one a r p q s m n =
+    let both : drifts_follow m.row n.row ≡ true =
+    each_element_passes (λ (e : Drift). drifts_follow m.row e) DRIFTS n.row n.listed
+    (each_element_passes (λ (d : Drift). list_all (λ (e : Drift). drifts_follow d e) DRIFTS) DRIFTS m.row m.listed all_drifts_follow) in
     elim (or_cases _ _ both) [
       | inl apart ↦ absurd (both_ways (place_number m.row.next == place_number n.row.from)
           (not-true _ apart) (eq-eqb _ _ (ap place_number (m.ends ∙ sym n.begins))))
       | inr some ↦
-          let (k, row, in', is, closed) = Any-from_list_any (closes m.row n.row) DRIFTS some in
+          let (k, row, in', is, closed) = Any-from_list_any (drift_joins_two m.row n.row) DRIFTS some in
           let c = and_parts _ _ closed in
           let ends = and_parts _ _ c.0 in
           record {
             row = row;
             listed = (k, in', is);
-            begins = same_place row.from m.row.from (eqb-true _ _ ends.0) ∙ m.begins;
-            ends = same_place row.next n.row.next (eqb-true _ _ ends.1) ∙ n.ends;
-            of_it = of_one a r row m.row n.row m.of_it n.of_it c.1;
+            begins = equal_place_numbers_equal_place row.from m.row.from (eqb-true _ _ ends.0) ∙ m.begins;
+            ends = equal_place_numbers_equal_place row.next n.row.next (eqb-true _ _ ends.1) ∙ n.ends;
+            row_is_for_device = joined_drift_is_for_device a r row m.row n.row m.row_is_for_device n.row_is_for_device c.1;
           }
     ]
   where
-    same_when : (x y : When) → (when_number x == when_number y) ≡ true → x ≡ y
-    same_when x y e = sym (when_back x) ∙ ap when_of (eqb-true _ _ e) ∙ when_back y
+    equal_when_numbers_equal_when : (x y : When) → (when_number x == when_number y) ≡ true → x ≡ y
+    equal_when_numbers_equal_when x y e = sym (when_number_goes_back x) ∙ ap when_of_number (eqb-true _ _ e) ∙ when_number_goes_back y
 
-    of_one : (a r : ℕ) (f d e : Drift) → meets d.when a r ≡ true → meets e.when a r ≡ true
+    joined_drift_is_for_device : (a r : ℕ) (f d e : Drift) → is_row_for d.when a r ≡ true → is_row_for e.when a r ≡ true
         → ((when_number f.when == 0) || ((when_number f.when == when_number d.when) || (when_number f.when == when_number e.when))) ≡ true
-        → meets f.when a r ≡ true
-    of_one a r f d e of_d of_e some = elim (or_cases _ _ some) [
-      | inl always ↦ ap (λ (x : When). meets x a r) (same_when f.when Always always)
+        → is_row_for f.when a r ≡ true
+    joined_drift_is_for_device a r f d e of_d of_e some = elim (or_cases _ _ some) [
+      | inl always ↦ ap (λ (x : When). is_row_for x a r) (equal_when_numbers_equal_when f.when Always always)
       | inr some ↦ elim (or_cases _ _ some) [
-        | inl as_d ↦ ap (λ (x : When). meets x a r) (same_when f.when d.when as_d) ∙ of_d
-        | inr as_e ↦ ap (λ (x : When). meets x a r) (same_when f.when e.when as_e) ∙ of_e
+        | inl as_d ↦ ap (λ (x : When). is_row_for x a r) (equal_when_numbers_equal_when f.when d.when as_d) ∙ of_d
+        | inr as_e ↦ ap (λ (x : When). is_row_for x a r) (equal_when_numbers_equal_when f.when e.when as_e) ∙ of_e
       ]
     ]
 
 -- A device that may move twice may move once to the same place.
-pub moves_twice : (a r : ℕ) (p q s : StandardState) → MayMove a r p q → MayMove a r q s → MayMove a r p s
-moves_twice a r p q s (inl same) n = subst (λ (x : StandardState). MayMove a r x s) same n
-moves_twice a r p q s (inr m) (inl same) = inr (subst (λ (x : StandardState). MovesBy DRIFTS a r p x) (sym same) m)
-moves_twice a r p q s (inr m) (inr n) = inr (one_move a r p q s m n)
+pub two_moves_are_one : (a r : ℕ) (p q s : StandardState) → MayMove a r p q → MayMove a r q s → MayMove a r p s
+two_moves_are_one a r p q s (inl same) n = subst (λ (x : StandardState). MayMove a r x s) same n
+two_moves_are_one a r p q s (inr m) (inl same) = inr (subst (λ (x : StandardState). MovesBy DRIFTS a r p x) (sym same) m)
+two_moves_are_one a r p q s (inr m) (inr n) = inr (two_listed_moves_are_one a r p q s m n)
 
 -- A run from where a device moved is one from where it was.
-pub moves_first : (a r : ℕ) (p q : StandardState) (events : List LogEvent) (last : StandardState) → MayMove a r p q → Run a r q events last
+pub run_from_move : (a r : ℕ) (p q : StandardState) (events : List LogEvent) (last : StandardState) → MayMove a r p q
+    → Run a r q events last
     → Run a r p events last
-moves_first a r p q [] last m run = moves_twice a r p q last m run
-moves_first a r p q (e ∷ events) last m (here, next, moved, may, rest) = (here, next, moves_twice a r p q here m moved, may, rest)
+run_from_move a r p q [] last m run = two_moves_are_one a r p q last m run
+run_from_move a r p q (e ∷ events) last m (here, next, moved, may, rest) = (here, next, two_moves_are_one a r p q here m moved, may, rest)

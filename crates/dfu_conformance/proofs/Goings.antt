@@ -1,4 +1,4 @@
--- A device goes by a row or a move of a list exactly if one leads it: the places where it may be are those of a test.
+-- A device goes by a row or a move of a list exactly if one of them leads to the place.
 use Rattle.std.specs.Prelude.{◌≡◌, ◌⊎◌, ℕ, ◌==◌, ◌&&◌, ◌||◌, Bool, true, List}
 use Rattle.std.specs.List.{list_any}
 use Rattle.std.proofs.Common.{refl, ap, ◌∙◌, inl, inr}
@@ -8,20 +8,20 @@ use Rattle.dfu_conformance.specs.declared.row.StandardState.{StandardState}
 use Rattle.dfu_conformance.specs.declared.row.Row.{Row}
 use Rattle.dfu_conformance.specs.declared.row.Drift.{Drift}
 use Rattle.dfu_conformance.specs.declared.event.LogEvent.{LogEvent}
-use Rattle.dfu_conformance.specs.RowMatches.{place_number, fits}
-use Rattle.dfu_conformance.specs.Candidates.{meets}
+use Rattle.dfu_conformance.specs.RowMatches.{place_number, row_fits}
+use Rattle.dfu_conformance.specs.Candidates.{is_row_for}
 use Rattle.dfu_conformance.specs.MayAnswer.{RowStep, MovesBy}
-use Rattle.dfu_conformance.proofs.Places.{same_place}
+use Rattle.dfu_conformance.proofs.Places.{equal_place_numbers_equal_place}
 
--- The row leads a device to this place, from where it may be.
+-- The row leads a device to the place, from a place where the device may be.
 abbrev pub leads_from : (StandardState → Bool) → LogEvent → StandardState → (attributes readings : ℕ) → Row → Bool
-leads_from held e n a r row = (place_number row.next == place_number n) && (fits row e && (held row.from && meets row.when a r))
+leads_from held e n a r row = (place_number row.next == place_number n) && (row_fits row e && (held row.from && is_row_for row.when a r))
 
--- A device goes by a row that leads there.
-pub goes_by : (rows : List Row) (held : StandardState → Bool) (e : LogEvent) (n : StandardState) (a r : ℕ)
+-- If a row leads to the place, a device goes by a row to it.
+pub device_goes_by_row : (rows : List Row) (held : StandardState → Bool) (e : LogEvent) (n : StandardState) (a r : ℕ)
     → list_any (leads_from held e n a r) rows ≡ true
     → (p : StandardState) × (held p ≡ true) × RowStep rows a r p e n
-goes_by rows held e n a r some =
+device_goes_by_row rows held e n a r some =
     let (k, row, in', is, led) = Any-from_list_any (leads_from held e n a r) rows some in
     let there = and_parts _ _ led in
     let speaks = and_parts _ _ there.1 in
@@ -32,34 +32,34 @@ goes_by rows held e n a r some =
         row = row;
         listed = (k, in', is);
         begins = refl;
-        ends = same_place row.next n (eqb-true _ _ there.0);
+        ends = equal_place_numbers_equal_place row.next n (eqb-true _ _ there.0);
         speaks = speaks.0;
-        of_it = from.1;
+        row_is_for_device = from.1;
       },
     )
 
--- If a device goes by a row, the row leads there.
-pub led_by : (rows : List Row) (held : StandardState → Bool) (e : LogEvent) (p n : StandardState) (a r : ℕ) → held p ≡ true
+-- If a device goes by a row to a place, the row leads there.
+pub row_leads_device : (rows : List Row) (held : StandardState → Bool) (e : LogEvent) (p n : StandardState) (a r : ℕ) → held p ≡ true
     → RowStep rows a r p e n
     → list_any (leads_from held e n a r) rows ≡ true
-led_by rows held e p n a r is g =
+row_leads_device rows held e p n a r is g =
     list_any-from_Any (leads_from held e n a r) rows (
       g.listed.0,
       g.row,
       g.listed.1,
       g.listed.2,
-      and_from _ _ (eq-eqb _ _ (ap place_number g.ends)) (and_from _ _ g.speaks (and_from _ _ (ap held g.begins ∙ is) g.of_it)),
+      and_from _ _ (eq-eqb _ _ (ap place_number g.ends)) (and_from _ _ g.speaks (and_from _ _ (ap held g.begins ∙ is) g.row_is_for_device)),
     )
 
--- A move that leads there is one that a device makes.
-pub moves_by : (moves : List Drift) (held : StandardState → Bool) (n : StandardState) (a r : ℕ)
-    → (held n || list_any (λ (d : Drift). (place_number d.next == place_number n) && (held d.from && meets d.when a r)) moves) ≡ true
+-- If a move leads to the place, a device makes the move or is there already.
+pub device_moves_by_drift : (moves : List Drift) (held : StandardState → Bool) (n : StandardState) (a r : ℕ)
+    → (held n || list_any (λ (d : Drift). (place_number d.next == place_number n) && (held d.from && is_row_for d.when a r)) moves) ≡ true
     → (p : StandardState) × (held p ≡ true) × ((n ≡ p) ⊎ MovesBy moves a r p n)
-moves_by moves held n a r some = elim (or_cases _ _ some) [
+device_moves_by_drift moves held n a r some = elim (or_cases _ _ some) [
   | inl stayed ↦ (n, stayed, inl refl)
   | inr moved ↦
       let (k, row, in', is, led) =
-      Any-from_list_any (λ (d : Drift). (place_number d.next == place_number n) && (held d.from && meets d.when a r)) moves moved in
+      Any-from_list_any (λ (d : Drift). (place_number d.next == place_number n) && (held d.from && is_row_for d.when a r)) moves moved in
       let there = and_parts _ _ led in
       let from = and_parts _ _ there.1 in (
         row.from,
@@ -68,21 +68,22 @@ moves_by moves held n a r some = elim (or_cases _ _ some) [
           row = row;
           listed = (k, in', is);
           begins = refl;
-          ends = same_place row.next n (eqb-true _ _ there.0);
-          of_it = from.1;
+          ends = equal_place_numbers_equal_place row.next n (eqb-true _ _ there.0);
+          row_is_for_device = from.1;
         }),
       )
 ]
 
-pub moved_by : (moves : List Drift) (held : StandardState → Bool) (p n : StandardState) (a r : ℕ) → held p ≡ true
+pub drift_leads_from_held : (moves : List Drift) (held : StandardState → Bool) (p n : StandardState) (a r : ℕ) → held p ≡ true
     → (n ≡ p) ⊎ MovesBy moves a r p n
-    → (held n || list_any (λ (d : Drift). (place_number d.next == place_number n) && (held d.from && meets d.when a r)) moves) ≡ true
-moved_by moves held p n a r is (inl same) = or_left _ _ (ap held same ∙ is)
-moved_by moves held p n a r is (inr m) =
-    or_right _ _ (list_any-from_Any (λ (d : Drift). (place_number d.next == place_number n) && (held d.from && meets d.when a r)) moves (
+    → (held n || list_any (λ (d : Drift). (place_number d.next == place_number n) && (held d.from && is_row_for d.when a r)) moves) ≡ true
+drift_leads_from_held moves held p n a r is (inl same) = or_left _ _ (ap held same ∙ is)
+drift_leads_from_held moves held p n a r is (inr m) =
+    or_right _ _ (list_any-from_Any (λ (d : Drift). (place_number d.next == place_number n) && (held d.from && is_row_for d.when a r))
+    moves (
       m.listed.0,
       m.row,
       m.listed.1,
       m.listed.2,
-      and_from _ _ (eq-eqb _ _ (ap place_number m.ends)) (and_from _ _ (ap held m.begins ∙ is) m.of_it),
+      and_from _ _ (eq-eqb _ _ (ap place_number m.ends)) (and_from _ _ (ap held m.begins ∙ is) m.row_is_for_device),
     ))

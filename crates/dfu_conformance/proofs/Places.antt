@@ -6,9 +6,9 @@ use Rattle.dfu_conformance.specs.declared.row.StandardState.{StandardState}
 use Rattle.dfu_conformance.specs.declared.row.StandardState.TheVariants.{AppIdle, AppDetach, DfuIdle, DownloadSync, DownloadBusy, DownloadIdle, ManifestSync, Manifest, ManifestWaitReset, UploadIdle, Error, Fresh}
 use Rattle.dfu_conformance.specs.RowMatches.{place_number}
 
--- The place of a number, of the list of all twelve.
-abbrev pub place_of : ℕ → StandardState
-place_of n =
+-- The place of a number in the list of all twelve.
+abbrev pub place_of_number : ℕ → StandardState
+place_of_number n =
     if n == 0 then AppIdle else
     if n == 1 then AppDetach else
     if n == 2 then DfuIdle else
@@ -22,19 +22,20 @@ place_of n =
     if n == 10 then Error else
     Fresh
 
-place_back : (p : StandardState) → place_of (place_number p) ≡ p
-place_back AppIdle = refl
-place_back p = refl
+place_of_place_number : (p : StandardState) → place_of_number (place_number p) ≡ p
+place_of_place_number AppIdle = refl
+place_of_place_number p = refl
 
--- No two places have one number.
-pub same_place : (p q : StandardState) → place_number p ≡ place_number q → p ≡ q
-same_place p q same = sym (place_back p) ∙ ap place_of same ∙ place_back q
+-- Two places of one number are equal.
+pub equal_place_numbers_equal_place : (p q : StandardState) → place_number p ≡ place_number q → p ≡ q
+equal_place_numbers_equal_place p q same = sym (place_of_place_number p) ∙ ap place_of_number same ∙ place_of_place_number q
 
--- A number below twelve is that of its place.
-pub number_back : (n : ℕ) → n < 12 → place_number (place_of n) ≡ n
-number_back n below = eqb-true _ _ (agree_below_at (λ (k : ℕ). place_number (place_of k) == k) (λ (k : ℕ). true) 12 n refl below)
+-- A number below twelve is the number of its place.
+pub place_number_of_place : (n : ℕ) → n < 12 → place_number (place_of_number n) ≡ n
+place_number_of_place n below = eqb-true _ _ (agree_below_at (λ (k : ℕ). place_number (place_of_number k) == k) (λ (k : ℕ). true) 12 n refl
+    below)
 
 -- The number of a place is below twelve.
-pub number_below : (p : StandardState) → place_number p < 12
-number_below AppIdle = lit< tt
-number_below p = lit< tt
+pub place_number_below_12 : (p : StandardState) → place_number p < 12
+place_number_below_12 AppIdle = lit< tt
+place_number_below_12 p = lit< tt

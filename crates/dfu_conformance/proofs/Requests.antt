@@ -9,32 +9,33 @@ use Rattle.dfu_conformance.specs.declared.row.Row.{Row}
 use Rattle.dfu_conformance.specs.declared.event.LogEvent.{LogEvent}
 use Rattle.dfu_conformance.specs.declared.marks.TheConstants.{MARKS}
 use Rattle.dfu_conformance.specs.RowMatches.{request_number}
-use Rattle.dfu_conformance.specs.inside.Stepped.{leads}
-use Rattle.dfu_conformance.proofs.ForCallers.{passes}
+use Rattle.dfu_conformance.specs.inside.Stepped.{row_leads}
+use Rattle.dfu_conformance.proofs.ForCallers.{each_element_passes}
 
 -- The row is about a reset or power.
-is_mark : Row → Bool
-is_mark row = nat_le 9 (request_number row.asked)
+is_mark_row : Row → Bool
+is_mark_row row = nat_le 9 (request_number row.asked)
 
-all_marks : list_all is_mark MARKS ≡ true
-unfolding is_mark
-all_marks = refl
+all_marks_are_mark_rows : list_all is_mark_row MARKS ≡ true
+unfolding is_mark_row
+all_marks_are_mark_rows = refl
 
-apart : (x y : ℕ) → 9 ≤ x → y ≤ 8 → x ≡ y → ⊥
-apart x y above below same = omega arith
+request_is_no_mark : (x y : ℕ) → 9 ≤ x → y ≤ 8 → x ≡ y → ⊥
+request_is_no_mark x y above below same = omega arith
 
-not_eight : (x : ℕ) → 9 ≤ x → x ≡ 8 → ⊥
-not_eight x above same = omega arith
+nine_or_more_is_not_eight : (x : ℕ) → 9 ≤ x → x ≡ 8 → ⊥
+nine_or_more_is_not_eight x above same = omega arith
 
--- They lead a request nowhere.
-pub none_lead : (held : List (List ℕ)) (e : LogEvent) (n : StandardState) (a r : ℕ) → request_number e.asked ≤ 8
-    → list_any (leads held e n a r) MARKS ≡ false
-unfolding is_mark
-none_lead held e n a r request = false_from_ne_true _ (λ some.
-    let (k, row, in', is, led) = Any-from_list_any (leads held e n a r) MARKS some in
-    let mark : 9 ≤ request_number row.asked = leb-true _ _ (passes is_mark MARKS row (k, in', is) all_marks) in
+-- Rows of MARKS lead a request nowhere, because they are about a reset or power.
+pub marks_lead_no_request : (held : List (List ℕ)) (e : LogEvent) (n : StandardState) (a r : ℕ) → request_number e.asked ≤ 8
+    → list_any (row_leads held e n a r) MARKS ≡ false
+unfolding is_mark_row
+marks_lead_no_request held e n a r request = false_from_ne_true _ (λ some.
+    let (k, row, in', is, led) = Any-from_list_any (row_leads held e n a r) MARKS some in
+    let mark : 9 ≤ request_number row.asked = leb-true _ _ (each_element_passes is_mark_row MARKS row (k, in', is) all_marks_are_mark_rows)
+    in
     let asks = (and_parts _ _ (and_parts _ _ (and_parts _ _ led).1).0).0 in
     elim (or_cases _ _ asks) [
-      | inl same ↦ apart (request_number row.asked) (request_number e.asked) mark request (eqb-true _ _ same)
-      | inr other ↦ not_eight (request_number row.asked) mark (eqb-true _ _ (and_parts _ _ other).1)
+      | inl same ↦ request_is_no_mark (request_number row.asked) (request_number e.asked) mark request (eqb-true _ _ same)
+      | inr other ↦ nine_or_more_is_not_eight (request_number row.asked) mark (eqb-true _ _ (and_parts _ _ other).1)
     ])

@@ -7,31 +7,36 @@ use Rattle.dfu_conformance.specs.declared.event.LogEvent.{LogEvent}
 use Rattle.dfu_conformance.specs.declared.verdict.Verdict.TheVariants.{Kept, KeptBy, NotKept}
 use Rattle.dfu_conformance.specs.declared.verdict.Departure.{Departure}
 use Rattle.dfu_conformance.specs.RowMatches.{place_number}
-use Rattle.dfu_conformance.specs.Candidates.{stands}
+use Rattle.dfu_conformance.specs.Candidates.{may_be_at}
 use Rattle.dfu_conformance.specs.MayAnswer.{CanAnswer, CandidatesExact, PlainCandidatesExact}
-use Rattle.dfu_conformance.specs.Verdict.{IsVerdict, HasBits, ArePlacesAfter, Departs}
-use Rattle.dfu_conformance.specs.inside.Stepped.{stepped, has_candidate, anywhere, least_below}
-use Rattle.dfu_conformance.proofs.Exact.{held_more}
-use Rattle.dfu_conformance.proofs.Least.{LeastTo, least_to}
-use Rattle.dfu_conformance.proofs.Places.{number_below}
-use Rattle.dfu_conformance.proofs.Somewhere.{HeldWith, held_can, held_place}
+use Rattle.dfu_conformance.specs.Verdict.{IsVerdict, HasBits, ArePlacesAfter, EventDeparts}
+use Rattle.dfu_conformance.specs.inside.Stepped.{is_held_after_event, has_candidate, is_held_anywhere, least_below}
+use Rattle.dfu_conformance.proofs.Exact.{devices_after_event}
+use Rattle.dfu_conformance.proofs.Least.{IsLeastBelow, least_below_is_least}
+use Rattle.dfu_conformance.proofs.Places.{place_number_below_12}
+use Rattle.dfu_conformance.proofs.Somewhere.{PlacesHeldWith, held_device_can_answer, held_place_is_possible}
 
--- Places that are held for every set of readings are held for one.
-pub held_with : (held : List (List ℕ)) (events : List LogEvent) (r : ℕ) → r < 64 → CandidatesExact held events → HeldWith held events r
-held_with held events r within so = λ a p below. so a r p below within
+-- Places that are exact for every set of readings are exact for one set.
+pub places_held_for_readings : (held : List (List ℕ)) (events : List LogEvent) (r : ℕ) → r < 64 → CandidatesExact held events
+    → PlacesHeldWith held events r
+places_held_for_readings held events r within so = λ a p below. so a r p below within
 
--- If the devices without habits are held somewhere, the device is kept.
-pub is_kept : (held : List (List ℕ)) (events : List LogEvent) → CandidatesExact held events → anywhere held 0 ≡ true → IsVerdict Kept events
-is_kept held events so is_so = (held_can held events 0 (held_with held events 0 (omega arith) so)).0 is_so
+-- If a device without habits is held somewhere, the verdict is `Kept`.
+pub device_is_kept : (held : List (List ℕ)) (events : List LogEvent) → CandidatesExact held events → is_held_anywhere held 0 ≡ true
+    → IsVerdict Kept events
+device_is_kept held events so is_so =
+    (held_device_can_answer held events 0 (places_held_for_readings held events 0 (omega arith) so)).0 is_so
 
--- If they are not, and this set of readings is the least with which a device is held, it is kept by that set.
-pub is_kept_by : (held : List (List ℕ)) (events : List LogEvent) (s : ℕ) → CandidatesExact held events → anywhere held 0 ≡ false
-    → Some s ≡ least_below (anywhere held) 64 → IsVerdict (KeptBy s) events
-is_kept_by held events s so not_plain is =
-    let least : LeastTo (anywhere held) 64 (Some s) = subst (LeastTo (anywhere held) 64) (sym is) (least_to (anywhere held) 64) in
-    let can : (r : ℕ) → r < 64 → (anywhere held r ≡ true) ↔ CanAnswer r events =
-    λ r within. held_can held events r (held_with held events r within so) in (
-      λ plain. both_ways (anywhere held 0) not_plain ((can 0 (omega arith)).1 plain),
+-- If no device without habits is held, and `s` is the least set of readings with a device that is held, the verdict is `KeptBy s`.
+pub device_kept_by_readings : (held : List (List ℕ)) (events : List LogEvent) (s : ℕ) → CandidatesExact held events
+    → is_held_anywhere held 0 ≡ false
+    → Some s ≡ least_below (is_held_anywhere held) 64 → IsVerdict (KeptBy s) events
+device_kept_by_readings held events s so not_plain is =
+    let least : IsLeastBelow (is_held_anywhere held) 64 (Some s) = subst (IsLeastBelow (is_held_anywhere held) 64) (sym is)
+    (least_below_is_least (is_held_anywhere held) 64) in
+    let can : (r : ℕ) → r < 64 → (is_held_anywhere held r ≡ true) ↔ CanAnswer r events =
+    λ r within. held_device_can_answer held events r (places_held_for_readings held events r within so) in (
+      λ plain. both_ways (is_held_anywhere held 0) not_plain ((can 0 (omega arith)).1 plain),
       record {
         below = least.0;
         can = (can s least.0).0 least.1;
@@ -40,64 +45,73 @@ is_kept_by held events s so not_plain is =
       },
     )
 
--- The least set of readings has six bits.
-pub has_bits : (held : List (List ℕ)) (s : ℕ) → Some s ≡ least_below (anywhere held) 64 → HasBits (KeptBy s)
-has_bits held s is =
-    let least : LeastTo (anywhere held) 64 (Some s) = subst (LeastTo (anywhere held) 64) (sym is) (least_to (anywhere held) 64) in
+-- The least set of readings that is found has six bits.
+pub least_set_has_six_bits : (held : List (List ℕ)) (s : ℕ) → Some s ≡ least_below (is_held_anywhere held) 64 → HasBits (KeptBy s)
+least_set_has_six_bits held s is =
+    let least : IsLeastBelow (is_held_anywhere held) 64 (Some s) = subst (IsLeastBelow (is_held_anywhere held) 64) (sym is)
+    (least_below_is_least (is_held_anywhere held) 64) in
     least.0
 
--- If no set of readings is held, no device may have answered so.
-pub is_not_kept : (held : List (List ℕ)) (events : List LogEvent) → CandidatesExact held events → None ≡ least_below (anywhere held) 64
+-- If no device is held with any set of readings, the verdict is `NotKept`.
+pub device_is_not_kept : (held : List (List ℕ)) (events : List LogEvent) → CandidatesExact held events
+    → None ≡ least_below (is_held_anywhere held) 64
     → IsVerdict NotKept events
-is_not_kept held events so is = λ r within may.
-    let none_held : LeastTo (anywhere held) 64 None = subst (LeastTo (anywhere held) 64) (sym is) (least_to (anywhere held) 64) in
-    both_ways (anywhere held r) (none_held r within) ((held_can held events r (held_with held events r within so)).1 may)
+device_is_not_kept held events so is = λ r within may.
+    let none_held : IsLeastBelow (is_held_anywhere held) 64 None = subst (IsLeastBelow (is_held_anywhere held) 64) (sym is)
+    (least_below_is_least (is_held_anywhere held) 64) in
+    both_ways (is_held_anywhere held r) (none_held r within)
+    ((held_device_can_answer held events r (places_held_for_readings held events r within so)).1 may)
 
--- The devices after an event are those of a step.
-abbrev pub IsStep : List (List ℕ) → LogEvent → List (List ℕ) → Type 0
-IsStep before e after = (n : StandardState) (a r : ℕ) → a < 16 → r < 64 → stands after n a r ≡ stepped before e n a r
+-- The devices `before` become the devices `after` by the event `e`.
+abbrev pub IsDeviceStep : List (List ℕ) → LogEvent → List (List ℕ) → Type 0
+IsDeviceStep before e after = (n : StandardState) (a r : ℕ) → a < 16 → r < 64 → may_be_at after n a r ≡ is_held_after_event before e n a r
 
--- After a step the devices that may have answered one event more are held.
-pub held_next : (before after : List (List ℕ)) (events : List LogEvent) (e : LogEvent) → IsStep before e after
+-- If the devices before an event are exact, those after it are exact for the events and the further one.
+pub devices_held_next : (before after : List (List ℕ)) (events : List LogEvent) (e : LogEvent) → IsDeviceStep before e after
     → CandidatesExact before events
     → CandidatesExact after (events ++ e ∷ [])
-held_next before after events e says so a r p below within =
-    held_more before after events e a r (λ q. so a r q below within) (λ n. says n a r below within) p
+devices_held_next before after events e says so a r p below within =
+    devices_after_event before after events e a r (λ q. so a r q below within) (λ n. says n a r below within) p
 
--- The devices without habits are held so too.
-pub held_next_plain : (before after : List (List ℕ)) (events : List LogEvent) (e : LogEvent) → IsStep before e after
+-- If the devices without habits are exact before an event, those after it are exact too.
+pub plain_devices_held_next : (before after : List (List ℕ)) (events : List LogEvent) (e : LogEvent) → IsDeviceStep before e after
     → PlainCandidatesExact before events
     → PlainCandidatesExact after (events ++ e ∷ [])
-held_next_plain before after events e says so a p below =
-    held_more before after events e a 0 (λ q. so a q below) (λ n. says n a 0 below (omega arith)) p
+plain_devices_held_next before after events e says so a p below =
+    devices_after_event before after events e a 0 (λ q. so a q below) (λ n. says n a 0 below (omega arith)) p
 
--- If a device without habits is left, it may have answered so.
-pub goes_on : (before after : List (List ℕ)) (events : List LogEvent) (e : LogEvent) → IsStep before e after
+-- If a device without habits is left after an event, it may have answered all events up to it.
+pub plain_device_can_answer : (before after : List (List ℕ)) (events : List LogEvent) (e : LogEvent) → IsDeviceStep before e after
     → PlainCandidatesExact before events
-    → anywhere after 0 ≡ true → CanAnswer 0 (events ++ e ∷ []) × PlainCandidatesExact after (events ++ e ∷ [])
-goes_on before after events e says so left =
-    let next = held_next_plain before after events e says so in ((held_can after (events ++ e ∷ []) 0 next).0 left, next)
+    → is_held_anywhere after 0 ≡ true → CanAnswer 0 (events ++ e ∷ []) × PlainCandidatesExact after (events ++ e ∷ [])
+plain_device_can_answer before after events e says so left =
+    let next = plain_devices_held_next before after events e says so in (
+      (held_device_can_answer after (events
+          ++ e ∷ []) 0 next).0 left,
+      next,
+    )
 
--- The places where a device without habits is held are those where it may be.
-pub are_places : (before : List (List ℕ)) (at : List Bool) (events : List LogEvent) → PlainCandidatesExact before events
+-- The places where a device without habits is held are the places where it may be.
+pub held_places_are_possible : (before : List (List ℕ)) (at : List Bool) (events : List LogEvent) → PlainCandidatesExact before events
     → ((n : ℕ) → n < 12 → slice_index_or at n false ≡ has_candidate (slice_index_or before n []) 0) → ArePlacesAfter 0 events at
-are_places before at events so places = λ p.
-    let is = held_place before events 0 p so in
+held_places_are_possible before at events so places = λ p.
+    let is = held_place_is_possible before events 0 p so in
     let same : slice_index_or at (place_number p) false ≡ has_candidate (slice_index_or before (place_number p) []) 0 =
-    places (place_number p) (number_below p) in
+    places (place_number p) (place_number_below_12 p) in
     (λ here. is.0 (sym same ∙ here), λ x. same ∙ is.1 x)
 
--- A departure that is returned says: what came, that no device without habits is left, and where one might be before it.
-abbrev pub Told : (before after : List (List ℕ)) → LogEvent → Departure → Type 0
-Told before after e d = (d.event ≡ e) × (anywhere after 0 ≡ false)
+-- The departure that is returned has the event, says where a device might be before it, and leaves no device without habits.
+abbrev pub DepartureIsTold : (before after : List (List ℕ)) → LogEvent → Departure → Type 0
+DepartureIsTold before after e d = (d.event ≡ e) × (is_held_anywhere after 0 ≡ false)
     × ((n : ℕ) → n < 12 → slice_index_or d.before n false ≡ has_candidate (slice_index_or before n []) 0)
 
--- If none is left, the event is a departure.
-pub departs : (before after anew : List (List ℕ)) (events : List LogEvent) (e : LogEvent) (d : Departure) → IsStep before e after
-    → PlainCandidatesExact before events → PlainCandidatesExact anew [] → Told before after e d → Departs events d anew
-departs before after anew events e d says so first (is, none_left, places) = record {
-  before = are_places before d.before events so places;
-  none = λ may. both_ways (anywhere after 0) none_left ((held_can after (events ++ e ∷ []) 0
-      (held_next_plain before after events e says so)).1 (subst (λ (x : LogEvent). CanAnswer 0 (events ++ x ∷ [])) is may));
+-- If no device without habits is left, the event is a departure.
+pub event_without_devices_departs : (before after anew : List (List ℕ)) (events : List LogEvent) (e : LogEvent) (d : Departure) →
+    IsDeviceStep before e after
+    → PlainCandidatesExact before events → PlainCandidatesExact anew [] → DepartureIsTold before after e d → EventDeparts events d anew
+event_without_devices_departs before after anew events e d says so first (is, none_left, places) = record {
+  before = held_places_are_possible before d.before events so places;
+  none = λ may. both_ways (is_held_anywhere after 0) none_left ((held_device_can_answer after (events ++ e ∷ []) 0
+      (plain_devices_held_next before after events e says so)).1 (subst (λ (x : LogEvent). CanAnswer 0 (events ++ x ∷ [])) is may));
   anew = first;
 }

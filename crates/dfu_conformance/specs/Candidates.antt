@@ -17,30 +17,30 @@ reading_bit DetachAtOnce = 3
 reading_bit DetachLeaves = 4
 reading_bit ErrorWithoutCode = 5
 
--- A row is for the devices of these bmAttributes with this set of readings.
-abbrev pub meets : When → (attributes readings : ℕ) → Bool
-meets Always a r = true
-meets CanDownload a r = bit_at a 0 == 1
-meets CanUpload a r = bit_at a 1 == 1
-meets Tolerant a r = bit_at a 2 == 1
-meets NotTolerant a r = bit_at a 2 == 0
-meets WillDetach a r = bit_at a 3 == 1
-meets (By reading) a r = bit_at r (reading_bit reading) == 1
+-- The row is for the devices of these bmAttributes with this set of readings.
+abbrev pub is_row_for : When → (attributes readings : ℕ) → Bool
+is_row_for Always a r = true
+is_row_for CanDownload a r = bit_at a 0 == 1
+is_row_for CanUpload a r = bit_at a 1 == 1
+is_row_for Tolerant a r = bit_at a 2 == 1
+is_row_for NotTolerant a r = bit_at a 2 == 0
+is_row_for WillDetach a r = bit_at a 3 == 1
+is_row_for (By reading) a r = bit_at r (reading_bit reading) == 1
 
 -- Word a of the list has bit r.
 abbrev pub word_has_bit : List ℕ → (attributes readings : ℕ) → Bool
 word_has_bit words a r = bit_at (slice_index words a) r == 1
 
--- A device of these bmAttributes with this set of readings may be at this place.
-abbrev pub stands : List (List ℕ) → StandardState → (attributes readings : ℕ) → Bool
-stands held p a r = word_has_bit (slice_index_or held (place_number p) []) a r
+-- A device of these bmAttributes with this set of readings may be at the place.
+abbrev pub may_be_at : List (List ℕ) → StandardState → (attributes readings : ℕ) → Bool
+may_be_at held p a r = word_has_bit (slice_index_or held (place_number p) []) a r
 
--- The devices that a judge holds: since the last departure, and since the start.
-pub record Judged : Type 0 where
+-- Devices that a judge holds: those since the last departure, and those since the start.
+pub record JudgedDevices : Type 0 where
   pub since : List (List ℕ)
   pub whole : List (List ℕ)
 
--- The devices since the last departure: up to the first one they are those since the start.
-abbrev pub since_of : (has_departed : Bool) → (since whole : List (List ℕ)) → List (List ℕ)
-since_of true since whole = since
-since_of false since whole = whole
+-- Devices since the last departure; before the first departure they are those since the start.
+abbrev pub devices_since : (has_departed : Bool) → (since whole : List (List ℕ)) → List (List ℕ)
+devices_since true since whole = since
+devices_since false since whole = whole

@@ -8,8 +8,8 @@ use Rattle.dfu_conformance.specs.MayAnswer.{MayMove, Run}
 abbrev pub TwoMovesAreOne : Type 0
 TwoMovesAreOne = (a r : ℕ) (p q s : StandardState) → MayMove a r p q → MayMove a r q s → MayMove a r p s
 
--- A run from where a device moved is one from where it was.
-abbrev pub MovesFirst : Type 0
-MovesFirst =
+-- A run from a place to which a device moved is a run from where the device was.
+abbrev pub MovedRunIsRun : Type 0
+MovedRunIsRun =
     (a r : ℕ) (p q : StandardState) (events : List LogEvent) (last : StandardState) → MayMove a r p q → Run a r q events last
     → Run a r p events last

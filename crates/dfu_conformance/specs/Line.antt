@@ -12,7 +12,7 @@ use Rattle.dfu_conformance.specs.declared.log.Line.{Line}
 use Rattle.dfu_conformance.specs.declared.log.Line.TheVariants.{Blank, Elsewhere, Came}
 use Rattle.dfu_conformance.specs.declared.log.LineFault.{LineFault}
 use Rattle.dfu_conformance.specs.declared.log.LineFault.TheVariants as fault
-use Rattle.dfu_conformance.specs.Setups.{event_of, reset, power}
+use Rattle.dfu_conformance.specs.Setups.{event_of, reset_event, power_event}
 
 -- A byte parts the fields of a line if it is 20h.
 abbrev pub is_space : ℕ → Bool
@@ -34,7 +34,7 @@ digit_value byte =
     else if nat_le 65 byte && nat_le byte 70 then byte - 55
     else 16
 
--- The byte is a hexadecimal digit.
+-- The byte is a hexadecimal digit of either case.
 abbrev pub is_digit : ℕ → Bool
 is_digit byte = nat_lt (digit_value byte) 16
 
@@ -43,8 +43,8 @@ unfoldable pub is_hex : List ℕ → Bool
 is_hex text = nat_le (length text) 131070 && (length text % 2 == 0) && list_all is_digit text
 
 -- The byte of pair n of digits, or 0 if there are fewer.
-abbrev pub pair_byte : List ℕ → ℕ → ℕ
-pair_byte text n =
+abbrev pub byte_of_digit_pair : List ℕ → ℕ → ℕ
+byte_of_digit_pair text n =
     if nat_lt (2 * n + 1) (length text)
     then (16 * digit_value (slice_index text (2 * n)) + digit_value (slice_index text (2 * n + 1))) % 256
     else 0
@@ -53,11 +53,11 @@ pair_byte text n =
 unfoldable pub setup_in : List ℕ → Option Setup
 setup_in text =
     if is_hex text && (length text == 16) then Some (record {
-      kind = pair_byte text 0;
-      request = pair_byte text 1;
-      value = pair_byte text 2 + 256 * pair_byte text 3;
-      index = pair_byte text 4 + 256 * pair_byte text 5;
-      length = pair_byte text 6 + 256 * pair_byte text 7;
+      kind = byte_of_digit_pair text 0;
+      request = byte_of_digit_pair text 1;
+      value = byte_of_digit_pair text 2 + 256 * byte_of_digit_pair text 3;
+      index = byte_of_digit_pair text 4 + 256 * byte_of_digit_pair text 5;
+      length = byte_of_digit_pair text 6 + 256 * byte_of_digit_pair text 7;
     }) else None
 
 -- Bytes of a body: half as many as its text has digits, or 0 if its text is a dash.
@@ -73,7 +73,8 @@ answer_in text =
     if bytes_eq text (codes "ack") then Some (answer.Bytes 0 0 0)
     else if bytes_eq text (codes "stall") then Some answer.Stall
     else if bytes_eq text (codes "nothing") then Some answer.Nothing
-    else if is_hex text && nat_lt 0 (length text) then Some (answer.Bytes (length text / 2) (pair_byte text 0) (pair_byte text 4))
+    else if is_hex text && nat_lt 0 (length text) then Some (answer.Bytes (length text / 2) (byte_of_digit_pair text 0) (byte_of_digit_pair
+    text 4))
     else None
 
 -- A line says nothing if it is empty or begins with '#'.
@@ -81,30 +82,30 @@ abbrev pub is_blank : List ℕ → Bool
 is_blank [] = true
 is_blank (byte ∷ bytes) = byte == 35
 
--- The first wrong field of a line that can't be read.
+-- First wrong field of a line that can't be read.
 abbrev pub why_unread : List ℕ → LineFault
 why_unread text =
     if is_none (setup_in (field_of text)) then fault.Setup
     else if is_none (body_in (field_of (rest_of text))) then fault.Body
     else fault.Answer
 
--- A request that a setup asks for is read as this: one that is not of the class, or for another interface, is passed over.
+-- The line is read by the setup: a request that is not of the class, or for another interface, is passed over.
 abbrev pub IsRead : Request → Setup → (body : ℕ) → Response → Option Line → Type 0
 IsRead request.NotDfu s body a read = read ≡ Some Elsewhere
 IsRead q s body a read = read ≡ Some (Came (event_of s q body a))
 
--- A request by its fields: nothing is read if one of them can't be read; the interface is wIndex.
-abbrev pub RequestLine : (interface : ℕ) → Option Setup → Option ℕ → Option Response → Option Line → Type 0
-RequestLine interface (Some s) (Some body) (Some a) read =
+-- The line is read by its fields: nothing is read if one of them can't be read; the interface is wIndex.
+abbrev pub LineOfFields : (interface : ℕ) → Option Setup → Option ℕ → Option Response → Option Line → Type 0
+LineOfFields interface (Some s) (Some body) (Some a) read =
     MatchBool (s.index == interface)
     ((q : Request) → SetupRequest (record s { index = 0 }) q → IsRead q (record s { index = 0 }) body a read)
     (read ≡ Some Elsewhere)
-RequestLine interface s body a read = read ≡ None
+LineOfFields interface s body a read = read ≡ None
 
--- A line is read as this, for this interface; nothing if it is not a line of a log.
+-- The bytes are read as this line of a log, for this interface; nothing is read of bytes that are no line of a log.
 abbrev pub LineMeaning : (interface : ℕ) → List ℕ → Option Line → Type 0
 LineMeaning interface text read =
     MatchBool (is_blank text) (read ≡ Some Blank)
-    (MatchBool (bytes_eq text (codes "reset")) (read ≡ Some (Came reset))
-    (MatchBool (bytes_eq text (codes "power")) (read ≡ Some (Came power))
-    (RequestLine interface (setup_in (field_of text)) (body_in (field_of (rest_of text))) (answer_in (rest_of (rest_of text))) read)))
+    (MatchBool (bytes_eq text (codes "reset")) (read ≡ Some (Came reset_event))
+    (MatchBool (bytes_eq text (codes "power")) (read ≡ Some (Came power_event))
+    (LineOfFields interface (setup_in (field_of text)) (body_in (field_of (rest_of text))) (answer_in (rest_of (rest_of text))) read)))

@@ -11,7 +11,7 @@ use Rattle.dfu_conformance.specs.declared.event.Response.{Response}
 use Rattle.dfu_conformance.specs.declared.event.Response.TheVariants as answer
 use Rattle.dfu_conformance.specs.declared.event.LogEvent.{LogEvent}
 
--- The place of a place in the list of all twelve.
+-- Number of a place in the list of all twelve.
 abbrev pub place_number : StandardState → ℕ
 place_number AppIdle = 0
 place_number AppDetach = 1
@@ -26,12 +26,12 @@ place_number UploadIdle = 9
 place_number Error = 10
 place_number Fresh = 11
 
--- The number of the state of the standard that a place is.
+-- Number of the state of the standard at a place.
 abbrev pub number_of_state : StandardState → ℕ
 number_of_state Fresh = 2
 number_of_state p = place_number p
 
--- The place of what came in the list of all eleven.
+-- Number of what came in the list of all eleven.
 abbrev pub request_number : EventKind → ℕ
 request_number Detach = 0
 request_number Block = 1
@@ -45,17 +45,17 @@ request_number Other = 8
 request_number Reset = 9
 request_number Power = 10
 
--- A row about this request is about what was asked. A request that is not as section 3 has it may be taken as any other, too.
+-- A row with this request is about the event. A request that is not as section 3 has it may be taken as any other, too.
 abbrev pub asks : EventKind → LogEvent → Bool
 asks asked e = (request_number asked == request_number e.asked) || (not e.is_plain && (request_number asked == request_number Other))
 
--- A code that a status may have that enters this place: OK outside dfuERROR, and one of the others in it.
+-- The status that enters the place may have the code: OK outside dfuERROR, and another code in it.
 abbrev pub has_code : StandardState → ℕ → Bool
 has_code Error code = nat_lt 0 code && nat_lt code 16
 has_code p code = code == 0
 
--- This count of bytes, with this first and this fifth one, is what a row gives that leads from one place to another, if len were
--- asked for.
+-- The count of bytes, with the first and the fifth one, is what a row gives that leads from one place to another, if `len` bytes were asked
+-- for.
 abbrev pub bytes_match : Gives → (from next : StandardState) → (len count first fifth : ℕ) → Bool
 bytes_match gives.Silent from next len count first fifth = true
 bytes_match gives.Stall from next len count first fifth = false
@@ -68,29 +68,29 @@ bytes_match gives.Status from next len count first fifth =
 bytes_match gives.NoCode from next len count first fifth =
     (count == min len 6) && (((count == 0) || (first == 0)) && (nat_lt count 5 || (fifth == number_of_state next)))
 
--- A row that gives this may stall.
+-- A row that gives this answer may stall.
 abbrev pub row_may_stall : Gives → Bool
 row_may_stall gives.Stall = true
 row_may_stall gives.Silent = true
 row_may_stall g = false
 
--- The answer that was seen is what a row gives; if nothing was seen, it may have been anything.
+-- The answer that was seen is what the row gives; if nothing was seen, any answer may have been given.
 abbrev pub answer_matches : Gives → (from next : StandardState) → ℕ → Response → Bool
 answer_matches g from next len answer.Nothing = true
 answer_matches g from next len answer.Stall = row_may_stall g
 answer_matches g from next len (answer.Bytes count first fifth) = bytes_match g from next len count first fifth
 
 -- A row fits an event: it is about what was asked, and gives what was seen.
-abbrev pub fits : Row → LogEvent → Bool
-fits row e = asks row.asked e && answer_matches row.gives row.from row.next e.length e.answer
+abbrev pub row_fits : Row → LogEvent → Bool
+row_fits row e = asks row.asked e && answer_matches row.gives row.from row.next e.length e.answer
 
 -- A device may stay where it was, by whether the request is as section 3 has it and by what was seen.
-abbrev pub stays_at : Bool → Response → Bool
-stays_at plain answer.Nothing = true
-stays_at plain answer.Stall = not plain
-stays_at plain (answer.Bytes count first fifth) = false
+abbrev pub device_stays_at : Bool → Response → Bool
+device_stays_at plain answer.Nothing = true
+device_stays_at plain answer.Stall = not plain
+device_stays_at plain (answer.Bytes count first fifth) = false
 
--- A device may stay where it was: nothing was seen, so that the request may not have come; or a request was stalled that is not as
+-- A device may stay where it was: nothing was seen, so that the request may not have come; or a request was stalled because it is not as
 -- section 3 has it.
-abbrev pub stays : LogEvent → Bool
-stays e = stays_at e.is_plain e.answer
+abbrev pub device_stays : LogEvent → Bool
+device_stays e = device_stays_at e.is_plain e.answer

@@ -9,7 +9,7 @@ use Rattle.dfu_conformance.specs.declared.event.LogEvent.{LogEvent}
 use Rattle.dfu_conformance.specs.declared.event.Response.{Response}
 use Rattle.dfu_conformance.specs.declared.event.Response.TheVariants as answer
 
--- A request as the table has it: a DNLOAD of no bytes is another one.
+-- Event of a request, as the table has it: a DNLOAD of no bytes is a request of its own there.
 abbrev pub kind_of_request : Request → EventKind
 kind_of_request (request.Detach timeout) = Detach
 kind_of_request (request.Dnload block len) = if len == 0 then Close else Block
@@ -30,18 +30,19 @@ has_its_numbers (request.GetState len) value = (len == 1) && (value == 0)
 has_its_numbers request.Abort value = value == 0
 has_its_numbers q value = true
 
--- The request is as section 3 has it, and its body has as many bytes as its setup says: wLength to the device, and none from it.
+-- The request is as section 3 has it, and its body has as many bytes as its setup says: wLength on the way to the device, and none on the
+-- way from it.
 abbrev pub is_plain : Setup → Request → (body : ℕ) → Bool
 is_plain s q body = (body == (if s.kind == 0x21 then s.length else 0)) && has_its_numbers q s.value
 
--- Event of a setup that asks for this, with a body of this many bytes, and the answer that was seen.
+-- Event of a setup that asks for the request, with the length of its body, and the answer that was seen.
 abbrev pub event_of : Setup → Request → (body : ℕ) → Response → LogEvent
 event_of s q body a = record { asked = kind_of_request q; is_plain = is_plain s q body; length = s.length; answer = a }
 
 -- A reset of the bus came.
-abbrev pub reset : LogEvent
-reset = record { asked = Reset; is_plain = true; length = 0; answer = answer.Bytes 0 0 0 }
+abbrev pub reset_event : LogEvent
+reset_event = record { asked = Reset; is_plain = true; length = 0; answer = answer.Bytes 0 0 0 }
 
 -- Power came back.
-abbrev pub power : LogEvent
-power = record { asked = Power; is_plain = true; length = 0; answer = answer.Bytes 0 0 0 }
+abbrev pub power_event : LogEvent
+power_event = record { asked = Power; is_plain = true; length = 0; answer = answer.Bytes 0 0 0 }

@@ -1,6 +1,7 @@
 //! A reader of captures of the USB: pcap and pcapng with packets of Linux's usbmon, or of USBPcap on Windows.
 //!
-//! `log_of` makes the log of a device of it, and `CaptureStream` that of one that comes in pieces. No bytes make it stop but by a fault.
+//! `log_of` makes the log of a device from a whole capture, and `CaptureStream` from a capture that comes in pieces. No bytes stop them but
+//! by a fault.
 
 mod address;
 mod devices;

@@ -1,5 +1,5 @@
-//! Could a DfuSe device have answered so? Rows that DfuSe adds to the table of USB DFU 1.1, and a judge that follows each device that keeps
-//! both.
+//! Could a DfuSe device have given these answers? Rows that DfuSe adds to the table of USB DFU 1.1, and a judge that follows each device
+//! that keeps both.
 
 mod judge;
 pub mod laws;

@@ -11,7 +11,7 @@ use crate::row::Gives::{Ack, NoCode, Silent, Stall};
 use crate::row::Source::Habit;
 use crate::row::When::By;
 
-/// The rows of each reading.
+/// The rows of each habit.
 #[rattlefmt::skip]
 pub static HABITS: [Row; 28] = [
     // Bootloader: a reset and power lead to dfuIDLE.

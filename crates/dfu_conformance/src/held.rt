@@ -1,11 +1,11 @@
-//! Devices that are held at each place.
+//! Devices that may be at each place.
 
 ghost use Rattle.std.specs.Prelude.{◌≡◌, ◌<◌, ◌≤◌, ℕ, ◌||◌, ◌&&◌, slice_index, length, ◌==◌, List, [], false, true, slice_index_or};
 ghost use Rattle.std.specs.Int.{bit_at};
 ghost use Rattle.std.specs.List.{list_any};
-ghost use Rattle.dfu_conformance.specs.Candidates.{meets, word_has_bit, reading_bit, stands};
-ghost use Rattle.dfu_conformance.specs.inside.Stepped.{Covers, leads, drifts, stepped, has_candidate, anywhere, better_of, least_below};
-ghost use Rattle.dfu_conformance.specs.RowMatches.{place_number, stays};
+ghost use Rattle.dfu_conformance.specs.Candidates.{is_row_for, word_has_bit, reading_bit, may_be_at};
+ghost use Rattle.dfu_conformance.specs.inside.Stepped.{CoversPlaces, row_leads, drift_leads, is_held_after_event, has_candidate, is_held_anywhere, better_readings, least_below};
+ghost use Rattle.dfu_conformance.specs.RowMatches.{place_number, device_stays};
 ghost use Rattle.dfu_conformance.specs.declared.marks.TheConstants.{MARKS};
 
 use crate::drifts::DRIFTS;
@@ -15,12 +15,12 @@ use crate::marks::MARKS;
 use crate::standard::STANDARD;
 use crate::{Drift, LogEvent, Reading, Row, StandardState, When};
 
-/// For each bmAttributes the sets of readings: bit r of word a is the device of bmAttributes a and of the readings that are the bits of r.
+/// Sets of readings for each bmAttributes: bit r of word a is the device of bmAttributes a whose readings are the bits of r.
 pub(crate) type Devices = [u64; 16];
 
-/// The sets of readings for which a row is, at these bmAttributes, 0 to 15.
+/// Returns the sets of readings for which a row with `when` is, in a device of bmAttributes `attributes`, 0 to 15.
 fn word(when: When, attributes: usize) -> u64
-    ensures { (r : ℕ) → r < 64 → (bit_at result r == 1) ≡ meets when attributes r }
+    ensures { (r : ℕ) → r < 64 → (bit_at result r == 1) ≡ is_row_for when attributes r }
 {
     match when {
         When::Always => all_if(true),
@@ -33,14 +33,14 @@ fn word(when: When, attributes: usize) -> u64
     }
 }
 
-/// All sets of readings, or none.
+/// Returns all 64 sets of readings if `yes`, and else none.
 fn all_if(yes: bool) -> u64
     ensures { (r : ℕ) → r < 64 → (bit_at result r == 1) ≡ yes }
 {
     if yes { u64::MAX } else { 0 }
 }
 
-/// For each reading, by its number, the sets of readings in which it is.
+/// For each reading, by its number, the sets of readings that have it.
 const SETS_WITH: [u64; 6] = [
     0xaaaa_aaaa_aaaa_aaaa,
     0xcccc_cccc_cccc_cccc,
@@ -50,7 +50,7 @@ const SETS_WITH: [u64; 6] = [
     0xffff_ffff_0000_0000,
 ];
 
-/// The place of a reading in the list of all six.
+/// Returns the index of `reading` in the list of all six, 0 to 5.
 fn number_of(reading: Reading) -> usize
     ensures is { result ≡ reading_bit reading }
     ensures below { result < 6 }
@@ -58,19 +58,19 @@ fn number_of(reading: Reading) -> usize
     reading as usize
 }
 
-/// The sets of readings in which this one is.
-#[tactic(auto, using(crate::proofs::Words::has_reading))]
+/// Returns the sets of readings that have `reading`.
+#[tactic(auto, using(crate::proofs::Words::word_of_reading_has_bit))]
 fn readings_with(reading: Reading) -> u64
     ensures { (r : ℕ) → r < 64 → (bit_at result r == 1) ≡ (bit_at r (reading_bit reading) == 1) }
 {
     SETS_WITH[number_of(reading)]
 }
 
-/// These devices, and those of the others for which a row is.
+/// Returns the devices of `to`, and those of `from` for which a row with `when` is.
 fn join(to: &Devices, from: &Devices, when: When) -> Devices
     ensures size { length result ≡ 16 }
     ensures all { (a r : ℕ) → a < 16 → r < 64 →
-        word_has_bit result a r ≡ (word_has_bit to.now a r || (word_has_bit from.now a r && meets when a r)) }
+        word_has_bit result a r ≡ (word_has_bit to.now a r || (word_has_bit from.now a r && is_row_for when a r)) }
 {
     let mut after = *to;
     for a in 0..16 {
@@ -79,7 +79,7 @@ fn join(to: &Devices, from: &Devices, when: When) -> Devices
     after
 }
 
-/// The sets of readings of all devices, whatever their bmAttributes.
+/// Returns the sets of readings of all devices in `devices`, whatever their bmAttributes.
 fn readings_of(devices: &Devices) -> u64
     ensures { (r : ℕ) → r < 64 → (bit_at result r == 1) ≡ has_candidate devices.now r }
 {
@@ -90,8 +90,8 @@ fn readings_of(devices: &Devices) -> u64
     all
 }
 
-/// Returns whether there is no device.
-#[tactic(auto, using(crate::proofs::Untaken::none_held))]
+/// Returns true if `devices` has no device.
+#[tactic(auto, using(crate::proofs::Untaken::no_device_held))]
 fn is_empty(devices: &Devices) -> bool
     ensures { result ≡ true → (a r : ℕ) → a < 16 → r < 64 → word_has_bit devices.now a r ≡ false }
 {
@@ -101,12 +101,12 @@ fn is_empty(devices: &Devices) -> bool
 /// For each place the devices that may be there.
 pub(crate) type Places = [Devices; 12];
 
-/// By place, whether devices may be there. A row from a place without any leads none.
+/// For each place, by its number, true if devices may be there. A row from a place without devices leads none.
 type Taken = [bool; 12];
 
-/// The places where devices are.
+/// Returns the places where a device may be by `places`.
 fn taken(places: &Places) -> Taken
-    ensures { Covers places.now result }
+    ensures { CoversPlaces places.now result }
 {
     let mut at = [true; 12];
     for n in 0..12 {
@@ -115,65 +115,65 @@ fn taken(places: &Places) -> Taken
     at
 }
 
-/// The devices for which a row is are led from one place to another.
+/// Adds to place `to` of `after` the devices that may be at `from` by `before` and for which a row with `when` is.
 fn lead(before: &Places, from: StandardState, when: When, after: &mut Places, to: StandardState)
     ensures { (n : StandardState) (a r : ℕ) → a < 16 → r < 64
-        → stands after.new n a r
-        ≡ (stands after.old n a r || ((place_number to == place_number n) && (stands before.now from a r && meets when a r))) }
+        → may_be_at after.new n a r
+        ≡ (may_be_at after.old n a r || ((place_number to == place_number n) && (may_be_at before.now from a r && is_row_for when a r))) }
 {
     let to = to.number();
     after[to] = join(&after[to], &before[from.number()], when);
 }
 
-/// Adds the devices that go by this row.
+/// Adds to `after` the devices of `before` that go by `row` at `event`.
 fn go(row: &Row, before: &Places, at: &Taken, event: &LogEvent, after: &mut Places)
-    requires { Covers before.now at.now }
+    requires { CoversPlaces before.now at.now }
     ensures { (n : StandardState) (a r : ℕ) → a < 16 → r < 64
-        → stands after.new n a r ≡ (stands after.old n a r || leads before.now event.now n a r row.now) }
+        → may_be_at after.new n a r ≡ (may_be_at after.old n a r || row_leads before.now event.now n a r row.now) }
 {
     if at[row.from.number()] && speaks_of(row, event) {
         lead(before, row.from, row.when, after, row.next);
     }
 }
 
-/// Adds the devices that go by one of these rows.
+/// Adds to `after` the devices of `before` that go by one of `rows` at `event`.
 fn pass(rows: &[Row], before: &Places, at: &Taken, event: &LogEvent, after: &mut Places)
-    requires { Covers before.now at.now }
+    requires { CoversPlaces before.now at.now }
     ensures { (n : StandardState) (a r : ℕ) → a < 16 → r < 64
-        → stands after.new n a r ≡ (stands after.old n a r || list_any (leads before.now event.now n a r) rows.now) }
+        → may_be_at after.new n a r ≡ (may_be_at after.old n a r || list_any (row_leads before.now event.now n a r) rows.now) }
 {
     for row in rows {
         go(row, before, at, event, after);
     }
 }
 
-/// Adds the devices that go by a row of a reset or of power: no such row is about a request.
-#[tactic(auto, using(crate::proofs::Requests::none_lead))]
+/// Adds the devices that go by a row of a reset or of power, because no such row is about a request.
+#[tactic(auto, using(crate::proofs::Requests::marks_lead_no_request))]
 fn pass_marks(before: &Places, at: &Taken, event: &LogEvent, after: &mut Places)
-    requires { Covers before.now at.now }
+    requires { CoversPlaces before.now at.now }
     ensures { (n : StandardState) (a r : ℕ) → a < 16 → r < 64
-        → stands after.new n a r ≡ (stands after.old n a r || list_any (leads before.now event.now n a r) MARKS) }
+        → may_be_at after.new n a r ≡ (may_be_at after.old n a r || list_any (row_leads before.now event.now n a r) MARKS) }
 {
     if event.asked.number() > 8 {
         pass(&MARKS, before, at, event, after);
     }
 }
 
-/// Adds the devices that make this move by themselves.
+/// Adds to `after` the devices of `before` that make the move `one` by themselves.
 fn slide(one: &Drift, before: &Places, at: &Taken, after: &mut Places)
-    requires { Covers before.now at.now }
+    requires { CoversPlaces before.now at.now }
     ensures { (n : StandardState) (a r : ℕ) → a < 16 → r < 64
-        → stands after.new n a r ≡ (stands after.old n a r || drifts before.now n a r one.now) }
+        → may_be_at after.new n a r ≡ (may_be_at after.old n a r || drift_leads before.now n a r one.now) }
 {
     if at[one.from.number()] {
         lead(before, one.from, one.when, after, one.next);
     }
 }
 
-/// Adds the devices that make one of these moves by themselves.
+/// Returns the devices of `before`, and those of them that make one of `moves` by themselves, at the place to which the move leads.
 fn drift(moves: &[Drift], before: &Places) -> Places
     ensures { (n : StandardState) (a r : ℕ) → a < 16 → r < 64
-        → stands result n a r ≡ (stands before.now n a r || list_any (drifts before.now n a r) moves.now) }
+        → may_be_at result n a r ≡ (may_be_at before.now n a r || list_any (drift_leads before.now n a r) moves.now) }
 {
     let mut after = *before;
     let at = taken(before);
@@ -183,9 +183,10 @@ fn drift(moves: &[Drift], before: &Places) -> Places
     after
 }
 
-/// The devices that may stay where they were, by an event.
+/// Returns the devices that may be where they were by `before` after `event`.
 fn rest(before: &Places, event: &LogEvent) -> Places
-    ensures { (n : StandardState) (a r : ℕ) → a < 16 → r < 64 → stands result n a r ≡ (stays event.now && stands before.now n a r) }
+    ensures { (n : StandardState) (a r : ℕ) → a < 16 → r < 64
+        → may_be_at result n a r ≡ (device_stays event.now && may_be_at before.now n a r) }
 {
     if may_stay(event) {
         *before
@@ -194,9 +195,9 @@ fn rest(before: &Places, event: &LogEvent) -> Places
     }
 }
 
-/// The devices that may be at each place after an event, if these might be there before it.
+/// Returns the devices that may be at each place after `event`, if `before` has those that may be there before it.
 pub(crate) fn step(before: &Places, event: &LogEvent) -> Places
-    ensures { (n : StandardState) (a r : ℕ) → a < 16 → r < 64 → stands result n a r ≡ stepped before.now event.now n a r }
+    ensures { (n : StandardState) (a r : ℕ) → a < 16 → r < 64 → may_be_at result n a r ≡ is_held_after_event before.now event.now n a r }
 {
     let at = taken(before);
     let mut after = rest(before, event);
@@ -206,7 +207,7 @@ pub(crate) fn step(before: &Places, event: &LogEvent) -> Places
     drift(&DRIFTS, &after)
 }
 
-/// Returns whether this bit is 1.
+/// Returns true if bit `bit` of `word` is 1.
 fn has_bit(word: u64, bit: u8) -> bool
     requires { bit < 64 }
     ensures { result ≡ (bit_at word bit == 1) }
@@ -214,7 +215,7 @@ fn has_bit(word: u64, bit: u8) -> bool
     word >> bit & 1 == 1
 }
 
-/// Returns whether a device with this set of readings is held, with any bmAttributes.
+/// Returns true if a device with the set `readings` is held, with any bmAttributes.
 fn is_held(devices: &Devices, readings: u8) -> bool
     requires { readings < 64 }
     ensures { result ≡ has_candidate devices.now readings }
@@ -222,7 +223,7 @@ fn is_held(devices: &Devices, readings: u8) -> bool
     has_bit(readings_of(devices), readings)
 }
 
-/// By place, whether a device with this set of readings may be there.
+/// Returns for each place whether a device with the set `readings` may be there by `places`.
 pub(crate) fn places_of(places: &Places, readings: u8) -> [bool; 12]
     requires { readings < 64 }
     ensures { (n : ℕ) → n < 12 → slice_index_or result n false ≡ has_candidate (slice_index_or places.now n []) readings }
@@ -234,10 +235,10 @@ pub(crate) fn places_of(places: &Places, readings: u8) -> [bool; 12]
     at
 }
 
-/// Returns whether a device with this set of readings may be anywhere.
+/// Returns true if a device with the set `readings` may be at any place by `places`.
 pub(crate) fn is_any_held(places: &Places, readings: u8) -> bool
     requires { readings < 64 }
-    ensures { result ≡ anywhere places.now readings }
+    ensures { result ≡ is_held_anywhere places.now readings }
 {
     let mut is_some = false;
     for n in 0..12 {
@@ -246,11 +247,11 @@ pub(crate) fn is_any_held(places: &Places, readings: u8) -> bool
     is_some
 }
 
-/// The least set of readings below a number with which a device may be somewhere: one with the fewest readings, and of these the
-/// first by its number.
+/// Returns the least set of readings below number `sets` with which a device may be somewhere by `places`: a set with the fewest readings,
+/// and of several the one with the least number. None if there is no such set.
 pub(crate) fn least_held(places: &Places, sets: u8) -> Option<u8>
     requires { sets ≤ 64 }
-    ensures { result ≡ least_below (anywhere places.now) sets }
+    ensures { result ≡ least_below (is_held_anywhere places.now) sets }
 {
     let mut least = None;
     for readings in 0..sets {
@@ -259,9 +260,9 @@ pub(crate) fn least_held(places: &Places, sets: u8) -> Option<u8>
     least
 }
 
-/// The better of a set of readings, if it is held, and another set, if there is one.
+/// Returns the better set of two: `readings`, if it is held and has fewer readings than `least`, and else `least`.
 fn better(held: bool, readings: u8, least: Option<u8>) -> Option<u8>
-    ensures { result ≡ better_of held readings least }
+    ensures { result ≡ better_readings held readings least }
 {
     if !held {
         return least;

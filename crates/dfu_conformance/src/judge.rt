@@ -1,7 +1,7 @@
-//! The judge.
+//! The judge of a device of the standard.
 
 ghost use Rattle.std.specs.Prelude.{◌≡◌, ◌<◌, ℕ, List, IsNone, IfSome, [], ◌∷◌, ◌++◌, slice_index_or, true, false};
-ghost use Rattle.dfu_conformance.specs.inside.Stepped.{anywhere, has_candidate};
+ghost use Rattle.dfu_conformance.specs.inside.Stepped.{is_held_anywhere, has_candidate};
 
 use crate::held::{Places, is_any_held, least_held, places_of, step};
 use crate::{Departure, LogEvent, Verdict};
@@ -10,11 +10,11 @@ use std::marker::Model;
 /// Every device, at every place.
 const EVERY: Places = [[u64::MAX; 16]; 12];
 
-/// A judge of one device, about which nothing is known at first: it follows every device at once, with each set of habits.
-/// It takes no memory beyond its own 3,080 bytes.
+/// A judge of one device, about which nothing is known at first: it follows every device at once, with each set of habits, and takes no
+/// memory beyond its own 3,080 bytes.
 #[derive(Drop)]
 pub struct Judge {
-    // Up to the first departure both are the same, and `since` is not used.
+    // Up to the first departure both lists are the same, and `since` is not used.
     has_departed: bool,
     since: Places,
     whole: Places,
@@ -22,17 +22,17 @@ pub struct Judge {
 
 // a clause sees the devices that are held, since the last departure and since the start
 impl Model for Judge {
-    ghost use Rattle.dfu_conformance.specs.Candidates.{Judged, since_of};
+    ghost use Rattle.dfu_conformance.specs.Candidates.{JudgedDevices, devices_since};
 
-    ghost Value = { Judged };
+    ghost Value = { JudgedDevices };
 
-    ghost view = { λ s. record { since = since_of s.has_departed s.since s.whole; whole = s.whole } };
+    ghost view = { λ s. record { since = devices_since s.has_departed s.since s.whole; whole = s.whole } };
 }
 
-/// The departure at an event, if no device without habits is left after it.
+/// Returns the departure at `event`, if no device without habits is left in `after`; else None.
 fn departure(before: &Places, after: &Places, event: &LogEvent) -> Option<Departure>
-    ensures none { IsNone result → anywhere after.now 0 ≡ true }
-    ensures some { IfSome result (λ d. (d.event ≡ event.now) × (anywhere after.now 0 ≡ false)
+    ensures none { IsNone result → is_held_anywhere after.now 0 ≡ true }
+    ensures some { IfSome result (λ d. (d.event ≡ event.now) × (is_held_anywhere after.now 0 ≡ false)
         × ((n : ℕ) → n < 12 → slice_index_or d.before n false ≡ has_candidate (slice_index_or before.now n []) 0)) }
 {
     if is_any_held(after, 0) {
@@ -46,10 +46,10 @@ fn departure(before: &Places, after: &Places, event: &LogEvent) -> Option<Depart
 
 impl Judge {
     ghost use Rattle.dfu_conformance.specs.MayAnswer.{CanAnswer, CandidatesExact, PlainCandidatesExact};
-    ghost use Rattle.dfu_conformance.specs.Verdict.{IsVerdict, HasBits, ArePlacesAfter, Departs};
+    ghost use Rattle.dfu_conformance.specs.Verdict.{IsVerdict, HasBits, ArePlacesAfter, EventDeparts};
     ghost use Rattle.dfu_conformance.specs.declared.event.LogEvent.{LogEvent};
 
-    /// A judge of a device about which nothing is known: it may be anywhere.
+    /// Returns a judge before the first event, of a device about which nothing is known, and which may be at every place.
     pub fn new() -> Judge
         ensures whole { CandidatesExact result.whole [] }
         ensures since { PlainCandidatesExact result.since [] }
@@ -61,14 +61,14 @@ impl Judge {
         }
     }
 
-    /// An event comes. If no device of the standard is left, it returns the departure, and from then on the device may be
+    /// Takes the next event. Returns the departure if no device of the standard is left after `event`, and from then on the device may be
     /// anywhere again, for departures; for the verdict nothing changes.
     pub fn take(&mut self, event: &LogEvent) -> Option<Departure>
         ensures whole { (es : List LogEvent) → CandidatesExact self.old.whole es → CandidatesExact self.new.whole (es ++ event.now ∷ []) }
         ensures kept { IsNone result → (es : List LogEvent) → PlainCandidatesExact self.old.since es
             → CanAnswer 0 (es ++ event.now ∷ []) × PlainCandidatesExact self.new.since (es ++ event.now ∷ []) }
         ensures departs { IfSome result (λ d. (d.event ≡ event.now) × ((es : List LogEvent) → PlainCandidatesExact self.old.since es
-            → Departs es d self.new.since)) }
+            → EventDeparts es d self.new.since)) }
     {
         let whole = step(&self.whole, event);
         if self.has_departed {
@@ -101,7 +101,7 @@ impl Judge {
         }
     }
 
-    /// The verdict on all events that came.
+    /// Returns the verdict on all events that were taken.
     pub fn verdict(&self) -> Verdict
         ensures is { (es : List LogEvent) → CandidatesExact self.now.whole es → IsVerdict result es }
         ensures bits { HasBits result }
@@ -115,7 +115,8 @@ impl Judge {
         }
     }
 
-    /// If the device may be now if it has this set of readings, 0 to 63: by place, in the order of [`crate::StandardState`].
+    /// Returns for each place whether the device may be there now if it has the set `readings`, 0 to 63. The places are in the order of
+    /// [`crate::StandardState`].
     pub fn places(&self, readings: u8) -> [bool; 12]
         requires { readings < 64 }
         ensures { (es : List LogEvent) → CandidatesExact self.now.whole es → ArePlacesAfter readings es result }
@@ -123,8 +124,8 @@ impl Judge {
         places_of(&self.whole, readings)
     }
 
-    /// The places where a device without habits may be now, by the events since the last departure, in the order of
-    /// [`crate::StandardState`].
+    /// Returns for each place whether a device without habits may be there now, by the events since the last departure. The places are in
+    /// the order of [`crate::StandardState`].
     pub fn standing(&self) -> [bool; 12]
         ensures { (es : List LogEvent) → PlainCandidatesExact self.now.since es → ArePlacesAfter 0 es result }
     {

@@ -1,5 +1,5 @@
-//! Could a device that keeps USB DFU 1.1 have answered so? A table of all that the standard leaves open, and a judge that follows every
-//! device of it at once.
+//! Could a device that keeps USB DFU 1.1 have given these answers? A table of all that the standard leaves open, and a judge that follows
+//! every device of it at once.
 #![tactic(auto)]
 
 macro_rules! row {

@@ -2,19 +2,19 @@
 
 ghost use Rattle.std.specs.Prelude.{◌≡◌, ◌≤◌, ◌<◌, ◌+◌, ◌*◌, length};
 ghost use Rattle.std.specs.List.{list_all, position, position_or_len};
-ghost use Rattle.dfu_conformance.specs.Line.{is_space, is_digit, digit_value, pair_byte, is_hex, setup_in, body_in, answer_in};
+ghost use Rattle.dfu_conformance.specs.Line.{is_space, is_digit, digit_value, byte_of_digit_pair, is_hex, setup_in, body_in, answer_in};
 
 use crate::Response;
 use dfu_wire::Setup;
 
-/// The first space of a line.
+/// Returns the index of the first space of `line`; None if it has none.
 fn first_space(line: &[u8]) -> Option<usize>
     ensures { result ≡ position is_space line.now }
 {
     line.iter().position(|byte| *byte == b' ')
 }
 
-/// Returns the end of the first field of a line: its first space, or the line's end.
+/// Returns the end of the first field of `line`: its first space, or the line's end.
 pub(crate) fn field_end(line: &[u8]) -> usize
     ensures value { result ≡ position_or_len is_space line.now }
     ensures within { result ≤ length line.now }
@@ -25,7 +25,7 @@ pub(crate) fn field_end(line: &[u8]) -> usize
     }
 }
 
-/// The value of a hexadecimal digit of either case, and 16 of any other byte.
+/// Returns the value of hexadecimal digit `byte`, of either case, and 16 for any other byte.
 fn value_of(byte: u8) -> u8
     ensures value { result ≡ digit_value byte }
     ensures fits { result ≤ 16 }
@@ -38,14 +38,14 @@ fn value_of(byte: u8) -> u8
     }
 }
 
-/// Returns whether all bytes are hexadecimal digits.
+/// Returns true if all bytes of `text` are hexadecimal digits.
 fn are_digits(text: &[u8]) -> bool
     ensures { result ≡ list_all is_digit text.now }
 {
     text.iter().all(|byte| value_of(*byte) < 16)
 }
 
-/// Returns whether a text is bytes, pairs of hexadecimal digits, at most 65,535 of them.
+/// Returns true if `text` is bytes, pairs of hexadecimal digits, at most 65,535 of them.
 #[tactic(auto, unfolding(crate::specs::Line::is_hex))]
 fn is_bytes(text: &[u8]) -> bool
     ensures { result ≡ is_hex text.now }
@@ -59,10 +59,10 @@ fn is_bytes(text: &[u8]) -> bool
     are_digits(text)
 }
 
-/// The byte of pair n of digits, or 0 if there are fewer.
+/// Returns the byte that pair `n` of the hexadecimal digits of `text` makes, or 0 if `text` ends before it does.
 fn byte_at(text: &[u8], n: usize) -> u8
     requires { n < 8 }
-    ensures { result ≡ pair_byte text.now n }
+    ensures { result ≡ byte_of_digit_pair text.now n }
 {
     if 2 * n + 1 >= text.len() {
         return 0;
@@ -72,15 +72,15 @@ fn byte_at(text: &[u8], n: usize) -> u8
     ((16 * high + low) % 256) as u8
 }
 
-/// A number of two bytes, the low byte first.
+/// Returns the number that the pairs `n` and `n` + 1 of `text` make, the low byte first.
 fn number_at(text: &[u8], n: usize) -> u16
     requires { n < 7 }
-    ensures { result ≡ pair_byte text.now n + 256 * pair_byte text.now (n + 1) }
+    ensures { result ≡ byte_of_digit_pair text.now n + 256 * byte_of_digit_pair text.now (n + 1) }
 {
     byte_at(text, n) as u16 + 256 * byte_at(text, n + 1) as u16
 }
 
-/// A setup: sixteen digits.
+/// Returns the setup that `text` says in sixteen hexadecimal digits; None if `text` is anything else.
 #[tactic(auto, unfolding(crate::specs::Line::setup_in))]
 pub(crate) fn setup_of(text: &[u8]) -> Option<Setup>
     ensures { result ≡ setup_in text.now }
@@ -97,7 +97,7 @@ pub(crate) fn setup_of(text: &[u8]) -> Option<Setup>
     })
 }
 
-/// Returns the bytes of a body: half as many as its text has digits, or 0 if its text is a dash.
+/// Returns the number of bytes of the body `text`: half as many as it has digits, or 0 for a dash; None if it is no body.
 #[tactic(auto, unfolding(crate::specs::Line::body_in))]
 pub(crate) fn body_of(text: &[u8]) -> Option<usize>
     ensures { result ≡ body_in text.now }
@@ -111,7 +111,7 @@ pub(crate) fn body_of(text: &[u8]) -> Option<usize>
     Some(text.len() / 2)
 }
 
-/// An answer: a word, or the bytes that came.
+/// Reads `text` as an answer: a word, or the bytes that came; None if it is neither.
 #[tactic(auto, unfolding(crate::specs::Line::answer_in, crate::specs::Line::is_hex))]
 pub(crate) fn answer_of(text: &[u8]) -> Option<Response>
     ensures { result ≡ answer_in text.now }

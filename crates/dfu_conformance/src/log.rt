@@ -3,8 +3,8 @@
 ghost use Rattle.std.specs.Prelude.{◌≡◌, MatchBool, Some, None};
 ghost use Rattle.dfu_wire.specs.Request.{SetupRequest};
 ghost use Rattle.dfu_wire.specs.declared.requests.Request.{Request};
-ghost use Rattle.dfu_conformance.specs.Line.{LineMeaning, RequestLine, IsRead, field_of, rest_of, is_blank, why_unread};
-ghost use Rattle.dfu_conformance.specs.Setups.{reset, power};
+ghost use Rattle.dfu_conformance.specs.Line.{LineMeaning, LineOfFields, IsRead, field_of, rest_of, is_blank, why_unread};
+ghost use Rattle.dfu_conformance.specs.Setups.{reset_event, power_event};
 
 use crate::line::{answer_of, body_of, field_end, setup_of};
 use crate::{EventKind, LogEvent, Response};
@@ -13,35 +13,35 @@ use dfu_wire::Setup;
 /// Content of a line of a log.
 #[derive(Clone, Copy)]
 pub enum Line {
-    /// Nothing: it is empty, or begins with `#`.
+    /// The line says nothing, because it is empty or begins with `#`.
     Blank,
     /// A request that is no request of the class, or one for another interface.
     Elsewhere,
-    /// Event that came to the device.
+    /// An event that came to the device.
     Came(LogEvent),
 }
 
 /// Fault of a line that is not a line of a log.
 #[derive(Clone, Copy)]
 pub enum LineFault {
-    /// It has over 262,158 bytes: only a comment may be longer.
+    /// The line has over 262,158 bytes: only a comment may be longer.
     Long,
-    /// Its first field is no setup.
+    /// The first field is no setup.
     Setup,
-    /// Its second field is no body.
+    /// The second field is no body.
     Body,
-    /// The rest after its second field is no answer.
+    /// The rest behind the second field is no answer.
     Answer,
 }
 
-/// Nothing is answered to a reset, nor to power.
+/// Answer to a reset or to power: none.
 const SILENT: Response = Response::Bytes {
     count: 0,
     first: 0,
     fifth: 0,
 };
 
-/// The first field of a line, and what follows its space.
+/// Returns the first field of `line`, and the bytes after the space that ends it.
 fn parts(line: &[u8]) -> (&[u8], &[u8])
     ensures field { result.0.now ≡ field_of line.now }
     ensures rest { result.1.now ≡ rest_of line.now }
@@ -62,7 +62,7 @@ fn parts(line: &[u8]) -> (&[u8], &[u8])
 /// - `reset` and `power`;
 /// - an empty line, or one that begins with `#`.
 ///
-/// `None` for any other line. Bytes are at most 65,535.
+/// `None` for any other line. A body and an answer have at most 65,535 bytes each.
 pub fn read_line(interface: u8, line: &[u8]) -> Option<Line>
     ensures { LineMeaning interface line.now result }
 {
@@ -80,7 +80,7 @@ pub fn read_line(interface: u8, line: &[u8]) -> Option<Line>
     request_of(interface, setup_of(setup), body_of(body), answer_of(answer))
 }
 
-/// The first wrong field of a line that `read_line` can't read.
+/// Returns the first wrong field of `line`, which `read_line` can't read.
 pub fn why_unread(line: &[u8]) -> LineFault
     ensures { result ≡ why_unread line.now }
 {
@@ -95,7 +95,7 @@ pub fn why_unread(line: &[u8]) -> LineFault
     LineFault::Answer
 }
 
-/// Returns whether a line says nothing.
+/// Returns true if `line` says nothing.
 fn begins_blank(line: &[u8]) -> bool
     ensures { result ≡ is_blank line.now }
 {
@@ -105,9 +105,9 @@ fn begins_blank(line: &[u8]) -> bool
     }
 }
 
-/// A reset or power.
+/// Returns the event of a line of a reset or of power, as `asked` says.
 fn mark(asked: EventKind) -> LogEvent
-    ensures { result ≡ record reset { asked = asked } }
+    ensures { result ≡ record reset_event { asked = asked } }
 {
     LogEvent {
         asked,
@@ -117,14 +117,14 @@ fn mark(asked: EventKind) -> LogEvent
     }
 }
 
-/// A request by its fields.
+/// Returns the line of a request, by its fields `setup`, `body` and `answer`; None if one of them can't be read.
 fn request_of(
     interface: u8,
     setup: Option<Setup>,
     body: Option<usize>,
     answer: Option<Response>,
 ) -> Option<Line>
-    ensures { RequestLine interface setup body answer result }
+    ensures { LineOfFields interface setup body answer result }
 {
     match (setup, body, answer) {
         (Some(setup), Some(body), Some(answer)) => {
@@ -138,7 +138,7 @@ fn request_of(
     }
 }
 
-/// A request for interface 0.
+/// Returns the line of a request with `setup`, a body of `body` bytes and `answer`: Elsewhere if it is none of the class for interface 0.
 fn line_of(setup: &Setup, body: usize, answer: Response) -> Line
     ensures { (q : Request) → SetupRequest setup.now q → IsRead q setup.now body answer (Some result) }
 {

@@ -10,7 +10,7 @@ use crate::row::Gives::Silent;
 use crate::row::Source::{A, Open};
 use crate::row::When::Always;
 
-// The rows of a device at a place, at a reset of the bus or power: one for each place that it may come up in.
+// The rows of a device at a place, at a reset of the bus or power: one for each place in which it may come up.
 macro_rules! marks {
     ($($from:ident, $asked:ident => $($next:ident)|+, $source:ident;)+) => {
         [$($(row!($from, $asked, Always, Silent, $next, $source),)+)+]

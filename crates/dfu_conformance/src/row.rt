@@ -1,9 +1,10 @@
-//! A row of the table, and the words that it is written in.
+//! A row of the table, and the words in which it is written.
 
 ghost use Rattle.std.specs.Prelude.{◌≡◌};
 ghost use Rattle.dfu_conformance.specs.RowMatches.{request_number, place_number};
 
-/// Place at which a device may be: a state of the standard (USB DFU 1.1, section 6.1.2), or dfuIDLE that a reset of the bus just entered.
+/// Place at which a device may be: a state of the standard (USB DFU 1.1, section 6.1.2), or dfuIDLE that a reset of the bus has just
+/// entered.
 #[derive(Clone, Copy)]
 pub enum StandardState {
     /// 0.
@@ -28,12 +29,12 @@ pub enum StandardState {
     UploadIdle,
     /// 10.
     Error,
-    /// dfuIDLE too, entered by a reset: a second reset may belong to the same enumeration.
+    /// dfuIDLE, entered by a reset: a second reset may belong to the same enumeration.
     Fresh,
 }
 
 impl StandardState {
-    /// Its place in a list of all twelve, 0 to 11.
+    /// Returns the index of the place in a list of all twelve, 0 to 11.
     pub fn number(self) -> usize
         ensures { result ≡ place_number self }
     {
@@ -69,7 +70,7 @@ pub enum EventKind {
 }
 
 impl EventKind {
-    /// Its place in a list of all eleven, 0 to 10.
+    /// Returns the index of the kind of event in a list of all eleven, 0 to 10.
     pub(crate) fn number(self) -> usize
         ensures { result ≡ request_number self }
     {
@@ -82,9 +83,9 @@ impl EventKind {
 pub enum Reading {
     /// 0: after a reset or power the device is in dfuIDLE, as a bootloader with no application is.
     Bootloader,
-    /// 1: in appIDLE and appDETACH it stalls GETSTATUS and GETSTATE.
+    /// 1: in appIDLE and appDETACH the device stalls GETSTATUS and GETSTATE.
     RuntimeMute,
-    /// 2: it leaves dfuMANIFEST and dfuMANIFEST-WAIT-RESET for appIDLE by itself.
+    /// 2: the device leaves dfuMANIFEST and dfuMANIFEST-WAIT-RESET for appIDLE by itself.
     SelfReset,
     /// 3: DETACH leads from appIDLE to dfuIDLE at once.
     DetachAtOnce,
@@ -109,19 +110,19 @@ pub enum When {
     NotTolerant,
     /// bitWillDetach is 1.
     WillDetach,
-    /// Those with this habit: the standard has no such row.
+    /// Devices with this habit: the standard has no such row.
     By(Reading),
 }
 
 /// Answer that a device gives by a row.
 #[derive(Clone, Copy)]
 pub enum Gives {
-    /// It acknowledges, or sends no bytes.
+    /// The device acknowledges, or sends no bytes.
     Ack,
-    /// It stalls.
+    /// The device stalls.
     Stall,
-    /// Six bytes, or as many of them as were asked for (section 6.1.2): the code is OK outside dfuERROR, and another one in it; the
-    /// state is the one that is entered.
+    /// Six bytes, or as many of them as were asked for (section 6.1.2): the code is OK outside dfuERROR, and another code in it; the state
+    /// is the one that is entered.
     Status,
     /// As `Status`, but with the code OK in dfuERROR.
     NoCode,
@@ -131,7 +132,7 @@ pub enum Gives {
     Full,
     /// Fewer bytes of an image.
     Short,
-    /// A reset and power are answered by nothing.
+    /// Nothing, after a reset or power.
     Silent,
 }
 
@@ -142,22 +143,22 @@ pub enum Source {
     A,
     /// Appendix A can be read so, and otherwise too: both readings have rows.
     Open,
-    /// Nowhere.
+    /// The standard has no such row.
     Habit,
 }
 
-/// A row of the table: what a device may answer at a place, and where it is then.
+/// A row of the table: the answer that a device may give at a place, and where it is then.
 #[derive(Clone, Copy)]
 pub struct Row {
-    /// Place of the device.
+    /// Place of the device before the event or the move.
     pub from: StandardState,
-    /// Event that comes to it.
+    /// Event that comes to the device.
     pub asked: EventKind,
     /// For which devices the row is.
     pub when: When,
-    /// What it answers.
+    /// Answer of the device.
     pub gives: Gives,
-    /// Place of the device then.
+    /// Place of the device afterwards.
     pub next: StandardState,
     /// Source of the row in the standard.
     pub source: Source,
@@ -166,11 +167,11 @@ pub struct Row {
 /// A move that a device makes by itself, between two events.
 #[derive(Clone, Copy)]
 pub struct Drift {
-    /// Place of the device.
+    /// Place of the device before the event or the move.
     pub from: StandardState,
     /// Devices that make the move.
     pub when: When,
-    /// Place of the device then.
+    /// Place of the device afterwards.
     pub next: StandardState,
     /// Source of the move in the standard.
     pub source: Source,

@@ -4,7 +4,7 @@ ghost use Rattle.dfu_conformance.specs.Verdict.{IsVerdict};
 
 use crate::{Judge, LogEvent, Verdict};
 
-/// The verdict on these events, for a device about which nothing is known.
+/// Returns the verdict on `events`, for a device about which nothing is known.
 pub fn verdict_on(events: &[LogEvent]) -> Verdict
     ensures { IsVerdict result events.now }
 {

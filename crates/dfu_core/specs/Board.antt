@@ -5,7 +5,7 @@ use Rattle.dfu_slots.specs.Medium.{MediumState}
 use Rattle.dfu_device.specs.declared.device_state.DeviceState.{DeviceState}
 use Rattle.dfu_device.specs.Stage.{state_of}
 use Rattle.dfu_device.specs.Parts.{stage_of}
-use Rattle.dfu_asks.specs.Mapped.{mapped}
+use Rattle.dfu_asks.specs.Mapped.{mapped_medium}
 use Rattle.dfu_core.specs.declared.config.DfuConfig.{DfuConfig}
 use Rattle.dfu_core.specs.declared.record.DfuRecord.{DfuRecord}
 use Rattle.dfu_core.specs.Config.{config_grain}
@@ -18,34 +18,34 @@ pub record CoreBoard : Type 0 where
   pub block : List ℕ
   pub flash : List ℕ
 
--- Its flash as a medium. Any write to it may fail.
+-- The flash of a board in C as a medium, on which any write may fail.
 abbrev pub medium_of_core : CoreBoard → MediumState
-medium_of_core b = mapped (config_grain b.config) b.flash
+medium_of_core b = mapped_medium (config_grain b.config) b.flash
 
--- It is in this state of the standard, as dfu_core_state returns it.
-pub record IsIn (b : CoreBoard) (state : State) : Type 0 where
+-- The board is in the state of the standard that dfu_core_state returns.
+pub record HasBoardState (b : CoreBoard) (state : State) : Type 0 where
   pub mode : DeviceState
   pub has_mode : HasMode b.kept mode
   pub state_is : state_of (stage_of mode [] []) ≡ state
 
--- Events that may happen to it. The bytes `out` are those of the call's buffer before the call.
+-- Events that may happen to a board in C. `out` has the bytes of the call's buffer before the call.
 pub data CoreEvent : Type 0 where
   -- The calls dfu_core_handle, dfu_core_elapse and dfu_core_usb_reset.
   CoreHandle : (setup body out : List ℕ) → CoreEvent
   CoreElapse : (ms : ℕ) → CoreEvent
   CoreReset : CoreEvent
-  -- The call dfu_core_too_long, for this setup with this body, which the memory of the block need not hold.
+  -- The call dfu_core_too_long, for a setup whose body is longer than a block. No memory holds the body.
   CoreTooLong : (setup body : List ℕ) → CoreEvent
-  -- The calls dfu_core_refuse_close and dfu_core_refuse, with this status.
+  -- The calls dfu_core_refuse_close and dfu_core_refuse, with a status.
   CoreRefuseClose : (setup : List ℕ) (status : ℕ) → CoreEvent
   CoreRefuse : (status : ℕ) → CoreEvent
   -- The flash changes in the range of the write that dfu_core_next hands out.
   CoreWrite : CoreEvent
   -- The call dfu_core_took.
   CoreTook : (failed : ℕ) (out : List ℕ) → CoreEvent
-  -- The power goes, and comes back: dfu_core_power_on, or dfu_core_begin if the device begins for a host. It returns 0.
+  -- The power goes, and comes back: dfu_core_power_on, or dfu_core_begin if the device begins for a host. The call returns 0.
   CoreRestart : (begins : Bool) → CoreEvent
 
--- The board in C of these parts.
+-- The board in C of its parts.
 abbrev pub core_board : DfuConfig → DfuRecord → (block flash : List ℕ) → CoreBoard
 core_board c r block flash = record { config = c; kept = r; block = block; flash = flash }

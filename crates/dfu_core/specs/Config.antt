@@ -4,16 +4,16 @@ use Rattle.dfu_wire.specs.Functional.{functional_of}
 use Rattle.dfu_slots.specs.declared.layout.Unit.{Unit as WriteUnit}
 use Rattle.dfu_slots.specs.declared.layout.Unit.TheVariants.{Byte, U16, U64, U256}
 use Rattle.dfu_slots.specs.Units.{unit_size, Grain}
-use Rattle.dfu_device.specs.Setting.{Setting, IsAllowed}
+use Rattle.dfu_device.specs.Setting.{Setting, IsAllowedSetting}
 use Rattle.dfu_core.specs.declared.config.DfuConfig.{DfuConfig}
 
 -- The unit in which the flash is written, by its size; if no unit has that size, the byte.
 unfoldable pub unit_of : DfuConfig → WriteUnit
 unit_of c = if c.unit == 16 then U16 else if c.unit == 64 then U64 else if c.unit == 256 then U256 else Byte
 
--- The setting that these numbers are, with version 0110h.
-abbrev pub setting_of : DfuConfig → Setting
-setting_of c = record {
+-- The setting of the numbers of a configuration, with bcdDFUVersion 0110h.
+abbrev pub config_setting : DfuConfig → Setting
+config_setting c = record {
   ids = record { device = c.device; product = c.product; vendor = c.vendor };
   functional = functional_of c.attributes c.detach_ms c.transfer 0x0110;
   least = c.least;
@@ -28,23 +28,24 @@ version = 300
 
 -- The most bytes of a block.
 abbrev pub transfer_of : DfuConfig → ℕ
-transfer_of c = (setting_of c).functional.transfer
+transfer_of c = (config_setting c).functional.transfer
 
--- The fewest bytes of the memory of a block: the most of a block, and after them a unit's for those held back.
+-- The fewest bytes of the memory of a block: the transfer size, and after it a unit for the bytes that are held back.
 abbrev pub block_memory_size : DfuConfig → ℕ
 block_memory_size c = transfer_of c + unit_size (unit_of c)
 
--- Flash may be erased so many bytes at a time; 0 says that it is written over in place.
+-- Sizes of a sector that are allowed, in bytes; 0 says that the flash has no sectors, and is written over in place.
 abbrev pub IsSector : ℕ → Type 0
-IsSector n = (n % 256 ≡ 0) × (n ≤ 2 ^ 17)
+IsSector n = (n % 256 ≡ 0) × (n ≤ 2 ^ 18)
 
--- The flash is written in this unit, in these sectors.
+-- The unit and the sectors of a configuration.
 abbrev pub config_grain : DfuConfig → Grain
 config_grain c = record { unit = unit_of c; sector = c.sector }
 
--- It is of this version, a device can be set up so, a unit has that size, and there are such sectors.
+-- The configuration is allowed: its version is that of the library, dfu_device takes its setting, a unit has its unit size, and its sector
+-- size is allowed.
 pub record IsConfig (c : DfuConfig) : Type 0 where
   pub version_is : c.version ≡ version
-  pub allowed : IsAllowed (setting_of c)
+  pub allowed : IsAllowedSetting (config_setting c)
   pub unit_is : unit_size (unit_of c) ≡ c.unit
   pub sector_is : IsSector c.sector

@@ -1,4 +1,4 @@
--- The format that a record is.
+-- Records that stand for a format.
 use Rattle.std.specs.Prelude.{◌≡◌, ℕ}
 use Rattle.dfu_asks.specs.declared.formatting.FormatStep.{FormatStep}
 use Rattle.dfu_asks.specs.declared.formatting.FormatStep.TheVariants as format_step
@@ -7,28 +7,28 @@ use Rattle.dfu_core.specs.declared.config.DfuConfig.{DfuConfig}
 use Rattle.dfu_core.specs.Config.{unit_of}
 use Rattle.dfu_core.specs.declared.record.DfuRecord.{DfuRecord}
 
--- Work of a record that is due if that is a format.
-abbrev pub FORMAT : ℕ
-FORMAT = 3
+-- The number of `work` by which a record is a format.
+abbrev pub FORMAT_WORK : ℕ
+FORMAT_WORK = 3
 
--- These are the number of a part of a format, and the place at which the image goes on.
-abbrev pub HasPhase : ℕ → ℕ → FormatStep → Type 0
-HasPhase n from format_step.CloseSecond = n ≡ 0
-HasPhase n from format_step.CloseFirst = n ≡ 1
-HasPhase n from (format_step.Image at) = (n ≡ 2) × (at ≡ from)
-HasPhase n from format_step.Header = n ≡ 3
-HasPhase n from format_step.Gate = n ≡ 4
-HasPhase n from format_step.Ended = n ≡ 5
+-- The two numbers stand for a part of a format: its number, and the place at which the image goes on.
+abbrev pub HasFormatPhase : ℕ → ℕ → FormatStep → Type 0
+HasFormatPhase n from format_step.CloseSecond = n ≡ 0
+HasFormatPhase n from format_step.CloseFirst = n ≡ 1
+HasFormatPhase n from (format_step.Image at) = (n ≡ 2) × (at ≡ from)
+HasFormatPhase n from format_step.Header = n ≡ 3
+HasFormatPhase n from format_step.Gate = n ≡ 4
+HasFormatPhase n from format_step.Ended = n ≡ 5
 
--- Of the record only the numbers of a format change.
+-- Only the fields that a format uses differ in the two records.
 abbrev pub ChangesOnlyFormat : DfuRecord → DfuRecord → Type 0
 ChangesOnlyFormat r r' = r' ≡ record r { work = r'.work; spare = r'.spare; sum = r'.sum; done = r'.done; generation = r'.generation }
 
--- The record is this format.
-pub record IsFormatting (c : DfuConfig) (r : DfuRecord) (f : Formatting) : Type 0 where
-  pub work : r.work ≡ FORMAT
+-- The record stands for the format f.
+pub record IsFormatRecord (c : DfuConfig) (r : DfuRecord) (f : Formatting) : Type 0 where
+  pub work : r.work ≡ FORMAT_WORK
   pub unit : f.unit ≡ unit_of c
   pub sector : f.sector.size ≡ c.sector
   pub sum : f.register ≡ r.sum
-  pub phase : HasPhase r.generation r.spare f.phase
+  pub phase : HasFormatPhase r.generation r.spare f.phase
   pub done : f.done ≡ r.done

@@ -1,14 +1,14 @@
--- A device that asks on asks for less.
+-- Progress of a device that asks for more writes.
 use Rattle.std.specs.Prelude.{◌≡◌, ◌+◌, length, Some}
 use Rattle.dfu_asks.specs.declared.pending_writes.PendingWrites.{PendingWrites}
 use Rattle.dfu_asks.specs.declared.reply.Reply.{Reply}
 use Rattle.dfu_asks.specs.declared.reply.Reply.TheVariants.{Asks}
 use Rattle.dfu_asks.specs.Steps.{Step}
-use Rattle.dfu_asks.specs.Carried.{IsPiece}
+use Rattle.dfu_asks.specs.Carried.{IsStepPiece}
 use Rattle.dfu_asks.specs.Asks.{steps_in}
 use Rattle.dfu_asks.specs.Lent.{LentDevice}
 
--- If a report is answered by more writes that are due, the piece that was due is behind them.
+-- If a report is answered by more writes, the next piece is the one behind the piece that was due.
 abbrev pub PiecesAdvance : LentDevice → Reply → LentDevice → Type 0
-PiecesAdvance a r a' = r ≡ Asks → (w : PendingWrites) (p : Step) → a.work ≡ Some w → IsPiece (steps_in a w) w.done p
+PiecesAdvance a r a' = r ≡ Asks → (w : PendingWrites) (p : Step) → a.work ≡ Some w → IsStepPiece (steps_in a w) w.done p
     → a'.work ≡ Some (record w { done = w.done + length p.write.bytes })

@@ -1,25 +1,25 @@
--- Refusals of a question about a record.
+-- Refusals of calls that only look at a record.
 use Rattle.std.specs.Prelude.{◌≡◌, ◌≢◌, ◌⊎◌, ℤ}
 use Rattle.dfu_device.specs.declared.device_state.DeviceState.{DeviceState}
 use Rattle.dfu_core.specs.declared.config.DfuConfig.{DfuConfig}
 use Rattle.dfu_core.specs.declared.record.DfuRecord.{DfuRecord}
 use Rattle.dfu_core.specs.Config.{IsConfig}
 use Rattle.dfu_core.specs.Mode.{HasMode}
-use Rattle.dfu_core.specs.Numbers.{NO_CONFIG, NO_DEVICE, ASKED}
+use Rattle.dfu_core.specs.Numbers.{NO_CONFIG_NUMBER, NO_DEVICE_NUMBER, BUSY_NUMBER}
 
--- The configuration is not allowed; or else the record has no mode.
+-- A call is refused: the configuration is not allowed; or else the record has no mode.
 abbrev pub RefusesRecord : DfuConfig → DfuRecord → ℤ → Type 0
-RefusesRecord c r result = ((result ≡ NO_CONFIG) × ¬ IsConfig c)
-    ⊎ ((result ≡ NO_DEVICE) × IsConfig c × ((m : DeviceState) → ¬ HasMode r m))
+RefusesRecord c r result = ((result ≡ NO_CONFIG_NUMBER) × ¬ IsConfig c)
+    ⊎ ((result ≡ NO_DEVICE_NUMBER) × IsConfig c × ((m : DeviceState) → ¬ HasMode r m))
 
--- The configuration is allowed, and the record has a mode and no writes that are due.
+-- The configuration is allowed, the record has a mode, and no writes are due.
 pub record IsIdleRecord (c : DfuConfig) (r : DfuRecord) : Type 0 where
   pub config : IsConfig c
   pub mode : DeviceState
   pub has_mode : HasMode r mode
   pub idle : r.work ≡ 0
 
--- The configuration is not allowed; or else the record has no mode; or else writes are due, or a format is.
+-- A call is refused: the configuration is not allowed; or else the record has no mode; or else writes of a device or of a format are due.
 abbrev pub RefusesSetup : DfuConfig → DfuRecord → ℤ → Type 0
 RefusesSetup c r result = RefusesRecord c r result
-    ⊎ ((result ≡ ASKED) × IsConfig c × ((m : DeviceState) × HasMode r m) × (r.work ≢ 0))
+    ⊎ ((result ≡ BUSY_NUMBER) × IsConfig c × ((m : DeviceState) × HasMode r m) × (r.work ≢ 0))

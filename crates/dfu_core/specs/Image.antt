@@ -6,11 +6,11 @@ use Rattle.dfu_asks.specs.ActiveImage.{ImageIsAt}
 use Rattle.dfu_core.specs.declared.config.DfuConfig.{DfuConfig}
 use Rattle.dfu_core.specs.Config.{config_grain, IsConfig}
 
--- This place as dfu_asks has it.
+-- The place of an image, as dfu_asks has it.
 abbrev pub place_of_record : DfuPlace → ImagePlace
 place_of_record place = record { at = place.at; len = place.length }
 
--- The active image of the flash is there, and the number says so.
+-- The number is 0, and the place is that of the active image of the flash.
 pub record ImageResult (c : DfuConfig) (flash : List ℕ) (result : ℤ) (place : DfuPlace) : Type 0 where
   pub number_is : result ≡ pos 0
   pub config : IsConfig c

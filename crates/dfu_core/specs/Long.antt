@@ -1,23 +1,23 @@
--- A body that is longer than a block may be.
+-- Setups whose body is longer than a block may be.
 use Rattle.std.specs.Prelude.{◌≡◌, ℕ, List, [], None, length}
 use Rattle.dfu_wire.specs.declared.setups.Setup.{Setup}
 use Rattle.dfu_wire.specs.Setup.{IsSetup}
 use Rattle.dfu_device.specs.declared.answer.Answer.TheVariants as answer
 use Rattle.dfu_device.specs.Rows.{Handles, body_length}
 use Rattle.dfu_asks.specs.declared.asking.Asking.{Asking}
-use Rattle.dfu_asks.specs.Mapped.{Unseen}
+use Rattle.dfu_asks.specs.Mapped.{UnseenState}
 use Rattle.dfu_asks.specs.Asks.{device_with, IsDevice}
 use Rattle.dfu_core.specs.declared.config.DfuConfig.{DfuConfig}
 use Rattle.dfu_core.specs.declared.record.DfuRecord.{DfuRecord}
 use Rattle.dfu_core.specs.RecordMeaning.{IsRecordOf, with_memory}
 
--- Whatever that body is: a device that the record was, with no writes due, is now the one that its row makes of it, with a block
--- as long as before, and the answer is a stall.
-abbrev pub TooLongResult : DfuConfig → DfuRecord → List ℕ → DfuRecord → Type 0
-TooLongResult c r setup r' = (a : Asking) → IsRecordOf c r a → (a' : Asking) × IsRecordOf c r' a' × (a'.work ≡ None)
+-- The record takes the row of the setup with a body that is too long: a stall. The row is the same for every such body, and the block stays
+-- as long as before.
+abbrev pub RecordTakesTooLongRow : DfuConfig → DfuRecord → List ℕ → DfuRecord → Type 0
+RecordTakesTooLongRow c r setup r' = (a : Asking) → IsRecordOf c r a → (a' : Asking) × IsRecordOf c r' a' × (a'.work ≡ None)
     × (a'.block_len ≡ a.block_len)
     × ((block flash : List ℕ) → IsDevice (with_memory block a) flash
     → (body : List ℕ) → ((p : Setup) → IsSetup p setup → length body ≡ body_length p)
     → IsDevice (with_memory block a') flash
-    × ((u : Unseen) → Handles setup body (device_with u (with_memory block a) flash) answer.Stall []
+    × ((u : UnseenState) → Handles setup body (device_with u (with_memory block a) flash) answer.Stall []
     (device_with u (with_memory block a') flash)))

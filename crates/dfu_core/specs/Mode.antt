@@ -1,4 +1,4 @@
--- The mode of the record of a device.
+-- Modes of a record.
 use Rattle.std.specs.Prelude.{◌≡◌, replicate}
 use Rattle.dfu_wire.specs.Code.{code_byte}
 use Rattle.dfu_device.specs.declared.device_state.DeviceState.{DeviceState}
@@ -6,35 +6,35 @@ use Rattle.dfu_device.specs.declared.device_state.DeviceState.TheVariants as dev
 use Rattle.dfu_core.specs.declared.record.DfuRecord.{DfuRecord}
 use Rattle.dfu_core.specs.Config.{version}
 
--- The record has this mode's number, and the numbers that the mode keeps. Those it does not keep may be anything.
-abbrev pub HasNumbers : DfuRecord → DeviceState → Type 0
-HasNumbers r device_state.AppIdle = r.mode ≡ 0
-HasNumbers r (device_state.AppDetach timer passed) = (r.mode ≡ 1) × (timer ≡ r.first) × (passed ≡ r.second)
-HasNumbers r device_state.DfuIdle = r.mode ≡ 2
-HasNumbers r (device_state.DownloadSync written number) = (r.mode ≡ 3) × (written ≡ r.first) × (number ≡ r.number)
-HasNumbers r (device_state.DownloadSyncWritten written number) = (r.mode ≡ 4) × (written ≡ r.first) × (number ≡ r.number)
-HasNumbers r (device_state.DownloadBusy written number passed) =
+-- The record has the number of the mode, and the numbers that the mode keeps. Fields that the mode does not keep may be anything.
+abbrev pub HasModeNumbers : DfuRecord → DeviceState → Type 0
+HasModeNumbers r device_state.AppIdle = r.mode ≡ 0
+HasModeNumbers r (device_state.AppDetach timer passed) = (r.mode ≡ 1) × (timer ≡ r.first) × (passed ≡ r.second)
+HasModeNumbers r device_state.DfuIdle = r.mode ≡ 2
+HasModeNumbers r (device_state.DownloadSync written number) = (r.mode ≡ 3) × (written ≡ r.first) × (number ≡ r.number)
+HasModeNumbers r (device_state.DownloadSyncWritten written number) = (r.mode ≡ 4) × (written ≡ r.first) × (number ≡ r.number)
+HasModeNumbers r (device_state.DownloadBusy written number passed) =
     (r.mode ≡ 5) × (written ≡ r.first) × (number ≡ r.number) × (passed ≡ r.second)
-HasNumbers r (device_state.DownloadIdle written number) = (r.mode ≡ 6) × (written ≡ r.first) × (number ≡ r.number)
-HasNumbers r (device_state.ManifestSync written) = (r.mode ≡ 7) × (written ≡ r.first)
-HasNumbers r device_state.ManifestSyncComplete = r.mode ≡ 8
-HasNumbers r (device_state.Manifest written passed) = (r.mode ≡ 9) × (written ≡ r.first) × (passed ≡ r.second)
-HasNumbers r device_state.ManifestWaitReset = r.mode ≡ 10
-HasNumbers r (device_state.UploadIdle place number) = (r.mode ≡ 11) × (place ≡ r.first) × (number ≡ r.number)
-HasNumbers r (device_state.Error code) = (r.mode ≡ 12) × (code_byte code ≡ r.number)
+HasModeNumbers r (device_state.DownloadIdle written number) = (r.mode ≡ 6) × (written ≡ r.first) × (number ≡ r.number)
+HasModeNumbers r (device_state.ManifestSync written) = (r.mode ≡ 7) × (written ≡ r.first)
+HasModeNumbers r device_state.ManifestSyncComplete = r.mode ≡ 8
+HasModeNumbers r (device_state.Manifest written passed) = (r.mode ≡ 9) × (written ≡ r.first) × (passed ≡ r.second)
+HasModeNumbers r device_state.ManifestWaitReset = r.mode ≡ 10
+HasModeNumbers r (device_state.UploadIdle place number) = (r.mode ≡ 11) × (place ≡ r.first) × (number ≡ r.number)
+HasModeNumbers r (device_state.Error code) = (r.mode ≡ 12) × (code_byte code ≡ r.number)
 
--- The record is of this version, and has this mode.
+-- The record is of the library's version, and has the mode m.
 pub record HasMode (r : DfuRecord) (m : DeviceState) : Type 0 where
   pub version_is : r.version ≡ version
-  pub numbers : HasNumbers r m
+  pub numbers : HasModeNumbers r m
 
--- Of the record only the version, the mode and the numbers that a mode keeps change.
+-- Only the version, the mode and the numbers that a mode keeps differ in the two records.
 abbrev pub ChangesOnlyMode : DfuRecord → DfuRecord → Type 0
 ChangesOnlyMode r r' = r' ≡ record r { version = r'.version; mode = r'.mode; first = r'.first; second = r'.second; number = r'.number }
 
--- The record in which all is 0 but its version.
-abbrev pub blank : DfuRecord
-blank = record {
+-- The record with the library's version, in which every other field is 0.
+abbrev pub blank_record : DfuRecord
+blank_record = record {
   version = version;
   mode = 0;
   first = 0;

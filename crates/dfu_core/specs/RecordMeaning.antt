@@ -1,4 +1,4 @@
--- The device that asks which a record is.
+-- Records that stand for a device that asks.
 use Rattle.std.specs.Prelude.{◌≡◌, ◌+◌, ◌^◌, ◌<◌, ℕ, Bool, true, false, List, take, drop, Option, Some, None}
 use Rattle.dfu_slots.specs.declared.layout.Unit.{Unit as WriteUnit}
 use Rattle.dfu_device.specs.Setting.{Setting}
@@ -11,67 +11,67 @@ use Rattle.dfu_asks.specs.declared.noted.Noted.{Noted}
 use Rattle.dfu_asks.specs.Lent.{LentDevice, lent}
 use Rattle.dfu_core.specs.declared.config.DfuConfig.{DfuConfig}
 use Rattle.dfu_core.specs.declared.record.DfuRecord.{DfuRecord}
-use Rattle.dfu_core.specs.Config.{setting_of, unit_of}
+use Rattle.dfu_core.specs.Config.{config_setting, unit_of}
 use Rattle.dfu_core.specs.Mode.{HasMode}
 
--- This number is 1 for a yes, and 0 for a no.
-abbrev pub IsFlag : Bool → ℕ → Type 0
-IsFlag true n = n ≡ 1
-IsFlag false n = n ≡ 0
+-- The number is 1 for true, and 0 for false.
+abbrev pub IsFlagNumber : Bool → ℕ → Type 0
+IsFlagNumber true n = n ≡ 1
+IsFlagNumber false n = n ≡ 0
 
--- The record has the numbers of this job.
-abbrev pub HasJob : DfuRecord → SlotWrite → Type 0
-HasJob r (slot_write.Block spare close) = (r.work ≡ 1) × (spare ≡ r.spare) × IsFlag close r.close
-HasJob r (slot_write.Commit spare generation register) =
+-- The record has the numbers of the job.
+abbrev pub HasJobNumbers : DfuRecord → SlotWrite → Type 0
+HasJobNumbers r (slot_write.Block spare close) = (r.work ≡ 1) × (spare ≡ r.spare) × IsFlagNumber close r.close
+HasJobNumbers r (slot_write.Commit spare generation register) =
     (r.work ≡ 2) × (spare ≡ r.spare) × (generation ≡ r.generation) × (register ≡ r.sum)
 
--- Of the record only the numbers of a job change.
+-- Only the fields of a job differ in the two records.
 abbrev pub ChangesOnlyJob : DfuRecord → DfuRecord → Type 0
 ChangesOnlyJob r r' = r' ≡ record r { work = r'.work; spare = r'.spare; sum = r'.sum; generation = r'.generation; close = r'.close }
 
--- This number is that of a GETSTATUS that waits, or of none.
+-- The number is 1 more than the length of the GETSTATUS that waits, or 0 if none waits.
 abbrev pub IsPendingNumber : ℕ → Option ℕ → Type 0
 IsPendingNumber n None = n ≡ 0
 IsPendingNumber n (Some len) = (n ≡ len + 1) × (len < 2 ^ 16)
 
--- The record has this work, or none.
-abbrev pub HasWork : DfuRecord → Option PendingWrites → Type 0
-HasWork r None = r.work ≡ 0
-HasWork r (Some w) = HasJob r w.job × IsPendingNumber r.asked w.asked × (w.done ≡ r.done)
+-- The record has the numbers of the work, or of none.
+abbrev pub HasWorkNumbers : DfuRecord → Option PendingWrites → Type 0
+HasWorkNumbers r None = r.work ≡ 0
+HasWorkNumbers r (Some w) = HasJobNumbers r w.job × IsPendingNumber r.asked w.asked × (w.done ≡ r.done)
 
--- Of the record only the numbers of work change.
+-- Only the fields of work differ in the two records.
 abbrev pub ChangesOnlyWork : DfuRecord → DfuRecord → Type 0
 ChangesOnlyWork r r' = ChangesOnlyJob (record r { done = r'.done; asked = r'.asked }) r'
 
--- The record notes this of the active image.
-pub record HasNote (r : DfuRecord) (n : Noted) : Type 0 where
-  pub second : IsFlag n.second r.slot
+-- The record has the numbers of what is noted of the active image.
+pub record HasNoteNumbers (r : DfuRecord) (n : Noted) : Type 0 where
+  pub second : IsFlagNumber n.second r.slot
   pub header : n.header ≡ r.header
 
--- These are the setting, the unit and the sectors of a configuration.
-pub record IsSetUp (c : DfuConfig) (config : Setting) (unit : WriteUnit) (sector : Sector) : Type 0 where
-  pub config_is : config ≡ setting_of c
+-- The setting, the unit and the sectors are those of the configuration.
+pub record IsSetupOfConfig (c : DfuConfig) (config : Setting) (unit : WriteUnit) (sector : Sector) : Type 0 where
+  pub config_is : config ≡ config_setting c
   pub unit_is : unit ≡ unit_of c
   pub sector_is : sector.size ≡ c.sector
 
--- The record is this device that asks.
+-- The record stands for the device a, which asks for its writes.
 pub record IsRecordOf (c : DfuConfig) (r : DfuRecord) (a : Asking) : Type 0 where
-  pub set_up : IsSetUp c a.config a.unit a.sector
+  pub set_up : IsSetupOfConfig c a.config a.unit a.sector
   pub mode : HasMode r a.mode
   pub block : a.block_len ≡ r.length
   pub held : a.held_len ≡ r.held_length
   pub end : a.put_end ≡ r.put_end
-  pub noted : HasNote r a.noted
-  pub work : HasWork r a.work
+  pub noted : HasNoteNumbers r a.noted
+  pub work : HasWorkNumbers r a.work
 
--- Of the memory of a device's block, the bytes that are the block's.
-abbrev pub block_in : Asking → List ℕ → List ℕ
-block_in a memory = take a.config.functional.transfer memory
+-- The first part of the memory of a block, as long as the transfer size: the bytes of the block.
+abbrev pub block_in_memory : Asking → List ℕ → List ℕ
+block_in_memory a memory = take a.config.functional.transfer memory
 
--- And those after them, for the bytes that are held back.
+-- The rest of the memory of a block, for the bytes that are held back.
 abbrev pub tail_memory : Asking → List ℕ → List ℕ
 tail_memory a memory = drop a.config.functional.transfer memory
 
--- The device with these bytes in the memory of its block.
+-- The device with its block and its held bytes in the memory.
 abbrev pub with_memory : List ℕ → Asking → LentDevice
-with_memory memory a = lent a (block_in a memory) (tail_memory a memory)
+with_memory memory a = lent a (block_in_memory a memory) (tail_memory a memory)

@@ -1,4 +1,4 @@
--- The answer that says, before the body of a setup is there, whether a device will stall it, for a program in C.
+-- Answer of dfu_core_would_stall, which tells a program in C whether a device stalls a setup, before the body is there.
 use Rattle.std.specs.Prelude.{◌≡◌, ℕ, ℤ, Bool, List, length}
 use Rattle.dfu_asks.specs.declared.asking.Asking.{Asking}
 use Rattle.dfu_asks.specs.Asks.{device_in, IsDevice}
@@ -6,10 +6,10 @@ use Rattle.dfu_asks.specs.Verdict.{IsStallVerdict}
 use Rattle.dfu_core.specs.declared.config.DfuConfig.{DfuConfig}
 use Rattle.dfu_core.specs.declared.record.DfuRecord.{DfuRecord}
 use Rattle.dfu_core.specs.RecordMeaning.{IsRecordOf, with_memory}
-use Rattle.dfu_core.specs.Numbers.{told_number}
+use Rattle.dfu_core.specs.Numbers.{yes_no_number}
 
--- The result says how each device that the record is, with a flash of so many bytes, answers this setup, whatever its body.
+-- The result says whether the record's device stalls the setup with any body of wLength bytes, on a flash of the given size.
 abbrev pub StallResult : DfuConfig → DfuRecord → ℕ → List ℕ → ℤ → Type 0
 StallResult c r size setup result = (block flash : List ℕ) (a : Asking) → IsRecordOf c r a → IsDevice (with_memory block a) flash
     → length flash ≡ size
-    → (said : Bool) × (result ≡ told_number said) × IsStallVerdict said setup (device_in (with_memory block a) flash)
+    → (said : Bool) × (result ≡ yes_no_number said) × IsStallVerdict said setup (device_in (with_memory block a) flash)

@@ -1,12 +1,12 @@
--- The writes that a program in C is asked for.
+-- Writes for which a program in C is asked.
 use Rattle.std.specs.Prelude.{◌≡◌, ◌⊎◌, ◌==◌, ◌^◌, ℕ, ℤ, pos, ◌<◌, ◌≤◌, List, length, take, replicate, Some, if◌then◌else◌}
 use Rattle.dfu_slots.specs.Image.{Active}
 use Rattle.dfu_slots.specs.StoreView.{SlotsState}
 use Rattle.dfu_asks.specs.declared.asking.Asking.{Asking}
 use Rattle.dfu_asks.specs.declared.pending_writes.PendingWrites.{PendingWrites}
-use Rattle.dfu_asks.specs.Mapped.{grain_of, mapped, IsInSpare}
+use Rattle.dfu_asks.specs.Mapped.{grain_of, mapped_medium, RangeIsInSpare}
 use Rattle.dfu_asks.specs.Steps.{Step}
-use Rattle.dfu_asks.specs.Carried.{IsPiece, ErasesWhole}
+use Rattle.dfu_asks.specs.Carried.{IsStepPiece, ErasesSectorOrPrograms}
 use Rattle.dfu_asks.specs.Asks.{steps_in}
 use Rattle.dfu_asks.specs.Lent.{LentDevice}
 use Rattle.dfu_asks.specs.Calls.{WritesPending}
@@ -16,10 +16,10 @@ use Rattle.dfu_core.specs.declared.record.DfuRecord.{DfuRecord}
 use Rattle.dfu_core.specs.declared.numbers.Refusal.{Refusal}
 use Rattle.dfu_core.specs.Config.{block_memory_size, IsConfig}
 use Rattle.dfu_core.specs.RecordMeaning.{IsRecordOf, with_memory}
-use Rattle.dfu_core.specs.Calls.{IsUnfound}
-use Rattle.dfu_core.specs.Numbers.{refusal_number, NO_DEVICE}
+use Rattle.dfu_core.specs.Calls.{DeviceNotFound}
+use Rattle.dfu_core.specs.Numbers.{refusal_number, NO_DEVICE_NUMBER}
 
--- The step that is asked for: kind 1 erases so many bytes there, and any other programs these.
+-- The step of an operation: kind 1 erases `length` bytes at `at`, and any other kind programs the first `length` bytes of `bytes` there.
 abbrev pub ask_step : DfuAsk → Step
 ask_step ask = record {
   erases = ask.kind == 1;
@@ -27,7 +27,7 @@ ask_step ask = record {
 }
 
 -- The next write that is due was handed out.
-pub record HandsOut (c : DfuConfig) (r : DfuRecord) (block flash : List ℕ) (result : ℤ) (ask : DfuAsk) : Type 0 where
+pub record WriteHandedOut (c : DfuConfig) (r : DfuRecord) (block flash : List ℕ) (result : ℤ) (ask : DfuAsk) : Type 0 where
   pub number_is : result ≡ pos 0
   pub config : IsConfig c
   pub room : block_memory_size c ≤ length block
@@ -36,27 +36,27 @@ pub record HandsOut (c : DfuConfig) (r : DfuRecord) (block flash : List ℕ) (re
   pub work : PendingWrites
   pub work_is : asking.work ≡ Some work
   pub kind : (ask.kind ≡ 1) ⊎ (ask.kind ≡ 2)
-  pub piece : IsPiece (steps_in (with_memory block asking) work) work.done (ask_step ask)
+  pub piece : IsStepPiece (steps_in (with_memory block asking) work) work.done (ask_step ask)
   pub some : 0 < ask.length
   pub most : ask.kind ≡ 2 → ask.length ≤ 256
-  pub sector : ErasesWhole c.sector (ask_step ask)
-  pub spare : (image : List ℕ) → Active (mapped (grain_of asking.unit asking.sector) flash) image
-      → IsInSpare (mapped (grain_of asking.unit asking.sector) flash) ask.at ask.length
+  pub sector : ErasesSectorOrPrograms c.sector (ask_step ask)
+  pub spare : (image : List ℕ) → Active (mapped_medium (grain_of asking.unit asking.sector) flash) image
+      → RangeIsInSpare (mapped_medium (grain_of asking.unit asking.sector) flash) ask.at ask.length
 
--- It asks for the writes of a row, and those before the next one are carried out on this flash.
+-- The device asks for the writes of a row, and the pieces before the next one are on the flash.
 abbrev pub HasRowPending : LentDevice → List ℕ → Type 0
 HasRowPending a flash = (len : ℕ) × (s : SlotsState) × (was : List ℕ) × WritesPending a len s was flash
 
--- No write is handed out: it does not ask for any on this flash, or the flash has 2^32 bytes or more.
-abbrev pub HandsNothing : LentDevice → List ℕ → Type 0
-HandsNothing a flash = ¬ HasRowPending a flash ⊎ 2 ^ 32 ≤ length flash
+-- No write is handed out: the device asks for none on the flash, or the flash has 2^32 bytes or more.
+abbrev pub NoWriteHandedOut : LentDevice → List ℕ → Type 0
+NoWriteHandedOut a flash = ¬ HasRowPending a flash ⊎ 2 ^ 32 ≤ length flash
 
--- There is a flash on which it asks for the writes of a row.
+-- There is a flash on which the device asks for the writes of a row.
 abbrev pub IsPendingSomewhere : LentDevice → Type 0
 IsPendingSomewhere a = (flash : List ℕ) × HasRowPending a flash
 
--- There is no device that asks; or else it is refused with DFU_NO_DEVICE, for this reason.
+-- A call for a piece is refused: the record is no device that asks; or else with DFU_NO_DEVICE, for the reason `Why`.
 pub data RefusesPiece (c : DfuConfig) (r : DfuRecord) (block : List ℕ) (Why : Asking → Type 0) (result : ℤ) : Type 0 where
-  refuses_unfound : (e : Refusal) → result ≡ refusal_number e → IsUnfound e c r (length block) → RefusesPiece c r block Why result
-  refuses_piece : (a : Asking) → result ≡ NO_DEVICE → IsConfig c → block_memory_size c ≤ length block → IsRecordOf c r a → Why a
+  device_is_not_found : (e : Refusal) → result ≡ refusal_number e → DeviceNotFound e c r (length block) → RefusesPiece c r block Why result
+  piece_is_refused : (a : Asking) → result ≡ NO_DEVICE_NUMBER → IsConfig c → block_memory_size c ≤ length block → IsRecordOf c r a → Why a
       → RefusesPiece c r block Why result

@@ -1,6 +1,6 @@
 //! Configuration with which a program in C sets a device up.
 ghost use Rattle.std.specs.Prelude.{◌≡◌, IfSome, IfNone, OnSome};
-ghost use Rattle.dfu_core.specs.Config.{setting_of, unit_of, IsConfig};
+ghost use Rattle.dfu_core.specs.Config.{config_setting, unit_of, IsConfig};
 
 use dfu_asks::Sector;
 use dfu_device::{Config, Pace};
@@ -13,7 +13,7 @@ pub const VERSION: u32 = 300;
 /// bcdDFUVersion of every device.
 const BCD_VERSION: u16 = 0x0110;
 
-/// Configuration of a device: `struct dfu_config`. It is to stay the same between two calls for a device.
+/// Configuration of a device: `struct dfu_config`. The configuration must stay the same between two calls for a device.
 #[repr(C)]
 #[derive(Clone, Copy)]
 pub struct DfuConfig {
@@ -33,20 +33,21 @@ pub struct DfuConfig {
     pub attributes: u8,
     /// bInterfaceNumber: a setup whose wIndex is another number is stalled.
     pub interface: u8,
-    /// Time of each block beside its erases and programs, in milliseconds, 0 to 16,777,215. With 0 it is written before its status is
-    /// answered, and no time is said.
+    /// Time of each block beside its erases and programs, in milliseconds, 0 to 16,777,215. With 0 a block is written before its status is
+    /// answered, and the status tells no time.
     pub busy_ms: u32,
-    /// Time of each image beside them, 0 to 16,777,215; at least 1 without bitManifestationTolerant.
+    /// Time of each image beside its erases and programs, in milliseconds, 0 to 16,777,215; at least 1 without bitManifestationTolerant.
     pub manifest_ms: u32,
     /// The fewest bytes of an image, 1 to 16,777,216.
     pub least: u32,
-    /// Bytes that the flash is written at a time: 1, 16, 64 or 256.
+    /// Size of a unit, the bytes that the flash is written at a time: 1, 16, 64 or 256.
     pub unit: u32,
-    /// Bytes that it is erased at a time: a multiple of 256 up to 131,072; or 0, and it is written over in place.
+    /// Size of a sector, the bytes that the flash is erased at a time: a multiple of 256 up to 262,144; or 0 if it is written over in
+    /// place.
     pub sector: u32,
-    /// Milliseconds to erase a sector, which are said for each that a block or an image erases.
+    /// Milliseconds to erase a sector, which a status tells for each sector that a block or an image erases.
     pub erase_ms: u16,
-    /// Milliseconds to program 256 bytes, which are said in proportion.
+    /// Milliseconds to program 256 bytes, which a status tells in proportion.
     pub program_ms: u16,
 }
 
@@ -57,13 +58,13 @@ pub struct Settings {
     pub config: Config,
     /// Unit in which the flash is written.
     pub unit: Unit,
-    /// Sectors in which it is erased before, if in any.
+    /// Sectors in which the flash is erased before a write, if it has any.
     pub sector: Sector,
 }
 
-/// The functional descriptor of these numbers, with bcdDFUVersion 0110h.
+/// Returns the functional descriptor of `config`, with bcdDFUVersion 0110h.
 pub fn functional_of(config: &DfuConfig) -> Functional
-    ensures { result ≡ (setting_of config.now).functional }
+    ensures { result ≡ (config_setting config.now).functional }
 {
     Functional::of_attributes(
         config.attributes,
@@ -73,7 +74,7 @@ pub fn functional_of(config: &DfuConfig) -> Functional
     )
 }
 
-/// The unit in which the flash is written; if no unit has that size, the byte.
+/// Returns the unit in which the flash is written by `config`; the byte if no unit has that size.
 #[tactic(auto, unfolding(crate::specs::Config::unit_of))]
 pub(crate) fn unit_of(config: &DfuConfig) -> Unit
     ensures { result ≡ unit_of config.now }
@@ -89,11 +90,11 @@ pub(crate) fn unit_of(config: &DfuConfig) -> Unit
     }
 }
 
-/// Returns the settings of the configuration. None if it is of another version, `Config::new` refuses its numbers, no unit has that size,
-/// or there are no such sectors.
+/// Returns the settings of the configuration. None if its version is another one, `Config::new` refuses its numbers, or no unit or sectors
+/// have the sizes that it gives.
 #[inline(never)]
 pub fn settings_of(config: &DfuConfig) -> Option<Settings>
-    ensures config { IfSome result (λ s. s.config ≡ setting_of config.now) }
+    ensures config { IfSome result (λ s. s.config ≡ config_setting config.now) }
     ensures unit { IfSome result (λ s. s.unit ≡ unit_of config.now) }
     ensures sector { IfSome result (λ s. s.sector.size ≡ config.now.sector) }
     ensures allowed { OnSome result (IsConfig config.now) }

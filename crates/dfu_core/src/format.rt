@@ -1,22 +1,22 @@
-//! A format that asks for its writes is read from its record, and written into it again.
+//! Records of a format that asks for its writes: how they are read and written.
 ghost use Rattle.std.specs.Prelude.{◌≡◌, IfSome, IfNone};
 ghost use Rattle.dfu_asks.specs.declared.formatting.FormatStep.{FormatStep as Part};
 ghost use Rattle.dfu_asks.specs.declared.formatting.Formatting.{Formatting as Going};
 ghost use Rattle.dfu_core.specs.declared.config.DfuConfig.{DfuConfig as Given};
-ghost use Rattle.dfu_core.specs.RecordMeaning.{IsSetUp};
-ghost use Rattle.dfu_core.specs.Formatting.{FORMAT, HasPhase, IsFormatting, ChangesOnlyFormat};
+ghost use Rattle.dfu_core.specs.RecordMeaning.{IsSetupOfConfig};
+ghost use Rattle.dfu_core.specs.Formatting.{FORMAT_WORK, HasFormatPhase, IsFormatRecord, ChangesOnlyFormat};
 
 use crate::config::Settings;
 use crate::record::DfuRecord;
 use dfu_asks::{FormatStep, Formatting};
 
-/// Work of a record that is due if that is a format.
+/// The number of `work` by which a record is a format.
 pub(crate) const WORK: u32 = 3;
 
 // The part of a format by its number, and the place at which the image goes on.
 fn phase_of(number: u8, from: u32) -> Option<FormatStep>
-    ensures some { IfSome result (λ phase. HasPhase number from phase) }
-    ensures none { IfNone result ((phase : Part) → ¬ HasPhase number from phase) }
+    ensures some { IfSome result (λ phase. HasFormatPhase number from phase) }
+    ensures none { IfNone result ((phase : Part) → ¬ HasFormatPhase number from phase) }
 {
     match number {
         0 => Some(FormatStep::CloseSecond),
@@ -29,11 +29,11 @@ fn phase_of(number: u8, from: u32) -> Option<FormatStep>
     }
 }
 
-/// The format that a record is, if it is one.
+/// Returns the format for which record `kept` stands; None if it stands for none.
 pub fn formatting_of(settings: &Settings, kept: &DfuRecord) -> Option<Formatting>
-    ensures some { IfSome result (λ f. (c : Given) → IsSetUp c settings.now.config settings.now.unit settings.now.sector
-        → IsFormatting c kept.now f) }
-    ensures none { IfNone result ((c : Given) (f : Going) → ¬ IsFormatting c kept.now f) }
+    ensures some { IfSome result (λ f. (c : Given) → IsSetupOfConfig c settings.now.config settings.now.unit settings.now.sector
+        → IsFormatRecord c kept.now f) }
+    ensures none { IfNone result ((c : Given) (f : Going) → ¬ IsFormatRecord c kept.now f) }
 {
     if kept.work != WORK {
         return None;
@@ -50,7 +50,7 @@ pub fn formatting_of(settings: &Settings, kept: &DfuRecord) -> Option<Formatting
 
 // The number of a part of a format, and the place at which the image goes on.
 fn numbers_of(phase: FormatStep) -> (u8, u32)
-    ensures { HasPhase result.0 result.1 phase }
+    ensures { HasFormatPhase result.0 result.1 phase }
 {
     match phase {
         FormatStep::CloseSecond => (0, 0),
@@ -62,12 +62,12 @@ fn numbers_of(phase: FormatStep) -> (u8, u32)
     }
 }
 
-/// Keeps a format in its record.
+/// Writes `formatting` into its record `kept`.
 pub fn keep_format(formatting: &Formatting, kept: &mut DfuRecord)
-    ensures work { kept.new.work ≡ FORMAT }
+    ensures work { kept.new.work ≡ FORMAT_WORK }
     ensures sum { kept.new.sum ≡ formatting.now.register }
     ensures done { kept.new.done ≡ formatting.now.done }
-    ensures phase { HasPhase kept.new.generation kept.new.spare formatting.now.phase }
+    ensures phase { HasFormatPhase kept.new.generation kept.new.spare formatting.now.phase }
     ensures others { ChangesOnlyFormat kept.old kept.new }
 {
     let (number, from) = numbers_of(formatting.phase);

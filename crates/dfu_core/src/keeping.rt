@@ -1,11 +1,11 @@
-//! A device that asks is read from its record, and written into it again, with what is due of it.
+//! Records of a device that asks for its writes: how they are read and written.
 ghost use Rattle.std.specs.Prelude.{◌≡◌, ◌≤◌, ◌<◌, IfOk, IfErr, OnOk, IfSome, IfNone, ℕ, Bool, Option, Some};
 ghost use Rattle.dfu_asks.specs.declared.asking.Asking.{Asking as Device};
 ghost use Rattle.dfu_asks.specs.declared.noted.Noted.{Noted as Note};
 ghost use Rattle.dfu_core.specs.declared.config.DfuConfig.{DfuConfig as Given};
 ghost use Rattle.dfu_core.specs.Config.{block_memory_size, IsConfig};
-ghost use Rattle.dfu_core.specs.RecordMeaning.{IsFlag, IsRecordOf, IsSetUp, HasNote, HasJob, IsPendingNumber, HasWork, ChangesOnlyJob, ChangesOnlyWork};
-ghost use Rattle.dfu_core.specs.Calls.{IsUnfound};
+ghost use Rattle.dfu_core.specs.RecordMeaning.{IsFlagNumber, IsRecordOf, IsSetupOfConfig, HasNoteNumbers, HasJobNumbers, IsPendingNumber, HasWorkNumbers, ChangesOnlyJob, ChangesOnlyWork};
+ghost use Rattle.dfu_core.specs.Calls.{DeviceNotFound};
 ghost use Rattle.dfu_asks.specs.declared.pending_writes.PendingWrites.{PendingWrites as Due};
 ghost use Rattle.dfu_asks.specs.declared.pending_writes.SlotWrite.{SlotWrite as Series};
 
@@ -17,7 +17,7 @@ use crate::record::DfuRecord;
 use dfu_asks::{Asking, Noted, PendingWrites, SlotWrite};
 use dfu_slots::MAX_UNIT;
 
-// wLength of the GETSTATUS that waits, by this number, if one waits; `None` if the number is not valid.
+// Returns wLength of the GETSTATUS that waits, if one waits, by the number of the record; `None` if the number is not valid.
 fn asked_of(number: u32) -> Option<Option<u16>>
     ensures some { IfSome result (λ asked. IsPendingNumber number asked) }
     ensures only { (asked : Option ℕ) → IsPendingNumber number asked → result ≡ Some asked }
@@ -29,10 +29,10 @@ fn asked_of(number: u32) -> Option<Option<u16>>
     }
 }
 
-// The yes or no of this number; none if it is neither.
+// Returns true for 1, false for 0, and none for any other number.
 fn flag_of(number: u8) -> Option<bool>
-    ensures some { IfSome result (λ yes. IsFlag yes number) }
-    ensures only { (yes : Bool) → IsFlag yes number → result ≡ Some yes }
+    ensures some { IfSome result (λ yes. IsFlagNumber yes number) }
+    ensures only { (yes : Bool) → IsFlagNumber yes number → result ≡ Some yes }
 {
     match number {
         0 => Some(false),
@@ -41,10 +41,10 @@ fn flag_of(number: u8) -> Option<bool>
     }
 }
 
-// The job of a record, if its numbers are those of one.
+// Returns the job of a record, if its numbers are those of a job.
 fn job_of(kept: &DfuRecord) -> Option<SlotWrite>
-    ensures some { IfSome result (λ job. HasJob kept.now job) }
-    ensures only { (job : Series) → HasJob kept.now job → result ≡ Some job }
+    ensures some { IfSome result (λ job. HasJobNumbers kept.now job) }
+    ensures only { (job : Series) → HasJobNumbers kept.now job → result ≡ Some job }
 {
     let (spare, generation, register) = (kept.spare, kept.generation, kept.sum);
     match kept.work {
@@ -61,10 +61,10 @@ fn job_of(kept: &DfuRecord) -> Option<SlotWrite>
     }
 }
 
-// Returns the writes that are left by a record, if any are; none if its numbers say neither.
+// Returns the work of a record, or no work; none if its numbers are those of neither.
 fn work_of(kept: &DfuRecord) -> Option<Option<PendingWrites>>
-    ensures some { IfSome result (λ work. HasWork kept.now work) }
-    ensures only { (work : Option Due) → HasWork kept.now work → result ≡ Some work }
+    ensures some { IfSome result (λ work. HasWorkNumbers kept.now work) }
+    ensures only { (work : Option Due) → HasWorkNumbers kept.now work → result ≡ Some work }
 {
     if kept.work == 0 {
         return Some(None);
@@ -80,7 +80,7 @@ fn work_of(kept: &DfuRecord) -> Option<Option<PendingWrites>>
 
 // Writes a job into a record.
 fn set_job(kept: &mut DfuRecord, job: SlotWrite)
-    ensures job { HasJob kept.new job }
+    ensures job { HasJobNumbers kept.new job }
     ensures others { ChangesOnlyJob kept.old kept.new }
 {
     match job {
@@ -110,9 +110,9 @@ fn set_job(kept: &mut DfuRecord, job: SlotWrite)
     }
 }
 
-// Writes what is left to be written into a record.
+// Writes the work that is left into a record.
 fn set_work(kept: &mut DfuRecord, work: Option<PendingWrites>)
-    ensures work { HasWork kept.new work }
+    ensures work { HasWorkNumbers kept.new work }
     ensures others { ChangesOnlyWork kept.old kept.new }
 {
     match work {
@@ -128,17 +128,17 @@ fn set_work(kept: &mut DfuRecord, work: Option<PendingWrites>)
     }
 }
 
-/// The number of a slot, by whether it is the second one.
+/// Returns the number of a slot: 1 if it is the `second`, else 0.
 pub fn slot_of(second: bool) -> u32
-    ensures { IsFlag second result }
+    ensures { IsFlagNumber second result }
 {
     u32::from(second)
 }
 
 // Returns the notes of a record, if its slot is one of the two.
 fn noted_in(kept: &DfuRecord) -> Option<Noted>
-    ensures some { IfSome result (λ n. HasNote kept.now n) }
-    ensures none { IfNone result ((n : Note) → ¬ HasNote kept.now n) }
+    ensures some { IfSome result (λ n. HasNoteNumbers kept.now n) }
+    ensures none { IfNone result ((n : Note) → ¬ HasNoteNumbers kept.now n) }
 {
     if kept.slot > 1 {
         return None;
@@ -149,10 +149,11 @@ fn noted_in(kept: &DfuRecord) -> Option<Noted>
     })
 }
 
-// The device that asks which a record is, if its block is no longer than any may be.
+// Returns the device for which a record stands, if the block is no longer than the transfer size.
 fn asking_of(settings: Settings, kept: &DfuRecord) -> Option<Asking>
     requires { kept.now.length ≤ 4096 }
-    ensures some { IfSome result (λ a. (c : Given) → IsSetUp c settings.config settings.unit settings.sector → IsRecordOf c kept.now a) }
+    ensures some { IfSome result (λ a. (c : Given) → IsSetupOfConfig c settings.config settings.unit settings.sector
+        → IsRecordOf c kept.now a) }
     ensures none { IfNone result ((c : Given) (a : Device) → ¬ IsRecordOf c kept.now a) }
 {
     if kept.held_length > MAX_UNIT as u16 {
@@ -174,13 +175,13 @@ fn asking_of(settings: Settings, kept: &DfuRecord) -> Option<Asking>
     })
 }
 
-/// The device that asks which a record is, if the memory of its block has so much room; or why there is none.
+/// Reads the device for which a record stands into `read`, or why there is none. `room` is the size of the memory of its block.
 #[inline(never)]
 pub fn found(config: &DfuConfig, kept: &DfuRecord, room: usize, read: &mut Result<Asking, Refusal>)
     ensures ok { IfOk read.new (λ a. IsRecordOf config.now kept.now a) }
     ensures config { OnOk read.new (IsConfig config.now) }
     ensures room { OnOk read.new (block_memory_size config.now ≤ room) }
-    ensures err { IfErr read.new (λ e. IsUnfound e config.now kept.now room) }
+    ensures err { IfErr read.new (λ e. DeviceNotFound e config.now kept.now room) }
 {
     if kept.work == WORK {
         *read = Err(Refusal::Asked);
@@ -205,10 +206,10 @@ pub fn found(config: &DfuConfig, kept: &DfuRecord, room: usize, read: &mut Resul
     *read = Ok(asking);
 }
 
-/// Keeps a device that asks in its record.
+/// Writes `asking` into its record `kept`.
 #[inline(never)]
 pub fn keep(asking: &Asking, kept: &mut DfuRecord)
-    ensures { (c : Given) → IsSetUp c asking.now.config asking.now.unit asking.now.sector → IsRecordOf c kept.new asking.now }
+    ensures { (c : Given) → IsSetupOfConfig c asking.now.config asking.now.unit asking.now.sector → IsRecordOf c kept.new asking.now }
 {
     set_mode(kept, asking.mode);
     set_work(kept, asking.work);

@@ -1,5 +1,5 @@
-//! Base of the library of the device for C: its configuration, its record, and which device or format these are. The records and numbers
-//! that the other libraries for C have too are here as well.
+//! Base of the library of the device for C: its configuration, its record, and the device or format for which they stand. The records and
+//! numbers that the other libraries for C share are here too.
 #![tactic(auto)]
 
 mod config;

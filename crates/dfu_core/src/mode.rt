@@ -3,8 +3,8 @@ ghost use Rattle.std.specs.Prelude.{◌≡◌, IfSome, IfOk, IfErr, OnOk, IsTrue
 ghost use Rattle.dfu_wire.specs.Code.{code_byte};
 ghost use Rattle.dfu_device.specs.declared.device_state.DeviceState.{DeviceState as KeptMode};
 ghost use Rattle.dfu_core.specs.Config.{IsConfig};
-ghost use Rattle.dfu_core.specs.RecordMeaning.{IsSetUp};
-ghost use Rattle.dfu_core.specs.Mode.{HasMode, HasNumbers, ChangesOnlyMode};
+ghost use Rattle.dfu_core.specs.RecordMeaning.{IsSetupOfConfig};
+ghost use Rattle.dfu_core.specs.Mode.{HasMode, HasModeNumbers, ChangesOnlyMode};
 ghost use Rattle.dfu_core.specs.Numbers.{refusal_number};
 ghost use Rattle.dfu_core.specs.Idle.{IsIdleRecord, RefusesRecord, RefusesSetup};
 
@@ -14,7 +14,7 @@ use crate::record::DfuRecord;
 use dfu_device::DeviceState;
 use dfu_wire::Code;
 
-// The code of this number.
+// Returns the status code with the number.
 fn code_of(number: u16) -> Option<Code>
     ensures some { IfSome result (λ c. code_byte c ≡ number) }
     ensures only { (c : Code) → code_byte c ≡ number → result ≡ Some c }
@@ -28,7 +28,7 @@ fn code_of(number: u16) -> Option<Code>
     }
 }
 
-/// The mode of a record, if it is of this version and has one.
+/// Returns the mode of record `kept`; None if its version is another one or it has no mode.
 #[inline(never)]
 pub(crate) fn mode_of(kept: &DfuRecord) -> Option<DeviceState>
     ensures some { IfSome result (λ m. HasMode kept.now m) }
@@ -37,7 +37,7 @@ pub(crate) fn mode_of(kept: &DfuRecord) -> Option<DeviceState>
     if kept.version != VERSION {
         return None;
     }
-    // As a download keeps them.
+    // Each number is as a download keeps it.
     let (written, passed, number) = (kept.first, kept.second, kept.number);
     let mode = match kept.mode {
         0 => DeviceState::AppIdle,
@@ -71,7 +71,7 @@ pub(crate) fn mode_of(kept: &DfuRecord) -> Option<DeviceState>
     Some(mode)
 }
 
-/// Returns whether a record has a mode.
+/// Returns true if record `kept` has a mode.
 pub fn has_mode(kept: &DfuRecord) -> bool
     ensures one { IsTrue result → (m : DeviceState) × HasMode kept.now m }
     ensures none { IsTrue (not result) → (m : DeviceState) → ¬ HasMode kept.now m }
@@ -84,7 +84,7 @@ pub fn has_mode(kept: &DfuRecord) -> bool
 
 /// Returns the settings of the configuration and the mode of a record, if the configuration is allowed and the record has a mode.
 pub fn mode_in(config: &DfuConfig, kept: &DfuRecord) -> Result<(Settings, DeviceState), Refusal>
-    ensures set_up { IfOk result (λ r. IsSetUp config.now r.0.config r.0.unit r.0.sector) }
+    ensures set_up { IfOk result (λ r. IsSetupOfConfig config.now r.0.config r.0.unit r.0.sector) }
     ensures only { IfOk result (λ r. (x : KeptMode) → HasMode kept.now x → r.1 ≡ x) }
     ensures mode { IfOk result (λ r. HasMode kept.now r.1) }
     ensures config { OnOk result (IsConfig config.now) }
@@ -104,7 +104,7 @@ pub fn idle_mode(config: &DfuConfig, kept: &DfuRecord) -> Result<(Settings, Devi
     ensures idle { OnOk result (IsIdleRecord config.now kept.now) }
     ensures err { IfErr result (λ e. RefusesSetup config.now kept.now (refusal_number e)) }
     ensures only { IfOk result (λ r. (x : KeptMode) → HasMode kept.now x → r.1 ≡ x) }
-    ensures set_up { IfOk result (λ r. IsSetUp config.now r.0.config r.0.unit r.0.sector) }
+    ensures set_up { IfOk result (λ r. IsSetupOfConfig config.now r.0.config r.0.unit r.0.sector) }
 {
     let (settings, mode) = mode_in(config, kept)?;
     if kept.work != 0 {
@@ -113,9 +113,9 @@ pub fn idle_mode(config: &DfuConfig, kept: &DfuRecord) -> Result<(Settings, Devi
     Ok((settings, mode))
 }
 
-// The numbers of a mode: its own, `first`, `second` and `number`.
+// Returns the numbers of a mode: `mode`, `first`, `second` and `number` of the record.
 fn numbers_of(mode: DeviceState) -> (u32, u32, u32, u16)
-    ensures { (r : DfuRecord) → r.mode ≡ result.0 → r.first ≡ result.1 → r.second ≡ result.2 → r.number ≡ result.3 → HasNumbers r mode }
+    ensures { (r : DfuRecord) → r.mode ≡ result.0 → r.first ≡ result.1 → r.second ≡ result.2 → r.number ≡ result.3 → HasModeNumbers r mode }
 {
     match mode {
         DeviceState::AppIdle => (0, 0, 0, 0),
@@ -138,7 +138,7 @@ fn numbers_of(mode: DeviceState) -> (u32, u32, u32, u16)
     }
 }
 
-/// Writes a mode into a record.
+/// Writes `mode` into record `kept`.
 #[inline(never)]
 pub fn set_mode(kept: &mut DfuRecord, mode: DeviceState)
     ensures mode { HasMode kept.new mode }

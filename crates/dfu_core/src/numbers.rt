@@ -2,24 +2,24 @@
 ghost use Rattle.std.specs.Prelude.{◌≡◌};
 ghost use Rattle.dfu_core.specs.Numbers.{refusal_number};
 
-/// Reasons for which a call is refused. Nothing changed then.
+/// Reasons for which a call is refused. A call that is refused changes nothing.
 #[derive(Clone, Copy)]
 pub enum Refusal {
-    /// The configuration is of another version, or not allowed.
+    /// The configuration has another version, or is not allowed.
     NoConfig,
     /// The block's memory has less room than the transfer size and the unit together.
     NoBlock,
-    /// Writes are due, of a device or of a format: they come first.
+    /// Writes of a device or of a format are due, and must come first.
     Asked,
     /// At power on: the flash has no active image, or 2^32 bytes or more. Of a device: the header that it
     /// noted is not in an open slot of the flash.
     NoMedium,
-    /// The record is not that of a device that asks, or not as the last call left it on that flash.
+    /// The record is not that of a device that asks, or not as the last call left it on the flash.
     NoDevice,
 }
 
 impl Refusal {
-    /// The number of the refusal, which is negative.
+    /// Returns the number of the refusal, which is negative.
     pub fn number(self) -> i32
         ensures { result ≡ refusal_number self }
     {

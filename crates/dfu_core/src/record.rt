@@ -1,6 +1,6 @@
 //! Record that a program in C keeps of a device, or of a format, between two calls.
 ghost use Rattle.std.specs.Prelude.{◌≡◌};
-ghost use Rattle.dfu_core.specs.Mode.{blank};
+ghost use Rattle.dfu_core.specs.Mode.{blank_record};
 
 use crate::config::VERSION;
 
@@ -24,9 +24,9 @@ use crate::config::VERSION;
 #[repr(C)]
 #[derive(Drop)]
 pub struct DfuRecord {
-    /// The version of the library that wrote it.
+    /// The version of the library that wrote the record.
     pub version: u32,
-    /// The state and what it keeps, by its number.
+    /// The number of the mode: the state, and which of the numbers below belong to it.
     pub mode: u32,
     /// The bytes written or sent, or a timer.
     pub first: u32,
@@ -38,9 +38,9 @@ pub struct DfuRecord {
     pub slot: u32,
     /// The number of the next block, or the status code.
     pub number: u16,
-    /// Length of the block that is not written, at the front of the block's memory, 0 to 4,096.
+    /// Length of the block that is not written yet, at the front of the block's memory, 0 to 4,096.
     pub length: u16,
-    /// The header of the active slot, as it was in the flash.
+    /// The 16 bytes of the header of the active slot, as they were in the flash.
     pub header: [u8; 16],
     /// Work that is due: 0 no writes, 1 a block, 2 an image is put in place, 3 a format.
     pub work: u32,
@@ -48,21 +48,21 @@ pub struct DfuRecord {
     pub spare: u32,
     /// The register over the image.
     pub sum: u32,
-    /// Bytes of the writes that are carried out.
+    /// Number of bytes of the writes that are carried out.
     pub done: u32,
     /// 0; or 1 more than wLength of the GETSTATUS that waits for its answer.
     pub asked: u32,
     /// The generation of the image that is put in place; of a format the number of its part.
     pub generation: u8,
-    /// Tells whether the gate of the spare slot is closed first: 1, or 0.
+    /// 1 if the gate of the spare slot is closed first, else 0.
     pub close: u8,
-    /// Bytes after the block's in its memory that are held back until a unit is whole: fewer than a unit has.
+    /// Number of bytes that are held back until a unit is whole, in the block's memory after the transfer size; fewer than a unit has.
     pub held_length: u16,
 }
 
-/// A record in which all is 0 but its version.
+/// Returns a record of the library's version in which every other field is 0.
 pub fn blank() -> DfuRecord
-    ensures { result ≡ blank }
+    ensures { result ≡ blank_record }
 {
     DfuRecord {
         version: VERSION,

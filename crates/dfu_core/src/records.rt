@@ -2,17 +2,17 @@
 
 use dfu_asks::MAX_PROGRAM;
 
-/// Operation of the flash that a program is to do next: `struct dfu_ask`.
+/// Operation of the flash that a program must carry out next: `struct dfu_ask`.
 #[repr(C)]
 #[derive(Drop)]
 pub struct DfuAsk {
     /// 1: erase the sector of `length` bytes at `at`; 2: write the first `length` bytes of `bytes` there.
     pub kind: u32,
-    /// Place of its first byte.
+    /// Place of its first byte in the flash.
     pub at: u32,
     /// Number of bytes to write, 1 to 256, or to erase.
     pub length: u32,
-    /// These bytes.
+    /// The bytes to write.
     pub bytes: [u8; MAX_PROGRAM],
 }
 

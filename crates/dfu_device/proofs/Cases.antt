@@ -2,7 +2,7 @@
 use Rattle.std.specs.Prelude.{◌≡◌, Bool, true, false}
 use Rattle.std.proofs.Common.{refl}
 
--- A fact that follows from both follows.
-pub by_cases : {P : Type 0} (b : Bool) → (b ≡ true → P) → (b ≡ false → P) → P
-by_cases true f g = f refl
-by_cases false f g = g refl
+-- P follows if it follows from true and from false.
+pub cases_of_bool : {P : Type 0} (b : Bool) → (b ≡ true → P) → (b ≡ false → P) → P
+cases_of_bool true f g = f refl
+cases_of_bool false f g = g refl

@@ -3,111 +3,119 @@ use Rattle.std.proofs.Common.{◌≡◌, ◌⊎◌, ◌&&◌, inl, inr, true, Is
 use Rattle.std.proofs.lemmas.Grind.{common_steps}
 use Rattle.std.proofs.lemmas.List.{length-take-le}
 use Rattle.dfu_slots.specs.declared.fault.WriteFault.{WriteFault}
-use Rattle.dfu_slots.specs.StoreView.{SlotsState, image_of, spare_of, is_begun, room_of, is_shaped, Commit, Ending, AllWorked, BrokenBy, CallEnding, Called}
+use Rattle.dfu_slots.specs.StoreView.{SlotsState, image_of, spare_of, is_begun, room_of, is_shaped, Commit, Ending, AllWorked, BrokenBy, CallEnding, CallsEnd}
 use Rattle.dfu_device.specs.Setting.{Setting}
 use Rattle.dfu_device.specs.declared.device_state.DeviceState.{DeviceState}
 use Rattle.dfu_device.specs.declared.device_state.DeviceState.TheVariants as device_state
-use Rattle.dfu_device.specs.Parts.{shows, stage_of, is_put, is_filled, is_sound}
+use Rattle.dfu_device.specs.Parts.{view_of_parts, stage_of, is_put, is_filled, are_device_parts}
 use Rattle.dfu_device.specs.Decision.{AcceptsNothing}
 use Rattle.dfu_device.specs.Table.{commit_code}
 use Rattle.dfu_device.specs.Rows.{Committed, FailedCommit}
-use Rattle.dfu_device.proofs.Calls.{called_one}
+use Rattle.dfu_device.proofs.Calls.{one_call_is_series}
 
--- The bytes that are closed were put in the closed spare, within its room.
-pub record IsReady (s : SlotsState) (n : ℕ) : Type 0 where
+-- A store is ready for a commit of n bytes: they were put in the closed spare slot, within its room.
+pub record IsReadyToCommit (s : SlotsState) (n : ℕ) : Type 0 where
   pub begun : is_begun s ≡ true
   pub end : s.put_end ≡ n
   pub room : n ≤ room_of s
   pub spare : n ≤ length (spare_of s)
 
 -- The store of a device is shaped.
-pub shaped : (m : DeviceState) (b : ℕ) (s : SlotsState) → IsTrue (is_sound m b s) → is_shaped s ≡ true
+pub shaped : (m : DeviceState) (b : ℕ) (s : SlotsState) → IsTrue (are_device_parts m b s) → is_shaped s ≡ true
 shaped m b s sound = grind (arith, common_steps)
 
--- A store that is shaped and has what was taken is ready for a commit.
-pub commit_ready : (b n : ℕ) (s : SlotsState) → is_shaped s ≡ true → IsTrue (is_filled (device_state.ManifestSync n) b s) → IsReady s n
-commit_ready b n s shape filled = record {
+-- A store that has the bytes of dfuMANIFEST-SYNC is ready for their commit.
+pub synced_store_ready_to_commit : (b n : ℕ) (s : SlotsState) → is_shaped s ≡ true →
+    IsTrue (is_filled (device_state.ManifestSync n) b s) → IsReadyToCommit s n
+synced_store_ready_to_commit b n s shape filled = record {
   begun = grind (arith, common_steps);
   end = grind (arith, common_steps);
   room = grind (arith, common_steps);
   spare = grind (arith, common_steps);
 }
 
--- A commit of the bytes taken is one call, whether it worked or not.
-commit_calls : (s now : SlotsState) (n : ℕ) (ending : Ending) → n ≤ length (spare_of s) → CallEnding s (Commit n) ending now
-    → Called s (Commit (length (take n (spare_of s))) ∷ []) ending now
-commit_calls s now n ending fits d =
-    subst (λ (k : ℕ). Called s (Commit k ∷ []) ending now) (sym (length-take-le n (spare_of s) fits)) (called_one s now (Commit n) ending d)
+-- A commit of the bytes taken is a list of one call, whether it worked or not.
+commit_is_one_call : (s now : SlotsState) (n : ℕ) (ending : Ending) → n ≤ length (spare_of s) → CallEnding s (Commit n) ending now
+    → CallsEnd s (Commit (length (take n (spare_of s))) ∷ []) ending now
+commit_is_one_call s now n ending fits d =
+    subst (λ (k : ℕ). CallsEnd s (Commit k ∷ []) ending now) (sym (length-take-le n (spare_of s) fits))
+    (one_call_is_series s now (Commit n) ending d)
 
-rested : (m : DeviceState) → AcceptsNothing m → (xs ys : List ℕ)
+-- The stage of a mode without bytes of a download does not depend on the spare slot.
+stage_without_bytes : (m : DeviceState) → AcceptsNothing m → (xs ys : List ℕ)
     → stage_of m xs ys ≡ stage_of m [] []
-rested m three xs ys = elim three [ inl e ↦ rw e refl | inr other ↦ elim other [ inl e ↦ rw e refl | inr e ↦ rw e refl ] ]
+stage_without_bytes m three xs ys = elim three [ inl e ↦ rw e refl | inr other ↦ elim other [ inl e ↦ rw e refl | inr e ↦ rw e refl ] ]
 
-shaped_sound : (s : SlotsState) → is_shaped s ≡ true → IsTrue (is_shaped s && true)
-shaped_sound s shape = grind (arith, common_steps)
+-- A store with its shape is all that such a mode needs.
+shaped_store_conjunction : (s : SlotsState) → is_shaped s ≡ true → IsTrue (is_shaped s && true)
+shaped_store_conjunction s shape = grind (arith, common_steps)
 
--- A core that goes on to dfuIDLE, to dfuMANIFEST-SYNC when complete, or to dfuMANIFEST-WAIT-RESET is sound.
-pub rested_sound : (m : DeviceState) (b : ℕ) (s : SlotsState) → AcceptsNothing m
-    → is_shaped s ≡ true → IsTrue (is_sound m b s)
-rested_sound m b s three shape =
-    let sound : IsTrue (is_shaped s && true) = shaped_sound s shape in
+-- A mode without bytes of a download makes a device with each store.
+pub core_sound_with_nothing_accepted : (m : DeviceState) (b : ℕ) (s : SlotsState) → AcceptsNothing m
+    → is_shaped s ≡ true → IsTrue (are_device_parts m b s)
+core_sound_with_nothing_accepted m b s three shape =
+    let sound : IsTrue (is_shaped s && true) = shaped_store_conjunction s shape in
     elim three [
-      | inl e ↦ subst (λ (k : DeviceState). IsTrue (is_sound k b s))
+      | inl e ↦ subst (λ (k : DeviceState). IsTrue (are_device_parts k b s))
           (sym e) sound
       | inr other ↦ elim other [
-        | inl e ↦ subst (λ (k : DeviceState). IsTrue (is_sound k b s)) (sym e) sound
+        | inl e ↦ subst (λ (k : DeviceState). IsTrue (are_device_parts k b s)) (sym e) sound
         | inr e ↦ subst
-            (λ (k : DeviceState). IsTrue (is_sound k b s)) (sym e) sound
+            (λ (k : DeviceState). IsTrue (are_device_parts k b s)) (sym e) sound
       ]
     ]
 
-all_put : (n : ℕ) (s : SlotsState) → 0 < n → n ≤ room_of s → is_shaped s ≡ true → is_put n s ≡ true
+-- If n bytes were put, at least one and within the room, they are all that is needed.
+put_bytes_within_room : (n : ℕ) (s : SlotsState) → 0 < n → n ≤ room_of s → is_shaped s ≡ true → is_put n s ≡ true
     → IsTrue (is_shaped s && (nat_lt 0 n && (nat_le n (room_of s) && is_put n s)))
-all_put n s some room shape put = grind (arith, common_steps)
+put_bytes_within_room n s some room shape put = grind (arith, common_steps)
 
--- A core is sound once its block was put after the bytes written.
-pub written_sound : (m : DeviceState) (b n number : ℕ) (s : SlotsState) → (m ≡ device_state.DownloadSyncWritten n number)
-    ⊎ (m ≡ device_state.DownloadIdle n number) → 0 < n → n ≤ room_of s → is_shaped s ≡ true → is_put n s ≡ true → IsTrue (is_sound m b s)
-written_sound m b n number s either some room shape put =
-    let sound : IsTrue (is_shaped s && (nat_lt 0 n && (nat_le n (room_of s) && is_put n s))) = all_put n s some room shape put in
+-- After a block was put, the mode with its bytes and the store are parts of a device.
+pub core_sound_after_put : (m : DeviceState) (b n number : ℕ) (s : SlotsState) → (m ≡ device_state.DownloadSyncWritten n number)
+    ⊎ (m ≡ device_state.DownloadIdle n number) → 0 < n → n ≤ room_of s → is_shaped s ≡ true → is_put n s ≡ true
+    → IsTrue (are_device_parts m b s)
+core_sound_after_put m b n number s either some room shape put =
+    let sound : IsTrue (is_shaped s && (nat_lt 0 n && (nat_le n (room_of s) && is_put n s))) = put_bytes_within_room n s some room shape
+    put in
     elim either [
-      | inl e ↦ subst (λ (k : DeviceState). IsTrue (is_sound k b s)) (sym e) sound
+      | inl e ↦ subst (λ (k : DeviceState). IsTrue (are_device_parts k b s)) (sym e) sound
       | inr e ↦ subst
-          (λ (k : DeviceState). IsTrue (is_sound k b s)) (sym e) sound
+          (λ (k : DeviceState). IsTrue (are_device_parts k b s)) (sym e) sound
     ]
 
--- A block that is not written has bytes, and there is room for them after those written.
-pub record FindsRoom (s : SlotsState) (n b : ℕ) : Type 0 where
+-- A block of b bytes that is not written has bytes, and has room after the n bytes that are written.
+pub record HasRoomForBlock (s : SlotsState) (n b : ℕ) : Type 0 where
   pub some : 0 < b
   pub room : n + b ≤ room_of s
 
--- A block that is to be written finds room.
-pub block_room : (n b number : ℕ) (s : SlotsState) → IsTrue (is_filled (device_state.DownloadSync n number) b s) → FindsRoom s n b
+-- A block that is to be written has room in the store.
+pub block_room : (n b number : ℕ) (s : SlotsState) → IsTrue (is_filled (device_state.DownloadSync n number) b s) → HasRoomForBlock s n b
 block_room n b number s filled = record { some = grind (arith, common_steps); room = grind (arith, common_steps) }
 
--- A commit that worked is what the table says of it.
-pub committed : (config : Setting) (s now : SlotsState) (next : DeviceState) (block : List ℕ) (n : ℕ) → IsReady s n
+-- A commit that worked makes the bytes taken the image, as the table says.
+pub committed : (config : Setting) (s now : SlotsState) (next : DeviceState) (block : List ℕ) (n : ℕ) → IsReadyToCommit s n
     → CallEnding s (Commit n) AllWorked now → image_of now ≡ take n (spare_of s) → room_of now ≡ room_of s
     → AcceptsNothing next
-    → Committed (take n (spare_of s)) config s (stage_of next [] []) (shows config now next block)
+    → Committed (take n (spare_of s)) config s (stage_of next [] []) (view_of_parts config now next block)
 committed config s now next block n ready d image room three = record {
   config_is = refl;
   room = room;
-  stage_is = rested next three (spare_of now) block;
-  calls = commit_calls s now n AllWorked ready.spare d;
+  stage_is = stage_without_bytes next three (spare_of now) block;
+  calls = commit_is_one_call s now n AllWorked ready.spare d;
   image = image;
 }
 
--- A commit that failed is what the table says of it.
-pub not_committed : (fault : WriteFault) (config : Setting) (s now : SlotsState) (block : List ℕ) (n : ℕ) → IsReady s n
+-- A commit that failed leaves the old image or the bytes taken, as the table says.
+pub commit_fault_is_failed_commit : (fault : WriteFault) (config : Setting) (s now : SlotsState) (block : List ℕ) (n : ℕ) →
+    IsReadyToCommit s n
     → CallEnding s (Commit n) (BrokenBy fault) now
     → (image_of now ≡ image_of s) ⊎ (image_of now ≡ take n (spare_of s)) → room_of now ≡ room_of s
-    → FailedCommit fault (take n (spare_of s)) config s (shows config now (device_state.Error (commit_code fault)) block)
-not_committed fault config s now block n ready d image room = record {
+    → FailedCommit fault (take n (spare_of s)) config s (view_of_parts config now (device_state.Error (commit_code fault)) block)
+commit_fault_is_failed_commit fault config s now block n ready d image room = record {
   config_is = refl;
   room = room;
   stage_is = refl;
-  calls = commit_calls s now n (BrokenBy fault) ready.spare d;
+  calls = commit_is_one_call s now n (BrokenBy fault) ready.spare d;
   image = image;
   failed = d.rose fault refl;
 }

@@ -1,4 +1,4 @@
--- Bytes that a history of rows of any cause gathers: the bytes taken and the bytes sent are two instances.
+-- Bytes that rows of any cause gather in a history: the bytes taken and the bytes sent are two instances.
 use Rattle.std.specs.Prelude.{◌≡◌, ℕ, Bool, true, if◌then◌else◌, List, [], ◌∷◌, ◌++◌}
 use Rattle.std.proofs.Common.{sym, ap, ◌∙◌, subst}
 use Rattle.dfu_wire.specs.declared.setups.Setup.{Setup}
@@ -12,71 +12,76 @@ use Rattle.dfu_device.specs.declared.answer.Answer.TheVariants as answer
 use Rattle.dfu_device.specs.declared.objection.Objection.{Objection}
 use Rattle.dfu_device.specs.Stage.{Request, OtherRequest, Reply, Profile, Stage, InAppIdle, InError, state_of}
 use Rattle.dfu_device.specs.Table.{Plan, plan, time_plan, reset_stage, objection_code, refuse_stage}
-use Rattle.dfu_device.specs.Outcome.{Luck, Outcome, outcome}
+use Rattle.dfu_device.specs.Outcome.{Luck, Outcome, plan_outcome}
 use Rattle.dfu_device.specs.DeviceView.{DeviceView, profile}
-use Rattle.dfu_device.specs.Rows.{meant, asked_length, Answers, is_served, Handles, handled_as, Elapses, Cause, Transfer, Passing, BusReset, RefusingClose, Refusing, PowerOn, Row}
+use Rattle.dfu_device.specs.Rows.{request_for_table, asked_length, ReplyAnswer, is_served, Handles, handled_by_reading, Elapses, Cause, Transfer, Passing, BusReset, RefusingClose, Refusing, PowerOn, Row}
 use Rattle.dfu_device.specs.PlanOutcomes.{PlanOutcome, setups_have_outcomes, not_served, times_have_outcomes}
-use Rattle.dfu_device.specs.RowForms.{ReplyMatches, reply_of_plan, RowForm, row_form, time_form, row_matches}
-use Rattle.dfu_device.specs.History.{HistoryStep, IsRow, IsHistory, Gathered, from_start}
-use Rattle.dfu_device.proofs.History.{step_gathers, history_gathers}
-use Rattle.dfu_device.proofs.Cases.{by_cases}
+use Rattle.dfu_device.specs.RowForms.{ReplyMatches, reply_of_plan, RowForm, row_form, time_plan_row_form, row_reply_matches_request}
+use Rattle.dfu_device.specs.History.{HistoryStep, IsTableRow, IsHistory, Gathered, from_start}
+use Rattle.dfu_device.proofs.History.{one_more_step_gathers, history_gathers}
+use Rattle.dfu_device.proofs.Cases.{cases_of_bool}
 
 -- The reply to a setup that goes by the table is of the kind that its request has.
 pub reply_fits : (q : Asked) (body : List ℕ) (len : ℕ) (w : DeviceView) (a : Answer) (out : List ℕ) (w' : DeviceView)
-    (x : PlanOutcome (plan (profile w) (image_of w.slots) w.stage (meant q body)) len w a out w')
-    → ReplyMatches (profile w).transfer x.reply (meant q body)
+    (x : PlanOutcome (plan (profile w) (image_of w.slots) w.stage (request_for_table q body)) len w a out w')
+    → ReplyMatches (profile w).transfer x.reply (request_for_table q body)
 reply_fits q body len w a out w' x =
-    let p : Plan = plan (profile w) (image_of w.slots) w.stage (meant q body) in
-    subst (λ (o : Outcome). ReplyMatches (profile w).transfer o.reply (meant q body)) x.same
-    (reply_of_plan (λ (reply : Reply). ReplyMatches (profile w).transfer reply (meant q body)) (image_of w.slots) p x.luck
-    (row_matches (profile w) (image_of w.slots) w.stage (meant q body) p (row_form (profile w) (image_of w.slots) w.stage (meant q body))))
+    let p : Plan = plan (profile w) (image_of w.slots) w.stage (request_for_table q body) in
+    subst (λ (o : Outcome). ReplyMatches (profile w).transfer o.reply (request_for_table q body)) x.same
+    (reply_of_plan (λ (reply : Reply). ReplyMatches (profile w).transfer reply (request_for_table q body)) (image_of w.slots) p x.luck
+    (row_reply_matches_request (profile w) (image_of w.slots) w.stage (request_for_table q body) p
+    (row_form (profile w) (image_of w.slots) w.stage (request_for_table q body))))
 
--- In which states bytes are held, which they are by image and state, what a reply makes of them, and what a cause with its answer adds.
+-- The gathering is fixed by four functions: in which states bytes are held, the bytes held by image and stage, the bytes after a reply, and
+-- the bytes that a cause adds by its answer.
 module _ (inside : State → Bool) (held : List ℕ → Stage → List ℕ) (joined : List ℕ → Request → Reply → List ℕ)
     (own : Cause → Answer → List ℕ → List ℕ) where
-  -- Bytes that are left of these in a state.
+  -- Bytes that stay held in a state: all of them inside, and none outside.
   abbrev left : State → List ℕ → List ℕ
   left state bytes = if inside state then bytes else []
 
+  -- Bytes that a device holds, by its image and its stage.
   abbrev held_by : DeviceView → List ℕ
   held_by w = held (image_of w.slots) w.stage
 
-  -- The bytes held after an outcome are those before as its reply leaves them.
-  abbrev Joins : List ℕ → Request → Outcome → Type 0
-  Joins before r o = held o.after.image o.after.stage ≡ left (state_of o.after.stage) (joined before r o.reply)
+  -- The bytes held after an outcome are the bytes held before, joined with what its reply adds, as far as its state holds any.
+  abbrev JoinsHeldBytes : List ℕ → Request → Outcome → Type 0
+  JoinsHeldBytes before r o = held o.after.image o.after.stage ≡ left (state_of o.after.stage) (joined before r o.reply)
 
-  -- Facts of such bytes that must be known.
-  pub record Gathers : Type 0 where
-    -- A row of each form.
+  -- Facts from which the gathering of bytes by rows and histories follows.
+  pub record GatheringFacts : Type 0 where
+    -- Each row, by its form, joins its bytes to the held ones.
     pub form : (c : Profile) (i : List ℕ) (st : Stage) (r : Request) (p : Plan) → RowForm c i st r p → (luck : Luck)
-        → Joins (held i st) r (outcome i p luck)
-    -- Bytes that a setup adds, by its answer.
+        → JoinsHeldBytes (held i st) r (plan_outcome i p luck)
+    -- The reply to a setup joins the bytes that the setup adds by its answer.
     pub answered : (p : Setup) (q : Asked) (setup body before : List ℕ) (most len : ℕ) (reply : Reply) (a : Answer) (out : List ℕ)
-        → IsSetup p setup → SetupRequest p q → is_served p q body ≡ true → ReplyMatches most reply (meant q body) → Answers len reply a out
-        → joined before (meant q body) reply ≡ before ++ own (Transfer setup body) a out
-    -- If it is stalled, or if nothing is asked, nothing is added.
+        → IsSetup p setup → SetupRequest p q → is_served p q body ≡ true → ReplyMatches most reply (request_for_table q body)
+        → ReplyAnswer len reply a out
+        → joined before (request_for_table q body) reply ≡ before ++ own (Transfer setup body) a out
+    -- A stalled setup adds no bytes.
     pub stalled : (setup body out : List ℕ) → own (Transfer setup body) answer.Stall out ≡ []
     pub waits : (ms : ℕ) (before : List ℕ) (reply : Reply) (a : Answer) (out : List ℕ)
         → joined before OtherRequest reply ≡ before ++ own (Passing ms) a out
-    -- A stage that stays the same adds nothing, and after a reset nothing is left.
+    -- A stage that stays adds no bytes, and a reset leaves none.
     pub stays : (i : List ℕ) (st : Stage) → held i st ≡ left (state_of st) (held i st ++ [])
     pub resets : (i bytes : List ℕ) (st : Stage) → held i (reset_stage st) ≡ left (state_of (reset_stage st)) bytes
-    -- Nothing is left in dfuERROR, and a program that refuses an image adds nothing.
-    pub errs : (why : Objection) (i bytes : List ℕ)
+    -- dfuERROR holds no bytes, and a refusal of an image adds none.
+    pub error_leaves_no_bytes : (why : Objection) (i bytes : List ℕ)
         → held i (InError (objection_code why)) ≡ left (state_of (InError (objection_code why))) bytes
     pub refuses : (why : Objection) (i : List ℕ) (st : Stage) (a : Answer) (out : List ℕ)
         → held i (refuse_stage why st) ≡ left (state_of (refuse_stage why st)) (held i st ++ own (Refusing why) a out)
 
-  module _ (known : Gathers) where
+  module _ (known : GatheringFacts) where
     served : (p : Setup) (q : Asked) (setup body : List ℕ) (w : DeviceView) (a : Answer) (out : List ℕ) (w' : DeviceView) → IsSetup p setup
         → SetupRequest p q → is_served p q body ≡ true → Handles setup body w a out w'
         → held_by w' ≡ left (state_of w'.stage) (held_by w ++ own (Transfer setup body) a out)
     served p q setup body w a out w' reads asks on h =
-        let x : PlanOutcome (plan (profile w) (image_of w.slots) w.stage (meant q body)) (asked_length q) w a out w' =
+        let x : PlanOutcome (plan (profile w) (image_of w.slots) w.stage (request_for_table q body)) (asked_length q) w a out w' =
         setups_have_outcomes p q setup body w a out w' reads asks on h in
-        subst (Joins (held_by w) (meant q body)) x.same
-        (known.form (profile w) (image_of w.slots) w.stage (meant q body) (plan (profile w) (image_of w.slots) w.stage (meant q body))
-        (row_form (profile w) (image_of w.slots) w.stage (meant q body)) x.luck)
+        subst (JoinsHeldBytes (held_by w) (request_for_table q body)) x.same
+        (known.form (profile w) (image_of w.slots) w.stage (request_for_table q body)
+        (plan (profile w) (image_of w.slots) w.stage (request_for_table q body))
+        (row_form (profile w) (image_of w.slots) w.stage (request_for_table q body)) x.luck)
         ∙ ap (left (state_of w'.stage)) (known.answered p q setup body (held_by w) (profile w).transfer (asked_length q) x.reply a out
         reads asks on (reply_fits q body (asked_length q) w a out w' x) x.answers)
 
@@ -91,29 +96,30 @@ module _ (inside : State → Bool) (held : List ℕ → Stage → List ℕ) (joi
         → held_by w' ≡ left (state_of w'.stage) (held_by w ++ own (Passing ms) a out)
     waited ms w a out w' row =
         let x : PlanOutcome (time_plan (profile w) w.stage ms) 0 w answer.Ack [] w' = times_have_outcomes ms w w' row in
-        subst (Joins (held_by w) OtherRequest) x.same
+        subst (JoinsHeldBytes (held_by w) OtherRequest) x.same
         (known.form (profile w) (image_of w.slots) w.stage OtherRequest (time_plan (profile w) w.stage ms)
-        (time_form (profile w) (image_of w.slots) w.stage ms) x.luck)
+        (time_plan_row_form (profile w) (image_of w.slots) w.stage ms) x.luck)
         ∙ ap (left (state_of w'.stage)) (known.waits ms (held_by w) x.reply a out)
 
-    -- A row of any cause adds what the cause with its answer does.
-    pub row_adds : (w : DeviceView) (cause : Cause) (a : Answer) (out : List ℕ) (w' : DeviceView) → Row w cause a out w'
+    -- A row of any cause adds the bytes of its cause and answer.
+    pub row_adds_own_bytes : (w : DeviceView) (cause : Cause) (a : Answer) (out : List ℕ) (w' : DeviceView) → Row w cause a out w'
         → held_by w' ≡ left (state_of w'.stage) (held_by w ++ own cause a out)
-    row_adds w (Transfer setup body) a out w' (handled_as p q reads asks done) =
-        by_cases (is_served p q body)
-        (λ on. served p q setup body w a out w' reads asks on (handled_as p q reads asks done))
-        (λ off. unserved setup body w a out w' (not_served p q setup body w a out w' reads asks off (handled_as p q reads asks done)))
-    row_adds w (Passing ms) a out w' (is, none, row) = waited ms w a out w' row
-    row_adds w BusReset a out w' (is, none, same) =
+    row_adds_own_bytes w (Transfer setup body) a out w' (handled_by_reading p q reads asks done) =
+        cases_of_bool (is_served p q body)
+        (λ on. served p q setup body w a out w' reads asks on (handled_by_reading p q reads asks done))
+        (λ off. unserved setup body w a out w' (not_served p q setup body w a out w' reads asks off (handled_by_reading p q reads asks
+        done)))
+    row_adds_own_bytes w (Passing ms) a out w' (is, none, row) = waited ms w a out w' row
+    row_adds_own_bytes w BusReset a out w' (is, none, same) =
         subst (λ (z : DeviceView). held_by z ≡ left (state_of z.stage) (held_by w ++ own BusReset a out)) (sym same)
         (known.resets (image_of w.slots) (held_by w ++ own BusReset a out) w.stage)
-    row_adds w (RefusingClose setup why) a out w' (is, none, closes, same) =
+    row_adds_own_bytes w (RefusingClose setup why) a out w' (is, none, closes, same) =
         subst (λ (z : DeviceView). held_by z ≡ left (state_of z.stage) (held_by w ++ own (RefusingClose setup why) a out)) (sym same)
-        (known.errs why (image_of w.slots) (held_by w ++ own (RefusingClose setup why) a out))
-    row_adds w (Refusing why) a out w' (is, none, same) =
+        (known.error_leaves_no_bytes why (image_of w.slots) (held_by w ++ own (RefusingClose setup why) a out))
+    row_adds_own_bytes w (Refusing why) a out w' (is, none, same) =
         subst (λ (z : DeviceView). held_by z ≡ left (state_of z.stage) (held_by w ++ own (Refusing why) a out)) (sym same)
         (known.refuses why (image_of w.slots) w.stage a out)
-    row_adds w PowerOn a out w' (is, none, same) =
+    row_adds_own_bytes w PowerOn a out w' (is, none, same) =
         subst (λ (z : DeviceView). held_by z ≡ left (state_of z.stage) (held_by w ++ own PowerOn a out)) (sym same)
         (known.resets (image_of (store_on w.slots.medium)) (held_by w ++ own PowerOn a out) InAppIdle)
 
@@ -122,24 +128,27 @@ module _ (inside : State → Bool) (held : List ℕ → Stage → List ℕ) (joi
     ends_inside s = inside (state_of s.after.stage)
 
     -- Bytes that a step adds.
-    abbrev own_of : HistoryStep → List ℕ
-    own_of s = own s.cause s.answer s.out
+    abbrev own_bytes_of_step : HistoryStep → List ℕ
+    own_bytes_of_step s = own s.cause s.answer s.out
 
-    -- One more step gathers what it adds.
-    pub step_adds : (h : List HistoryStep) (s : HistoryStep) → Gathered ends_inside own_of h (held_by s.before) → IsRow s
-        → Gathered ends_inside own_of (h ++ s ∷ []) (held_by s.after)
-    step_adds h s gathered row =
-        let both : List ℕ = held_by s.before ++ own_of s in
-        let now : held_by s.after ≡ left (state_of s.after.stage) both = row_adds s.before s.cause s.answer s.out s.after row in
-        step_gathers ends_inside own_of h s (held_by s.before) (held_by s.after) gathered
+    -- A history with one more step gathers what that step adds.
+    pub step_adds_own_bytes : (h : List HistoryStep) (s : HistoryStep) → Gathered ends_inside own_bytes_of_step h (held_by s.before) →
+        IsTableRow s
+        → Gathered ends_inside own_bytes_of_step (h ++ s ∷ []) (held_by s.after)
+    step_adds_own_bytes h s gathered row =
+        let both : List ℕ = held_by s.before ++ own_bytes_of_step s in
+        let now : held_by s.after ≡ left (state_of s.after.stage) both = row_adds_own_bytes s.before s.cause s.answer s.out s.after row in
+        one_more_step_gathers ends_inside own_bytes_of_step h s (held_by s.before) (held_by s.after) gathered
         (λ on. now ∙ ap (λ (b : Bool). if b then both else []) on) (λ off. now ∙ ap (λ (b : Bool). if b then both else []) off)
 
-    -- A history that goes on gathers what its steps add.
-    pub history_adds : (g h : List HistoryStep) (w w' : DeviceView) → Gathered ends_inside own_of g (held_by w) → IsHistory w h w'
-        → Gathered ends_inside own_of (g ++ h) (held_by w')
-    history_adds g h w w' gathered run = history_gathers ends_inside own_of held_by step_adds g h w w' gathered run
+    -- A longer history gathers what its further steps add.
+    pub history_adds_own_bytes : (g h : List HistoryStep) (w w' : DeviceView) → Gathered ends_inside own_bytes_of_step g (held_by w) →
+        IsHistory w h w'
+        → Gathered ends_inside own_bytes_of_step (g ++ h) (held_by w')
+    history_adds_own_bytes g h w w' gathered run = history_gathers ends_inside own_bytes_of_step held_by step_adds_own_bytes g h w w'
+        gathered run
 
-    -- A device that holds no bytes at first holds at last what its history gathers.
-    pub start_adds : (h : List HistoryStep) (w w' : DeviceView) → held_by w ≡ [] → IsHistory w h w'
-        → Gathered ends_inside own_of h (held_by w')
-    start_adds h w w' none run = history_adds [] h w w' (from_start tt none) run
+    -- A device that held no bytes at first holds what its history gathers.
+    pub history_from_start_adds : (h : List HistoryStep) (w w' : DeviceView) → held_by w ≡ [] → IsHistory w h w'
+        → Gathered ends_inside own_bytes_of_step h (held_by w')
+    history_from_start_adds h w w' none run = history_adds_own_bytes [] h w w' (from_start tt none) run

@@ -1,4 +1,4 @@
--- One row of the table sends what it answers to an UPLOAD, also if the medium fails.
+-- A row of the table sends the bytes with which it answers an UPLOAD, also if the medium fails.
 use Rattle.std.specs.Prelude.{◌≡◌, ℕ, ◌≤◌, nat_lt, true, List, [], ◌++◌, length, take, drop}
 use Rattle.std.proofs.Common.{refl, sym, ap, ◌∙◌, subst, arith}
 use Rattle.std.proofs.Math.Seq.{take-add}
@@ -6,55 +6,58 @@ use Rattle.std.proofs.lemmas.Bool.{ltb-true}
 use Rattle.std.proofs.lemmas.List.{append-nil, length-take, take_all, take-append-drop}
 use Rattle.dfu_device.specs.Stage.{Data, Request, Upload, Reply, Profile, Stage, InDfuIdle, state_of}
 use Rattle.dfu_device.specs.Table.{Plan}
-use Rattle.dfu_device.specs.Outcome.{Luck, Outcome, outcome}
-use Rattle.dfu_device.specs.Sent.{sent_in, sent_of, upload_sent, still_sent, sent_after}
-use Rattle.dfu_device.specs.RowForms.{IsQuiet, counted, quiet_of_plan, RowForm, quiet, takes, closes, sends, ends}
+use Rattle.dfu_device.specs.Outcome.{Luck, Outcome, plan_outcome}
+use Rattle.dfu_device.specs.Sent.{sent_in, sent_of, piece_sent_by_reply, sent_in_state, sent_after}
+use Rattle.dfu_device.specs.RowForms.{IsQuietReply, counted, quiet_plan_gives_quiet_reply, RowForm, quiet, takes, closes, sends, ends}
 
--- Whatever the medium does, what counts as sent after a plan is what was sent before with what it sends.
+-- After a plan the sent bytes are those before, followed by the piece that the plan sends, at each luck of the medium.
 abbrev pub Sends : List ℕ → Stage → Request → Plan → Type 0
-Sends i st r p = (luck : Luck) → sent_of (outcome i p luck).after ≡ sent_after (sent_in i st) r (outcome i p luck)
+Sends i st r p = (luck : Luck) → sent_of (plan_outcome i p luck).after ≡ sent_after (sent_in i st) r (plan_outcome i p luck)
 
 -- A quiet reply sends nothing.
-none_sent : (r : Request) (reply : Reply) → IsQuiet reply r → upload_sent r reply ≡ []
-none_sent (Upload number size) (Data bytes) still = absurd still
-none_sent (Upload number size) reply still = refl
-none_sent r reply still = refl
+quiet_reply_sends_nothing : (r : Request) (reply : Reply) → IsQuietReply reply r → piece_sent_by_reply r reply ≡ []
+quiet_reply_sends_nothing (Upload number size) (Data bytes) still = absurd still
+quiet_reply_sends_nothing (Upload number size) reply still = refl
+quiet_reply_sends_nothing r reply still = refl
 
--- A row of each form sends what it answers.
-pub form_sends : (c : Profile) (i : List ℕ) (st : Stage) (r : Request) (p : Plan) → RowForm c i st r p → Sends i st r p
-form_sends c i st r p (quiet replies calls well counts) luck =
+-- A row of each form sends the piece with which it answers.
+pub row_form_sends_piece : (c : Profile) (i : List ℕ) (st : Stage) (r : Request) (p : Plan) → RowForm c i st r p → Sends i st r p
+row_form_sends_piece c i st r p (quiet replies calls well counts) luck =
     (counted i st p luck counts).1
-    ∙ ap (still_sent (state_of (outcome i p luck).after.stage)) (sym (append-nil (sent_in i st))
-    ∙ ap (λ (l : List ℕ). sent_in i st ++ l) (sym (none_sent r (outcome i p luck).reply (quiet_of_plan c i r p luck replies))))
-form_sends c i st r p takes luck = refl
-form_sends c i st r p closes luck = refl
-form_sends c i st r p (sends place size is small) luck =
+    ∙ ap (sent_in_state (state_of (plan_outcome i p luck).after.stage)) (sym (append-nil (sent_in i st))
+    ∙ ap (λ (l : List ℕ). sent_in i st ++ l) (sym (quiet_reply_sends_nothing r (plan_outcome i p luck).reply (quiet_plan_gives_quiet_reply
+    c i r p luck replies))))
+row_form_sends_piece c i st r p takes luck = refl
+row_form_sends_piece c i st r p closes luck = refl
+row_form_sends_piece c i st r p (sends place size is small) luck =
     take-add place size i ∙ ap (λ (l : List ℕ). l ++ take size (drop place i)) (sym is)
-form_sends c i st r p (ends place size is small short) luck = refl
+row_form_sends_piece c i st r p (ends place size is small short) luck = refl
 
 -- The end of an upload.
 
-fewer : (l : List ℕ) (size : ℕ) → nat_lt (length (take size l)) size ≡ true → length l ≤ size
-fewer l size short = omega (arith, length-take size l, ltb-true (length (take size l)) size short)
+short_prefix_is_whole : (l : List ℕ) (size : ℕ) → nat_lt (length (take size l)) size ≡ true → length l ≤ size
+short_prefix_is_whole l size short = omega (arith, length-take size l, ltb-true (length (take size l)) size short)
 
--- The bytes after a place are the rest, if they are fewer than were asked for.
-rest_sent : (i : List ℕ) (place size : ℕ) → nat_lt (length (take size (drop place i))) size ≡ true
+-- If the piece from a place on is shorter than asked for, the image ends with it.
+short_piece_completes_image : (i : List ℕ) (place size : ℕ) → nat_lt (length (take size (drop place i))) size ≡ true
     → take place i ++ take size (drop place i) ≡ i
-rest_sent i place size short =
-    ap (λ (l : List ℕ). take place i ++ l) (take_all size (drop place i) (fewer (drop place i) size short)) ∙ take-append-drop place i
+short_piece_completes_image i place size short =
+    ap (λ (l : List ℕ). take place i ++ l) (take_all size (drop place i) (short_prefix_is_whole (drop place i) size short))
+    ∙ take-append-drop place i
 
--- If a piece is answered and dfuIDLE entered, the bytes sent with this piece are the image.
+-- If a piece is answered and dfuIDLE entered, the bytes sent before, followed by the piece, are the image.
 abbrev pub Completes : List ℕ → Stage → Outcome → Type 0
 Completes i st o = (bytes : List ℕ) → o.reply ≡ Data bytes → o.after.stage ≡ InDfuIdle → sent_in i st ++ bytes ≡ o.after.image
 
--- A row of each form comes to the end of an upload with the image.
-pub form_completes : (c : Profile) (i : List ℕ) (st : Stage) (r : Request) (p : Plan) (luck : Luck) → RowForm c i st r p
-    → Completes i st (outcome i p luck)
-form_completes c i st r p luck (quiet replies calls well counts) bytes is idle =
-    absurd (subst (λ (reply : Reply). IsQuiet reply r) is (quiet_of_plan c i r p luck replies))
-form_completes c i st r p luck takes bytes is idle = absurd cc
-form_completes c i st r p luck closes bytes is idle = absurd cc
-form_completes c i st r p luck (sends place size at small) bytes is idle = absurd cc
-form_completes c i st r p luck (ends place size at small short) bytes is idle =
+-- A row of each form that ends an upload completes the image.
+pub row_form_completes_upload : (c : Profile) (i : List ℕ) (st : Stage) (r : Request) (p : Plan) (luck : Luck) → RowForm c i st r p
+    → Completes i st (plan_outcome i p luck)
+row_form_completes_upload c i st r p luck (quiet replies calls well counts) bytes is idle =
+    absurd (subst (λ (reply : Reply). IsQuietReply reply r) is (quiet_plan_gives_quiet_reply c i r p luck replies))
+row_form_completes_upload c i st r p luck takes bytes is idle = absurd cc
+row_form_completes_upload c i st r p luck closes bytes is idle = absurd cc
+row_form_completes_upload c i st r p luck (sends place size at small) bytes is idle = absurd cc
+row_form_completes_upload c i st r p luck (ends place size at small short) bytes is idle =
     let same : take size (drop place i) ≡ bytes = cc in
-    ap (λ (l : List ℕ). sent_in i st ++ l) (sym same) ∙ ap (λ (l : List ℕ). l ++ take size (drop place i)) at ∙ rest_sent i place size short
+    ap (λ (l : List ℕ). sent_in i st ++ l) (sym same) ∙ ap (λ (l : List ℕ). l ++ take size (drop place i)) at
+    ∙ short_piece_completes_image i place size short

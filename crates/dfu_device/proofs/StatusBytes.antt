@@ -8,29 +8,29 @@ use Rattle.dfu_wire.specs.declared.statuses.Status.{Status}
 use Rattle.dfu_wire.specs.Status.{IsStatus}
 use Rattle.dfu_device.specs.declared.answer.Answer.TheVariants as answer
 use Rattle.dfu_device.specs.Stage.{StatusOf}
-use Rattle.dfu_device.specs.Rows.{Answers}
+use Rattle.dfu_device.specs.Rows.{ReplyAnswer}
 
--- The front of the six bytes of a status answers GETSTATUS.
-pub status_answered : (status : Status) (c code : Code) (p poll : ℕ) (s state : State) (len : ℕ) (bytes : List ℕ)
+-- The first bytes of a status's six answer GETSTATUS.
+pub status_front_answers : (status : Status) (c code : Code) (p poll : ℕ) (s state : State) (len : ℕ) (bytes : List ℕ)
     → status ≡ record { code = c; poll_ms = p; state = s } → c ≡ code → p ≡ poll → s ≡ state → IsStatus status bytes
-    → slice_index bytes 5 ≡ 0 → Answers len (StatusOf code poll state) answer.Bytes (take len bytes)
-status_answered status c code p poll s state len bytes is code_is poll_is state_is fields string =
+    → slice_index bytes 5 ≡ 0 → ReplyAnswer len (StatusOf code poll state) answer.Bytes (take len bytes)
+status_front_answers status c code p poll s state len bytes is code_is poll_is state_is fields string =
     let same : status ≡ record { code = code; poll_ms = poll; state = state } = is
     ∙ (λ k. record { code = code_is k; poll_ms = poll_is k; state = state_is k }) in
     (refl, bytes, subst (λ (x : Status). IsStatus x bytes) same fields, string, refl)
 
--- A statement about an Ok holds if there is one.
+-- A statement about an Ok holds of a result that is one.
 on_ok : {T E P : Type 0} (r : Result T E) → IsOk r → OnOk r P → P
 on_ok (Ok x) is p = p
 on_ok (Err e) is p = absurd (false≢true is)
 
--- There is room for the front of six bytes in an empty vector.
-pub front_fits : (asked n : ℕ) (bytes old : List ℕ) → n ≡ min asked 6 → old ≡ [] → length old + length (take n bytes) ≤ 4096
-front_fits asked n bytes old count empty =
+-- An empty vector has room for the first `asked` of six bytes.
+pub status_front_fits_vector : (asked n : ℕ) (bytes old : List ℕ) → n ≡ min asked 6 → old ≡ [] → length old + length (take n bytes) ≤ 4096
+status_front_fits_vector asked n bytes old count empty =
     let none : length old ≡ 0 = ap (λ (l : List ℕ). length l) empty in
     omega (arith, none, count, length-take n bytes)
 
--- Then the vector has nothing else.
+-- After the bytes are added to an empty vector, it has nothing else.
 pub front_stands : {T E : Type 0} (r : Result T E) (asked n : ℕ) (bytes old out : List ℕ) → n ≡ min asked 6 → length bytes ≡ 6 → old ≡ []
     → IsOk r → OnOk r (out ≡ old ++ take n bytes) → out ≡ take asked bytes
 front_stands r asked n bytes old out count size empty fine ok =

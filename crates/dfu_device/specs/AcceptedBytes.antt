@@ -1,4 +1,4 @@
--- The bytes taken: those of a state, those of a row, and those of a whole history.
+-- The bytes taken, three ways: in a state, by a row, and by a whole history.
 use Rattle.std.specs.Prelude.{ℕ, ◌==◌, ◌&&◌, Bool, true, false, if◌then◌else◌, List, [], ◌++◌, slice_index}
 use Rattle.dfu_wire.specs.declared.states.State.{State}
 use Rattle.dfu_wire.specs.declared.states.State.TheVariants.{DownloadSync, DownloadBusy, DownloadIdle, ManifestSync, Manifest}
@@ -20,7 +20,7 @@ is_downloading ManifestSync = true
 is_downloading Manifest = true
 is_downloading state = false
 
--- The bytes taken so far; once manifestation is complete they are the image.
+-- Bytes taken so far, by the active image and the stage; once manifestation is complete they are the image.
 abbrev pub accepted_in : List ℕ → Stage → List ℕ
 accepted_in image (InDownloadSync before block number) = before ++ block
 accepted_in image (InDownloadSyncWritten taken number) = taken
@@ -31,24 +31,24 @@ accepted_in image InManifestSyncComplete = image
 accepted_in image (InManifest taken passed) = taken
 accepted_in image stage = []
 
--- The bytes taken of a situation.
+-- Bytes taken so far, by the situation.
 abbrev pub accepted_of : Situation → List ℕ
 accepted_of s = accepted_in s.image s.stage
 
 -- The bytes taken by a row.
 
--- An acknowledged DNLOAD adds its bytes, and nothing else adds any.
-abbrev pub dnload_added : List ℕ → Request → Reply → List ℕ
-dnload_added taken (Dnload number body) Ack = taken ++ body
-dnload_added taken request reply = taken
+-- Bytes taken after a reply: an acknowledged DNLOAD adds its body, and nothing else adds any.
+abbrev pub accepted_with_dnload : List ℕ → Request → Reply → List ℕ
+accepted_with_dnload taken (Dnload number body) Ack = taken ++ body
+accepted_with_dnload taken request reply = taken
 
--- Nothing stays taken if a row ends in another state.
-abbrev pub held_in : State → List ℕ → List ℕ
-held_in state taken = if is_downloading state then taken else []
+-- Bytes taken after a row: none, if it ends in a state outside a download.
+abbrev pub accepted_in_state : State → List ℕ → List ℕ
+accepted_in_state state taken = if is_downloading state then taken else []
 
--- The bytes taken after a row.
+-- Bytes taken after a row, by its request and its outcome.
 abbrev pub accepted_after : List ℕ → Request → Outcome → List ℕ
-accepted_after taken request o = held_in (state_of o.after.stage) (dnload_added taken request o.reply)
+accepted_after taken request o = accepted_in_state (state_of o.after.stage) (accepted_with_dnload taken request o.reply)
 
 -- The bytes taken by a history.
 
@@ -57,18 +57,18 @@ abbrev pub is_dnload : List ℕ → Bool
 is_dnload setup = (slice_index setup 0 == 0x21) && (slice_index setup 1 == 1)
 
 -- The body of an acknowledged DNLOAD.
-abbrev pub acknowledged : Cause → Answer → List ℕ
-acknowledged (Transfer setup body) answer.Ack = if is_dnload setup then body else []
-acknowledged cause a = []
+abbrev pub acknowledged_bytes : Cause → Answer → List ℕ
+acknowledged_bytes (Transfer setup body) answer.Ack = if is_dnload setup then body else []
+acknowledged_bytes cause a = []
 
--- A step ends in a state in which a download is under way.
-abbrev pub downloads : HistoryStep → Bool
-downloads s = is_downloading (state_of s.after.stage)
+-- The step ends in a state in which a download is under way.
+abbrev pub ends_in_download : HistoryStep → Bool
+ends_in_download s = is_downloading (state_of s.after.stage)
 
 -- The body that a step acknowledged.
-abbrev pub block_of : HistoryStep → List ℕ
-block_of s = acknowledged s.cause s.answer
+abbrev pub acknowledged_block : HistoryStep → List ℕ
+acknowledged_block s = acknowledged_bytes s.cause s.answer
 
--- These bytes are taken by a history: the blocks that were acknowledged after the last step that ends with no download under way.
+-- The bytes taken by a history: the blocks acknowledged after the last step that ends with no download under way.
 abbrev pub AcceptedBytes : List HistoryStep → List ℕ → Type 0
-AcceptedBytes h bytes = Gathered downloads block_of h bytes
+AcceptedBytes h bytes = Gathered ends_in_download acknowledged_block h bytes

@@ -1,4 +1,4 @@
--- The laws of the bytes taken: a device has taken what its history says.
+-- The laws of the bytes taken: a device has taken the bytes that its history took.
 use Rattle.std.specs.Prelude.{◌≡◌, ℕ, true, List, [], ◌∷◌, ◌++◌}
 use Rattle.dfu_wire.specs.declared.setups.Setup.{Setup}
 use Rattle.dfu_wire.specs.declared.requests.Request.{Request as Asked}
@@ -8,48 +8,49 @@ use Rattle.dfu_device.specs.declared.answer.Answer.{Answer}
 use Rattle.dfu_device.specs.declared.answer.Answer.TheVariants as answer
 use Rattle.dfu_device.specs.Stage.{Request, OtherRequest, Reply, state_of}
 use Rattle.dfu_device.specs.DeviceView.{DeviceView, situation}
-use Rattle.dfu_device.specs.Rows.{meant, asked_length, Answers, Elapses, is_served, Handles, Cause, Row}
-use Rattle.dfu_device.specs.History.{HistoryStep, IsRow, IsHistory}
-use Rattle.dfu_device.specs.AcceptedBytes.{accepted_of, held_in, accepted_after, acknowledged, AcceptedBytes}
+use Rattle.dfu_device.specs.Rows.{request_for_table, asked_length, ReplyAnswer, Elapses, is_served, Handles, Cause, Row}
+use Rattle.dfu_device.specs.History.{HistoryStep, IsTableRow, IsHistory}
+use Rattle.dfu_device.specs.AcceptedBytes.{accepted_of, accepted_in_state, accepted_after, acknowledged_bytes, AcceptedBytes}
 
--- A row took what it acknowledged: after it the bytes taken are those before with its own, or none if it ends outside a download.
+-- A row took the body that it acknowledged: after it the bytes taken are those before, followed by the body, or none if the row ends
+-- outside a download.
 pub record RowAcceptedBody (r : Request) (len : ℕ) (w : DeviceView) (a : Answer) (out : List ℕ) (w' : DeviceView) : Type 0 where
   pub reply : Reply
-  pub answers : Answers len reply a out
+  pub answers : ReplyAnswer len reply a out
   pub taken : accepted_of (situation w') ≡ accepted_after (accepted_of (situation w)) r (record { reply = reply; after = situation w' })
 
--- Each setup that goes by the table took what it acknowledged.
+-- Each setup that goes by the table takes the body that it acknowledges.
 abbrev pub SetupAcceptsBody : Type 0
 SetupAcceptsBody = (p : Setup) (q : Asked) (setup body : List ℕ) (w : DeviceView) (a : Answer) (out : List ℕ) (w' : DeviceView)
     → IsSetup p setup
     → SetupRequest p q
     → is_served p q body ≡ true
-    → Handles setup body w a out w' → RowAcceptedBody (meant q body) (asked_length q) w a out w'
+    → Handles setup body w a out w' → RowAcceptedBody (request_for_table q body) (asked_length q) w a out w'
 
--- Time takes nothing.
+-- A time takes no bytes.
 abbrev pub TimeAcceptsNothing : Type 0
 TimeAcceptsNothing = (ms : ℕ) (w w' : DeviceView) → Elapses ms w w' → RowAcceptedBody OtherRequest 0 w answer.Ack [] w'
 
--- After a row of any cause the bytes taken are those before with the acknowledged body, or none if it ends outside a download.
+-- After a row of any cause the bytes taken are those before, followed by the acknowledged body, or none if the row ends outside a download.
 abbrev pub RowAcceptsBody : Type 0
 RowAcceptsBody = (w : DeviceView) (cause : Cause) (a : Answer) (out : List ℕ) (w' : DeviceView) → Row w cause a out w'
-    → accepted_of (situation w') ≡ held_in (state_of w'.stage) (accepted_of (situation w) ++ acknowledged cause a)
+    → accepted_of (situation w') ≡ accepted_in_state (state_of w'.stage) (accepted_of (situation w) ++ acknowledged_bytes cause a)
 
--- If the bytes taken are those of a history, they are so after one more step.
+-- If the bytes taken are those of a history, they are those of the history with one more step.
 abbrev pub StepAcceptsBody : Type 0
-StepAcceptsBody = (h : List HistoryStep) (s : HistoryStep) → AcceptedBytes h (accepted_of (situation s.before)) → IsRow s
+StepAcceptsBody = (h : List HistoryStep) (s : HistoryStep) → AcceptedBytes h (accepted_of (situation s.before)) → IsTableRow s
     → AcceptedBytes (h ++ s ∷ []) (accepted_of (situation s.after))
 
--- If the bytes taken are those of a history, they are so after any history that goes on from there.
+-- If the bytes taken are those of a history, they are those of any longer history that goes on from there.
 abbrev pub HistoryAcceptsBodies : Type 0
 HistoryAcceptsBodies = (g h : List HistoryStep) (w w' : DeviceView) → AcceptedBytes g (accepted_of (situation w)) → IsHistory w h w'
     → AcceptedBytes (g ++ h) (accepted_of (situation w'))
 
--- A device that has taken nothing at first has taken what its history says in the end.
+-- A device that had taken nothing has taken, after a history, the bytes of that history.
 abbrev pub StartAcceptsBodies : Type 0
 StartAcceptsBodies = (h : List HistoryStep) (w w' : DeviceView) → accepted_of (situation w) ≡ [] → IsHistory w h w'
     → AcceptedBytes h (accepted_of (situation w'))
 
--- A history takes these bytes and no others.
-abbrev pub AcceptedUnique : Type 0
-AcceptedUnique = (h : List HistoryStep) (a b : List ℕ) → AcceptedBytes h a → AcceptedBytes h b → a ≡ b
+-- A history takes one list of bytes and no other.
+abbrev pub AcceptedBytesUnique : Type 0
+AcceptedBytesUnique = (h : List HistoryStep) (a b : List ℕ) → AcceptedBytes h a → AcceptedBytes h b → a ≡ b

@@ -7,21 +7,22 @@ use Rattle.dfu_device.specs.declared.device_state.DeviceState.TheVariants as dev
 use Rattle.dfu_device.specs.Stage.{Stage, InDownloadIdle, InManifestSync, InManifest}
 use Rattle.dfu_device.specs.DeviceView.{DeviceView}
 
--- Its bytes: all those taken, in dfuDNLOAD-IDLE, in dfuMANIFEST-SYNC before it is complete, and in dfuMANIFEST.
+-- Bytes of the received image: all bytes taken, in dfuDNLOAD-IDLE, in dfuMANIFEST-SYNC before it is complete, and in dfuMANIFEST.
 abbrev pub candidate_in : Stage → Option (List ℕ)
 candidate_in (InDownloadIdle taken number) = Some taken
 candidate_in (InManifestSync taken) = Some taken
 candidate_in (InManifest taken passed) = Some taken
 candidate_in stage = None
 
--- Number of these bytes, by the mode.
+-- Length of the received image, by the mode.
 abbrev pub candidate_length : DeviceState → Option ℕ
 candidate_length (device_state.DownloadIdle written number) = Some written
 candidate_length (device_state.ManifestSync written) = Some written
 candidate_length (device_state.Manifest written passed) = Some written
 candidate_length m = None
 
--- They are the bytes of the medium at this place, after the gate and the header of the spare slot, and then the bytes held back.
+-- The candidate is at its place: its bytes are those of the medium from there on, after the gate and the header of the spare slot, followed
+-- by the bytes held back.
 pub record IsCandidate (w : DeviceView) (c : Candidate) : Type 0 where
   pub taken : List ℕ
   pub is : candidate_in w.stage ≡ Some taken

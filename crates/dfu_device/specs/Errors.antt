@@ -2,7 +2,7 @@
 use Rattle.std.specs.Prelude.{◌⊎◌, ℕ, List}
 use Rattle.dfu_wire.specs.declared.codes.Code.TheVariants.{Write as ErrWrite, Prog as ErrProg, Verify as ErrVerify}
 use Rattle.dfu_device.specs.declared.answer.Answer.{Answer}
-use Rattle.dfu_slots.specs.Medium.{Rose}
+use Rattle.dfu_slots.specs.Medium.{CountRose}
 use Rattle.dfu_device.specs.Stage.{Stage, InError}
 use Rattle.dfu_device.specs.DeviceView.{DeviceView}
 use Rattle.dfu_device.specs.Rows.{Cause, Row}
@@ -16,10 +16,10 @@ IsMediumError stage = ⊥
 
 -- The count of the medium's failures rose.
 abbrev pub MediumFailed : DeviceView → DeviceView → Type 0
-MediumFailed w w' = Rose w.slots.medium.failures w'.slots.medium.failures
+MediumFailed w w' = CountRose w.slots.medium.failures w'.slots.medium.failures
 
 -- errWRITE, errPROG and errVERIFY come only if the medium failed, and then stay.
-abbrev pub ErrorsHaveCause : Type 0
-ErrorsHaveCause = (w : DeviceView) (cause : Cause) (a : Answer) (out : List ℕ) (w' : DeviceView) → Row w cause a out w'
+abbrev pub MediumErrorsHaveCause : Type 0
+MediumErrorsHaveCause = (w : DeviceView) (cause : Cause) (a : Answer) (out : List ℕ) (w' : DeviceView) → Row w cause a out w'
     → IsMediumError w'.stage
     → IsMediumError w.stage ⊎ MediumFailed w w'

@@ -1,10 +1,10 @@
--- Histories of a device, and what they gathered since they were last outside some states.
+-- Histories of a device, and the bytes that they gathered since they were last outside some states.
 use Rattle.std.specs.Prelude.{◌≡◌, ℕ, Bool, true, false, List, [], ◌∷◌, ◌++◌}
 use Rattle.dfu_device.specs.declared.answer.Answer.{Answer}
 use Rattle.dfu_device.specs.DeviceView.{DeviceView}
 use Rattle.dfu_device.specs.Rows.{Cause, Row}
 
--- A step of a history: a row, from a device by a cause to an answer and a device.
+-- A step of a history: a row, from a device, by a cause, to an answer and a device.
 pub record HistoryStep : Type 0 where
   pub before : DeviceView
   pub cause : Cause
@@ -13,28 +13,28 @@ pub record HistoryStep : Type 0 where
   pub after : DeviceView
 
 -- The step is a row of the device table.
-abbrev pub IsRow : HistoryStep → Type 0
-IsRow s = Row s.before s.cause s.answer s.out s.after
+abbrev pub IsTableRow : HistoryStep → Type 0
+IsTableRow s = Row s.before s.cause s.answer s.out s.after
 
--- A history: steps, each beginning where the one before ended.
+-- A history is a list of steps, each of which begins where the one before ended.
 abbrev pub IsHistory : DeviceView → List HistoryStep → DeviceView → Type 0
 IsHistory w [] w' = w' ≡ w
-IsHistory w (s ∷ rest) w' = (s.before ≡ w) × IsRow s × IsHistory s.after rest w'
+IsHistory w (s ∷ rest) w' = (s.before ≡ w) × IsTableRow s × IsHistory s.after rest w'
 
--- The parts of these steps, joined.
+-- The parts of the steps, joined.
 abbrev pub joined_parts : (HistoryStep → List ℕ) → List HistoryStep → List ℕ
 joined_parts part [] = []
 joined_parts part (s ∷ rest) = part s ++ joined_parts part rest
 
--- All these steps end inside.
-abbrev pub AllInside : (HistoryStep → Bool) → List HistoryStep → Type 0
-AllInside inside [] = Unit {0}
-AllInside inside (s ∷ rest) = (inside s ≡ true) × AllInside inside rest
+-- All steps end inside.
+abbrev pub AllStepsInside : (HistoryStep → Bool) → List HistoryStep → Type 0
+AllStepsInside inside [] = Unit {0}
+AllStepsInside inside (s ∷ rest) = (inside s ≡ true) × AllStepsInside inside rest
 
--- These bytes are gathered by a history: the parts of the steps after the last one that ends outside.
+-- The bytes gathered by a history: the parts of the steps after the last step that ends outside.
 pub data Gathered (inside : HistoryStep → Bool) (part : HistoryStep → List ℕ) (h : List HistoryStep) (bytes : List ℕ) : Type 0 where
   -- No step ends outside.
-  from_start : AllInside inside h → bytes ≡ joined_parts part h → Gathered inside part h bytes
-  -- The last step that ends outside, with those before it and those after it.
+  from_start : AllStepsInside inside h → bytes ≡ joined_parts part h → Gathered inside part h bytes
+  -- A last step ends outside, steps are before it, and all steps after it end inside.
   since : (old : List HistoryStep) (last : HistoryStep) (recent : List HistoryStep) → h ≡ old ++ last ∷ recent
-      → inside last ≡ false → AllInside inside recent → bytes ≡ joined_parts part recent → Gathered inside part h bytes
+      → inside last ≡ false → AllStepsInside inside recent → bytes ≡ joined_parts part recent → Gathered inside part h bytes

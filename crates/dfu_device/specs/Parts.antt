@@ -8,7 +8,7 @@ use Rattle.dfu_device.specs.Pace.{block_ms, image_ms}
 use Rattle.dfu_device.specs.Setting.{Setting}
 use Rattle.dfu_device.specs.DeviceView.{DeviceView}
 
--- The stage of a mode: its numbers say how many bytes are in the spare slot, and the block that is not written comes after them.
+-- The stage of a mode. The mode's numbers say how many bytes of the spare slot count, and the block that is not written follows them.
 abbrev pub stage_of : DeviceState → List ℕ → List ℕ → Stage
 stage_of device_state.AppIdle spare block = InAppIdle
 stage_of (device_state.AppDetach timer passed) spare block = InAppDetach timer passed
@@ -24,16 +24,16 @@ stage_of device_state.ManifestWaitReset spare block = InManifestWaitReset
 stage_of (device_state.UploadIdle place number) spare block = InUploadIdle place number
 stage_of (device_state.Error code) spare block = InError code
 
--- The device of these parts, as a contract sees it.
-abbrev pub shows : Setting → SlotsState → DeviceState → List ℕ → DeviceView
-shows config slots m block = record { config = config; slots = slots; stage = stage_of m (spare_of slots) block }
+-- The device made of its parts, as a contract sees it.
+abbrev pub view_of_parts : Setting → SlotsState → DeviceState → List ℕ → DeviceView
+view_of_parts config slots m block = record { config = config; slots = slots; stage = stage_of m (spare_of slots) block }
 
--- So many bytes were put in the closed spare, and no more.
+-- Exactly n bytes were put in the closed spare slot.
 abbrev pub is_put : ℕ → SlotsState → Bool
 is_put written s = is_begun s && (s.put_end == written)
 
--- A block that is not written has bytes and there is room for them after those written, which were put in the spare, if there are any.
--- If all is written, it is at least one byte, within the room, and was put in the spare.
+-- What a mode needs of the store. A block that is not written has bytes, and room after the written ones, which are in the spare slot. Once
+-- all is written, there is at least one byte, within the room, and all of them are in the spare slot.
 abbrev pub is_filled : DeviceState → ℕ → SlotsState → Bool
 is_filled (device_state.DownloadSync written number) block s =
     nat_lt 0 block && (nat_le (written + block) (room_of s) && ((written == 0) || is_put written s))
@@ -45,12 +45,12 @@ is_filled (device_state.ManifestSync written) block s = nat_lt 0 written && (nat
 is_filled (device_state.Manifest written passed) block s = nat_lt 0 written && (nat_le written (room_of s) && is_put written s)
 is_filled m block s = true
 
--- The parts are a device's, the block having so many bytes.
-abbrev pub is_sound : DeviceState → ℕ → SlotsState → Bool
-is_sound m block s = is_shaped s && is_filled m block s
+-- The parts belong to one device, whose block has that many bytes.
+abbrev pub are_device_parts : DeviceState → ℕ → SlotsState → Bool
+are_device_parts m block s = is_shaped s && is_filled m block s
 
--- Time that a host must wait in a mode with a block of n bytes.
-abbrev pub mode_ms : Setting → DeviceState → (n : ℕ) → ℕ
-mode_ms s (device_state.DownloadBusy written number passed) n = block_ms s.pace s.busy_ms written n
-mode_ms s (device_state.Manifest written passed) n = image_ms s.pace s.manifest_ms written
-mode_ms s m n = 0
+-- Milliseconds that a host must wait in a mode with a block of n bytes.
+abbrev pub wait_ms_of_mode : Setting → DeviceState → (n : ℕ) → ℕ
+wait_ms_of_mode s (device_state.DownloadBusy written number passed) n = block_ms s.pace s.busy_ms written n
+wait_ms_of_mode s (device_state.Manifest written passed) n = image_ms s.pace s.manifest_ms written
+wait_ms_of_mode s m n = 0

@@ -1,4 +1,4 @@
--- A row of a device is the outcome of its plan at some luck of the medium: the laws by which a caller goes on from a row.
+-- Laws by which a row of a device is the outcome of its plan, at some luck of the medium.
 use Rattle.std.specs.Prelude.{◌≡◌, ℕ, ◌≤◌, true, false, List, [], ◌∷◌, length}
 use Rattle.std.proofs.Common.{refl, sym, ap, ◌∙◌, inl, inr, subst, arith}
 use Rattle.std.proofs.lemmas.List.{take_all}
@@ -9,49 +9,51 @@ use Rattle.dfu_wire.specs.declared.codes.Code.{Code}
 use Rattle.dfu_wire.specs.Setup.{IsSetup}
 use Rattle.dfu_wire.specs.Status.{IsStatus}
 use Rattle.dfu_wire.specs.Request.{SetupRequest}
-use Rattle.dfu_wire.specs.OneRequest.{SetupRequest-one}
-use Rattle.dfu_wire.specs.OneValue.{IsSetup-one}
-use Rattle.dfu_slots.specs.Medium.{Rose}
+use Rattle.dfu_wire.specs.OneRequest.{setup_asks_once}
+use Rattle.dfu_wire.specs.OneValue.{setup_bytes_one_value}
+use Rattle.dfu_slots.specs.Medium.{CountRose}
 use Rattle.dfu_slots.specs.Medium.Fuse.{Whole}
-use Rattle.dfu_slots.specs.Unarmed.{called_whole, called_works}
+use Rattle.dfu_slots.specs.Unarmed.{whole_fuse_after_calls, whole_fuse_fails_no_call}
 use Rattle.dfu_slots.specs.StoreView.{image_of, room_of, Commit}
 use Rattle.dfu_device.specs.declared.answer.Answer.{Answer}
 use Rattle.dfu_device.specs.declared.answer.Answer.TheVariants as answer
 use Rattle.dfu_device.specs.Stage.{Reply, StatusOf, Stall, Stage}
 use Rattle.dfu_device.specs.Table.{Plan, Sure, Writes, Commits, plan, time_plan}
-use Rattle.dfu_device.specs.Outcome.{Luck, Works, FailsOld, FailsNew, Outcome, outcome}
+use Rattle.dfu_device.specs.Outcome.{Luck, Works, FailsOld, FailsNew, Outcome, plan_outcome}
 use Rattle.dfu_device.specs.DeviceView.{DeviceView, profile_of, profile, situation}
-use Rattle.dfu_device.specs.Rows.{meant, asked_length, Answers, block_calls, Done, Elapses, is_served, setup_plan, Handles, handled_as}
+use Rattle.dfu_device.specs.Rows.{request_for_table, asked_length, ReplyAnswer, block_calls, Done, Elapses, is_served, setup_plan, Handles, handled_by_reading}
 
--- The medium failed only if its count of failures rose.
-abbrev pub IsLuck : Luck → DeviceView → DeviceView → Type 0
-IsLuck Works w w' = Unit {0}
-IsLuck luck w w' = Rose w.slots.medium.failures w'.slots.medium.failures
+-- The luck fits the medium: it fails only if the count of failures rose.
+abbrev pub IsLuckOfMedium : Luck → DeviceView → DeviceView → Type 0
+IsLuckOfMedium Works w w' = Unit {0}
+IsLuckOfMedium luck w w' = CountRose w.slots.medium.failures w'.slots.medium.failures
 
--- A plan led to its outcome at some luck. A medium whose fuse is whole always works, and stays whole.
+-- A plan led to its outcome at some luck. A medium with a whole fuse always works, and its fuse stays whole.
 pub record PlanOutcome (p : Plan) (len : ℕ) (w : DeviceView) (a : Answer) (out : List ℕ) (w' : DeviceView) : Type 0 where
   pub luck : Luck
   pub reply : Reply
-  pub same : outcome (image_of w.slots) p luck ≡ record { reply = reply; after = situation w' }
-  pub answers : Answers len reply a out
+  pub same : plan_outcome (image_of w.slots) p luck ≡ record { reply = reply; after = situation w' }
+  pub answers : ReplyAnswer len reply a out
   pub fixed : profile w' ≡ profile w
-  pub is_luck : IsLuck luck w w'
+  pub is_luck_of_medium : IsLuckOfMedium luck w w'
   pub unarmed : w.slots.medium.fuse ≡ Whole → (luck ≡ Works) × (w'.slots.medium.fuse ≡ Whole)
 
-fixed_by : (w w' : DeviceView) → w'.config ≡ w.config → room_of w'.slots ≡ room_of w.slots → profile w' ≡ profile w
-fixed_by w w' config room = λ k. profile_of (config k) (room k)
+-- Devices with the same configuration and room have the same profile.
+profile_of_equal_config : (w w' : DeviceView) → w'.config ≡ w.config → room_of w'.slots ≡ room_of w.slots → profile w' ≡ profile w
+profile_of_equal_config w w' config room = λ k. profile_of (config k) (room k)
 
-after_is : (reply : Reply) (w' : DeviceView) (image : List ℕ) (stage : Stage) → image_of w'.slots ≡ image → w'.stage ≡ stage
+-- The outcome of a row by the device after it.
+outcome_of_view : (reply : Reply) (w' : DeviceView) (image : List ℕ) (stage : Stage) → image_of w'.slots ≡ image → w'.stage ≡ stage
     → ◌≡◌ {A = Outcome} (record { reply = reply; after = record { image = image; stage = stage } })
     (record { reply = reply; after = situation w' })
-after_is reply w' image stage i s = λ k. record { reply = reply; after = record { image = sym i k; stage = sym s k } }
+outcome_of_view reply w' image stage i s = λ k. record { reply = reply; after = record { image = sym i k; stage = sym s k } }
 
--- Each plan that was carried out.
+-- Each plan that was carried out led to its outcome.
 abbrev pub PlansHaveOutcomes : Type 0
 PlansHaveOutcomes = (p : Plan) (len : ℕ) (w : DeviceView) (a : Answer) (out : List ℕ) (w' : DeviceView) → Done p len w a out w'
     → PlanOutcome p len w a out w'
 
--- Each plan that was carried out came to an outcome.
+-- Each plan that was carried out led to its outcome.
 pub came : PlansHaveOutcomes
 came (Sure reply stage) len w a out w' (says, is) = record {
   luck = Works;
@@ -59,95 +61,98 @@ came (Sure reply stage) len w a out w' (says, is) = record {
   same = ap (λ (z : DeviceView). record { reply = reply; after = situation z }) (sym is);
   answers = says;
   fixed = ap profile is;
-  is_luck = tt;
+  is_luck_of_medium = tt;
   unarmed = λ e. (refl, ap (λ (z : DeviceView). z.slots.medium.fuse) is ∙ e);
 }
 came (Writes before block reply stage bad) len w a out w' (inl (says, h)) = record {
   luck = Works;
   reply = reply;
-  same = after_is reply w' (image_of w.slots) stage h.image h.stage_is;
+  same = outcome_of_view reply w' (image_of w.slots) stage h.image h.stage_is;
   answers = says;
-  fixed = fixed_by w w' h.config_is h.room;
-  is_luck = tt;
-  unarmed = λ e. (refl, called_whole w.slots w'.slots (block_calls before block) e h.calls);
+  fixed = profile_of_equal_config w w' h.config_is h.room;
+  is_luck_of_medium = tt;
+  unarmed = λ e. (refl, whole_fuse_after_calls w.slots w'.slots (block_calls before block) e h.calls);
 }
 came (Writes before block reply stage bad) len w a out w' (inr (fault, says, h)) = record {
   luck = FailsOld fault;
   reply = bad fault;
-  same = after_is (bad fault) w' (image_of w.slots) _ h.image h.stage_is;
+  same = outcome_of_view (bad fault) w' (image_of w.slots) _ h.image h.stage_is;
   answers = says;
-  fixed = fixed_by w w' h.config_is h.room;
-  is_luck = h.failed;
-  unarmed = λ e. absurd (called_works fault w.slots w'.slots (block_calls before block) e h.calls);
+  fixed = profile_of_equal_config w w' h.config_is h.room;
+  is_luck_of_medium = h.failed;
+  unarmed = λ e. absurd (whole_fuse_fails_no_call fault w.slots w'.slots (block_calls before block) e h.calls);
 }
 came (Commits taken reply stage bad) len w a out w' (inl (says, h)) = record {
   luck = Works;
   reply = reply;
-  same = after_is reply w' taken stage h.image h.stage_is;
+  same = outcome_of_view reply w' taken stage h.image h.stage_is;
   answers = says;
-  fixed = fixed_by w w' h.config_is h.room;
-  is_luck = tt;
-  unarmed = λ e. (refl, called_whole w.slots w'.slots (Commit (length taken) ∷ []) e h.calls);
+  fixed = profile_of_equal_config w w' h.config_is h.room;
+  is_luck_of_medium = tt;
+  unarmed = λ e. (refl, whole_fuse_after_calls w.slots w'.slots (Commit (length taken) ∷ []) e h.calls);
 }
 came (Commits taken reply stage bad) len w a out w' (inr (fault, says, h)) = elim (h.image) [
   | inl old ↦ record {
     luck = FailsOld fault;
     reply = bad fault;
-    same = after_is (bad fault) w' (image_of w.slots) _ old h.stage_is;
+    same = outcome_of_view (bad fault) w' (image_of w.slots) _ old h.stage_is;
     answers = says;
-    fixed = fixed_by w w' h.config_is h.room;
-    is_luck = h.failed;
-    unarmed = λ e. absurd (called_works fault w.slots w'.slots (Commit (length taken) ∷ []) e h.calls);
+    fixed = profile_of_equal_config w w' h.config_is h.room;
+    is_luck_of_medium = h.failed;
+    unarmed = λ e. absurd (whole_fuse_fails_no_call fault w.slots w'.slots (Commit (length taken) ∷ []) e h.calls);
   }
   | inr new ↦ record {
     luck = FailsNew fault;
     reply = bad fault;
-    same = after_is (bad fault) w' taken _ new h.stage_is;
+    same = outcome_of_view (bad fault) w' taken _ new h.stage_is;
     answers = says;
-    fixed = fixed_by w w' h.config_is h.room;
-    is_luck = h.failed;
-    unarmed = λ e. absurd (called_works fault w.slots w'.slots (Commit (length taken) ∷ []) e h.calls);
+    fixed = profile_of_equal_config w w' h.config_is h.room;
+    is_luck_of_medium = h.failed;
+    unarmed = λ e. absurd (whole_fuse_fails_no_call fault w.slots w'.slots (Commit (length taken) ∷ []) e h.calls);
   }
 ]
 
 -- The row of a setup whose reading is known goes by that reading.
-abbrev pub RowOf : Type 0
-RowOf = (p : Setup) (q : Asked) (setup body : List ℕ) (w : DeviceView) (a : Answer) (out : List ℕ) (w' : DeviceView) → IsSetup p setup
+abbrev pub RowByReading : Type 0
+RowByReading = (p : Setup) (q : Asked) (setup body : List ℕ) (w : DeviceView) (a : Answer) (out : List ℕ) (w' : DeviceView) →
+    IsSetup p setup
     → SetupRequest p q
     → Handles setup body w a out w'
     → Done (setup_plan w p q body) (asked_length q) w a out w'
 
--- A row goes by the one reading of its setup.
-pub row_of : RowOf
-row_of p q setup body w a out w' reads asks (handled_as p2 q2 reads2 asks2 done) =
-    let same : p2 ≡ p = IsSetup-one p2 p setup reads2 reads in
-    let one : q2 ≡ q = SetupRequest-one p q2 q (subst (λ (x : Setup). SetupRequest x q2) same asks2) asks in
+-- The row of a setup goes by the one reading that the setup has.
+pub row_of : RowByReading
+row_of p q setup body w a out w' reads asks (handled_by_reading p2 q2 reads2 asks2 done) =
+    let same : p2 ≡ p = setup_bytes_one_value p2 p setup reads2 reads in
+    let one : q2 ≡ q = setup_asks_once p q2 q (subst (λ (x : Setup). SetupRequest x q2) same asks2) asks in
     subst (λ (y : Asked). Done (setup_plan w p y body) (asked_length y) w a out w') one
     (subst (λ (x : Setup). Done (setup_plan w x q2 body) (asked_length q2) w a out w') same done)
 
--- Result of a setup that goes by the table.
+-- Each setup that goes by the table led to the outcome of its plan.
 abbrev pub SetupsHaveOutcomes : Type 0
 SetupsHaveOutcomes = (p : Setup) (q : Asked) (setup body : List ℕ) (w : DeviceView) (a : Answer) (out : List ℕ) (w' : DeviceView)
     → IsSetup p setup
     → SetupRequest p q
     → is_served p q body ≡ true
-    → Handles setup body w a out w' → PlanOutcome (plan (profile w) (image_of w.slots) w.stage (meant q body)) (asked_length q) w a out w'
+    → Handles setup body w a out w' → PlanOutcome (plan (profile w) (image_of w.slots) w.stage (request_for_table q body))
+    (asked_length q) w a out w'
 
 -- Each setup that goes by the table came to its outcome.
 pub setups_have_outcomes : SetupsHaveOutcomes
 setups_have_outcomes p q setup body w a out w' reads asks on h =
     let row = row_of p q setup body w a out w' reads asks h in
-    came (plan (profile w) (image_of w.slots) w.stage (meant q body)) (asked_length q) w a out w' (rw on at row)
+    came (plan (profile w) (image_of w.slots) w.stage (request_for_table q body)) (asked_length q) w a out w' (rw on at row)
 
 -- A setup that does not go by the table is stalled and changes nothing.
-abbrev pub NotServed : Type 0
-NotServed = (p : Setup) (q : Asked) (setup body : List ℕ) (w : DeviceView) (a : Answer) (out : List ℕ) (w' : DeviceView) → IsSetup p setup
+abbrev pub NotServedIsStalled : Type 0
+NotServedIsStalled = (p : Setup) (q : Asked) (setup body : List ℕ) (w : DeviceView) (a : Answer) (out : List ℕ) (w' : DeviceView) →
+    IsSetup p setup
     → SetupRequest p q
     → is_served p q body ≡ false
     → Handles setup body w a out w' → (a ≡ answer.Stall) × (w' ≡ w)
 
 -- A setup that does not go by the table changes nothing.
-pub not_served : NotServed
+pub not_served : NotServedIsStalled
 not_served p q setup body w a out w' reads asks off h =
     let row : Done (setup_plan w p q body) (asked_length q) w a out w' = row_of p q setup body w a out w' reads asks h in
     stalled (rw off at row)
@@ -155,7 +160,7 @@ not_served p q setup body w a out w' reads asks off h =
     stalled : Done (Sure Stall w.stage) (asked_length q) w a out w' → (a ≡ answer.Stall) × (w' ≡ w)
     stalled x = (x.0.0, x.1)
 
--- Result of a time that passes.
+-- Each time that passed led to the outcome of its plan.
 abbrev pub TimesHaveOutcomes : Type 0
 TimesHaveOutcomes = (ms : ℕ) (w w' : DeviceView) → Elapses ms w w' → PlanOutcome (time_plan (profile w) w.stage ms) 0 w answer.Ack [] w'
 
@@ -163,15 +168,15 @@ TimesHaveOutcomes = (ms : ℕ) (w w' : DeviceView) → Elapses ms w w' → PlanO
 pub times_have_outcomes : TimesHaveOutcomes
 times_have_outcomes ms w w' row = came (time_plan (profile w) w.stage ms) 0 w answer.Ack [] w' row
 
--- If six bytes are asked for, the answer to GETSTATUS is read back as the status.
-abbrev pub StatusWhole : Type 0
-StatusWhole = (len : ℕ) (code : Code) (poll : ℕ) (state : State) (a : Answer) (out : List ℕ) → 6 ≤ len
-    → Answers len (StatusOf code poll state) a out
+-- The six bytes of an answer to GETSTATUS are read back as the status.
+abbrev pub StatusReadBack : Type 0
+StatusReadBack = (len : ℕ) (code : Code) (poll : ℕ) (state : State) (a : Answer) (out : List ℕ) → 6 ≤ len
+    → ReplyAnswer len (StatusOf code poll state) a out
     → (a ≡ answer.Bytes) × IsStatus (record { code = code; poll_ms = poll; state = state }) out
 
--- Six bytes of a status are read back as the status.
-pub status_whole : StatusWhole
-status_whole len code poll state a out room (is, bytes, status, string, front) = (
+-- The six bytes of a status are read back as the status.
+pub status_read_back : StatusReadBack
+status_read_back len code poll state a out room (is, bytes, status, string, front) = (
   is,
   subst (λ (l : List ℕ). IsStatus (record { code = code; poll_ms = poll; state = state }) l)
       (sym (front ∙ take_all len bytes (omega (arith, room, status.length)))) status,

@@ -1,4 +1,4 @@
--- The laws of what a row tells a host: the status and the state that it answers.
+-- The laws of the status and the state that a row tells a host.
 use Rattle.std.specs.Prelude.{◌≡◌, ℕ, true, List}
 use Rattle.dfu_wire.specs.declared.setups.Setup.{Setup}
 use Rattle.dfu_wire.specs.declared.requests.Request.TheVariants as asked
@@ -7,16 +7,16 @@ use Rattle.dfu_wire.specs.Request.{SetupRequest}
 use Rattle.dfu_device.specs.declared.answer.Answer.TheVariants as answer
 use Rattle.dfu_device.specs.Stage.{StateOf, state_of, status_of}
 use Rattle.dfu_device.specs.DeviceView.{DeviceView, profile}
-use Rattle.dfu_device.specs.Rows.{Answers, is_served, Handles}
+use Rattle.dfu_device.specs.Rows.{ReplyAnswer, is_served, Handles}
 
--- A status that was answered is that of the state entered.
+-- An answered status is the status of the state that the device enters.
 abbrev pub StatusReportMatches : Type 0
 StatusReportMatches = (p : Setup) (len : ℕ) (setup body : List ℕ) (w : DeviceView) (out : List ℕ) (w' : DeviceView) → IsSetup p setup
     → SetupRequest p (asked.GetStatus len) → is_served p (asked.GetStatus len) body ≡ true
-    → Handles setup body w answer.Bytes out w' → Answers len (status_of (profile w') w'.stage) answer.Bytes out
+    → Handles setup body w answer.Bytes out w' → ReplyAnswer len (status_of (profile w') w'.stage) answer.Bytes out
 
--- A state that was answered is that of the state entered, which is the state before.
+-- An answered state is the state that the device enters, which is the state before.
 abbrev pub StateReportMatches : Type 0
 StateReportMatches = (p : Setup) (len : ℕ) (setup body : List ℕ) (w : DeviceView) (out : List ℕ) (w' : DeviceView) → IsSetup p setup
     → SetupRequest p (asked.GetState len) → is_served p (asked.GetState len) body ≡ true
-    → Handles setup body w answer.Bytes out w' → Answers len (StateOf (state_of w'.stage)) answer.Bytes out × (w'.stage ≡ w.stage)
+    → Handles setup body w answer.Bytes out w' → ReplyAnswer len (StateOf (state_of w'.stage)) answer.Bytes out × (w'.stage ≡ w.stage)

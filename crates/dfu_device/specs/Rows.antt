@@ -1,4 +1,4 @@
--- The rows of a device: what it answers to its bytes, what becomes of it, and which calls of the slot store it makes.
+-- The rows of a device: its answer in bytes, the device after it, and the calls of the slot store.
 use Rattle.std.specs.Prelude.{◌≡◌, ◌⊎◌, ℕ, ◌==◌, List, [], ◌∷◌, length, take, Bool, true, false, if◌then◌else◌, slice_index}
 use Rattle.dfu_wire.specs.declared.setups.Setup.{Setup}
 use Rattle.dfu_wire.specs.declared.requests.Request.{Request as Asked}
@@ -8,8 +8,8 @@ use Rattle.dfu_wire.specs.Request.{SetupRequest}
 use Rattle.dfu_wire.specs.Status.{IsStatus}
 use Rattle.dfu_wire.specs.State.{state_byte}
 use Rattle.dfu_slots.specs.declared.fault.WriteFault.{WriteFault}
-use Rattle.dfu_slots.specs.Medium.{Rose}
-use Rattle.dfu_slots.specs.StoreView.{SlotsState, store_on, image_of, room_of, Call, Begin, Put, Commit, AllWorked, BrokenBy, Called}
+use Rattle.dfu_slots.specs.Medium.{CountRose}
+use Rattle.dfu_slots.specs.StoreView.{SlotsState, store_on, image_of, room_of, StoreCall, Begin, Put, Commit, AllWorked, BrokenBy, CallsEnd}
 use Rattle.dfu_device.specs.declared.objection.Objection.{Objection}
 use Rattle.dfu_device.specs.declared.answer.Answer.{Answer}
 use Rattle.dfu_device.specs.declared.answer.Answer.TheVariants as answer
@@ -18,81 +18,81 @@ use Rattle.dfu_device.specs.Table.{Plan, Sure, Writes, Commits, write_code, comm
 use Rattle.dfu_device.specs.Setting.{Setting}
 use Rattle.dfu_device.specs.DeviceView.{DeviceView, profile}
 
--- The answer to its bytes.
+-- Answers in bytes.
 
--- A reply is answered like this, if so many bytes of a status or a state were asked for: the first so many of six, or of one.
-abbrev pub Answers : ℕ → Reply → Answer → List ℕ → Type 0
-Answers len Ack a out = (a ≡ answer.Ack) × (out ≡ [])
-Answers len Stall a out = (a ≡ answer.Stall) × (out ≡ [])
-Answers len (Data bytes) a out = (a ≡ answer.Bytes) × (out ≡ bytes)
-Answers len (StateOf state) a out = (a ≡ answer.Bytes) × (out ≡ take len (state_byte state ∷ []))
-Answers len (StatusOf code poll state) a out =
+-- Answer to a reply, if `len` bytes were asked for: the first `len` of the six bytes of a status, or of the one byte of a state.
+abbrev pub ReplyAnswer : ℕ → Reply → Answer → List ℕ → Type 0
+ReplyAnswer len Ack a out = (a ≡ answer.Ack) × (out ≡ [])
+ReplyAnswer len Stall a out = (a ≡ answer.Stall) × (out ≡ [])
+ReplyAnswer len (Data bytes) a out = (a ≡ answer.Bytes) × (out ≡ bytes)
+ReplyAnswer len (StateOf state) a out = (a ≡ answer.Bytes) × (out ≡ take len (state_byte state ∷ []))
+ReplyAnswer len (StatusOf code poll state) a out =
     (a ≡ answer.Bytes) × (bytes : List ℕ) × IsStatus (record { code = code; poll_ms = poll; state = state }) bytes
     × (slice_index bytes 5 ≡ 0) × (out ≡ take len bytes)
 
 -- Effects on the device, and on its medium.
 
--- A block is written by one `put` after the bytes written before; before the first block comes a `begin`.
-abbrev pub block_calls : List ℕ → List ℕ → List Call
+-- Calls that write a block: one `put` after the bytes written before; before the first block a `begin`.
+abbrev pub block_calls : List ℕ → List ℕ → List StoreCall
 block_calls before block = if length before == 0 then Begin ∷ Put 0 block ∷ [] else Put (length before) block ∷ []
 
--- The block was written: the image stays, and a stage is entered.
+-- The block was written: the image stays, and the device enters a stage.
 pub record WroteBlock (before block : List ℕ) (config : Setting) (s : SlotsState) (stage : Stage) (w' : DeviceView) : Type 0 where
   pub config_is : w'.config ≡ config
   pub room : room_of w'.slots ≡ room_of s
   pub stage_is : w'.stage ≡ stage
-  pub calls : Called s (block_calls before block) AllWorked w'.slots
+  pub calls : CallsEnd s (block_calls before block) AllWorked w'.slots
   pub image : image_of w'.slots ≡ image_of s
 
--- A write of the block had this fault: the image stays, and the code tells it.
+-- A write of the block had a fault: the image stays, and the device enters dfuERROR with the fault's code.
 pub record FailedBlock (fault : WriteFault) (before block : List ℕ) (config : Setting) (s : SlotsState) (w' : DeviceView) : Type 0 where
   pub config_is : w'.config ≡ config
   pub room : room_of w'.slots ≡ room_of s
   pub stage_is : w'.stage ≡ InError (write_code fault)
-  pub calls : Called s (block_calls before block) (BrokenBy fault) w'.slots
+  pub calls : CallsEnd s (block_calls before block) (BrokenBy fault) w'.slots
   pub image : image_of w'.slots ≡ image_of s
-  pub failed : Rose s.medium.failures w'.slots.medium.failures
+  pub failed : CountRose s.medium.failures w'.slots.medium.failures
 
--- The bytes taken were put in place: they are the image, and a stage is entered.
+-- The bytes taken were put in place: they are the image now, and the device enters a stage.
 pub record Committed (taken : List ℕ) (config : Setting) (s : SlotsState) (stage : Stage) (w' : DeviceView) : Type 0 where
   pub config_is : w'.config ≡ config
   pub room : room_of w'.slots ≡ room_of s
   pub stage_is : w'.stage ≡ stage
-  pub calls : Called s (Commit (length taken) ∷ []) AllWorked w'.slots
+  pub calls : CallsEnd s (Commit (length taken) ∷ []) AllWorked w'.slots
   pub image : image_of w'.slots ≡ taken
 
--- A write of the commit had this fault: the image is the old one or the bytes taken, and the code tells it.
+-- A write of the commit had a fault: the image is the old one or the bytes taken, and the device enters dfuERROR with the fault's code.
 pub record FailedCommit (fault : WriteFault) (taken : List ℕ) (config : Setting) (s : SlotsState) (w' : DeviceView) : Type 0 where
   pub config_is : w'.config ≡ config
   pub room : room_of w'.slots ≡ room_of s
   pub stage_is : w'.stage ≡ InError (commit_code fault)
-  pub calls : Called s (Commit (length taken) ∷ []) (BrokenBy fault) w'.slots
+  pub calls : CallsEnd s (Commit (length taken) ∷ []) (BrokenBy fault) w'.slots
   pub image : (image_of w'.slots ≡ image_of s) ⊎ (image_of w'.slots ≡ taken)
-  pub failed : Rose s.medium.failures w'.slots.medium.failures
+  pub failed : CountRose s.medium.failures w'.slots.medium.failures
 
--- A plan was carried out: with no call of the slot store, or with the calls of a block or of a commit.
+-- A plan was carried out: without a call of the slot store, or with the calls of a block or of a commit.
 abbrev pub Done : Plan → ℕ → DeviceView → Answer → List ℕ → DeviceView → Type 0
-Done (Sure reply stage) len w a out w' = Answers len reply a out × (w' ≡ record w { stage = stage })
+Done (Sure reply stage) len w a out w' = ReplyAnswer len reply a out × (w' ≡ record w { stage = stage })
 Done (Writes before block reply stage bad) len w a out w' =
-    (Answers len reply a out × WroteBlock before block w.config w.slots stage w')
-    ⊎ ((fault : WriteFault) × Answers len (bad fault) a out × FailedBlock fault before block w.config w.slots w')
+    (ReplyAnswer len reply a out × WroteBlock before block w.config w.slots stage w')
+    ⊎ ((fault : WriteFault) × ReplyAnswer len (bad fault) a out × FailedBlock fault before block w.config w.slots w')
 Done (Commits taken reply stage bad) len w a out w' =
-    (Answers len reply a out × Committed taken w.config w.slots stage w')
-    ⊎ ((fault : WriteFault) × Answers len (bad fault) a out × FailedCommit fault taken w.config w.slots w')
+    (ReplyAnswer len reply a out × Committed taken w.config w.slots stage w')
+    ⊎ ((fault : WriteFault) × ReplyAnswer len (bad fault) a out × FailedCommit fault taken w.config w.slots w')
 
 -- The three rules before the table.
 
 -- A request of the wire with its body, as the table reads it.
-abbrev pub meant : Asked → List ℕ → Request
-meant (asked.Detach timeout) body = Detach timeout
-meant (asked.Dnload block len) body = Dnload block body
-meant (asked.Upload block len) body = Upload block len
-meant (asked.GetStatus len) body = GetStatus
-meant asked.ClrStatus body = ClrStatus
-meant (asked.GetState len) body = GetState
-meant asked.Abort body = Abort
-meant asked.OtherClass body = OtherRequest
-meant asked.NotDfu body = OtherRequest
+abbrev pub request_for_table : Asked → List ℕ → Request
+request_for_table (asked.Detach timeout) body = Detach timeout
+request_for_table (asked.Dnload block len) body = Dnload block body
+request_for_table (asked.Upload block len) body = Upload block len
+request_for_table (asked.GetStatus len) body = GetStatus
+request_for_table asked.ClrStatus body = ClrStatus
+request_for_table (asked.GetState len) body = GetState
+request_for_table asked.Abort body = Abort
+request_for_table asked.OtherClass body = OtherRequest
+request_for_table asked.NotDfu body = OtherRequest
 
 -- Bytes of a status or of a state that are asked for: wLength.
 abbrev pub asked_length : Asked → ℕ
@@ -109,18 +109,20 @@ abbrev pub is_served : Setup → Asked → List ℕ → Bool
 is_served p asked.NotDfu body = false
 is_served p q body = length body == body_length p
 
--- Any other setup is stalled and changes nothing.
+-- The plan of a setup: a setup that does not go by the table is stalled and changes nothing.
 abbrev pub setup_plan : DeviceView → Setup → Asked → List ℕ → Plan
-setup_plan w p q body = if is_served p q body then plan (profile w) (image_of w.slots) w.stage (meant q body) else Sure Stall w.stage
+setup_plan w p q body =
+    if is_served p q body then plan (profile w) (image_of w.slots) w.stage (request_for_table q body) else Sure Stall w.stage
 
 -- The rows.
 
--- The row of a setup with its body: as these eight bytes are read.
+-- The row of a setup with its body, by a reading of its eight bytes.
 pub data Handles (setup body : List ℕ) (w : DeviceView) (a : Answer) (out : List ℕ) (w' : DeviceView) : Type 0 where
-  handled_as : (p : Setup) (q : Asked) → IsSetup p setup → SetupRequest p q → Done (setup_plan w p q body) (asked_length q) w a out w'
+  handled_by_reading : (p : Setup) (q : Asked) → IsSetup p setup → SetupRequest p q →
+      Done (setup_plan w p q body) (asked_length q) w a out w'
       → Handles setup body w a out w'
 
--- The row of so many milliseconds.
+-- The row of that many milliseconds.
 abbrev pub Elapses : ℕ → DeviceView → DeviceView → Type 0
 Elapses ms w w' = Done (time_plan (profile w) w.stage ms) 0 w answer.Ack [] w'
 
@@ -129,16 +131,16 @@ abbrev pub is_close : Asked → Bool
 is_close (asked.Dnload number len) = len == 0
 is_close q = false
 
--- These eight bytes are the setup of such a request.
+-- The eight bytes are the setup of a request that closes a download: a DNLOAD with wLength 0.
 abbrev pub IsCloseSetup : List ℕ → Type 0
 IsCloseSetup setup = (p : Setup) × (q : Asked) × IsSetup p setup × SetupRequest p q × (is_close q ≡ true)
 
--- The setup closes the download of this device.
+-- The setup closes the download of the device.
 abbrev pub ClosesDownload : List ℕ → DeviceView → Type 0
 ClosesDownload setup w = IsCloseSetup setup × (may_close w.config.least w.stage ≡ true)
 
--- Cause that comes to a device: a setup with its body, milliseconds, a reset of the bus, its program refuses the image that this setup
--- closes, or the image that was closed, or power goes and comes back.
+-- Cause of a row: a setup with its body, milliseconds, a reset of the bus, a refusal of the image that a setup closes, a refusal of the
+-- closed image, or power that goes and comes back.
 pub data Cause : Type 0 where
   Transfer : (setup body : List ℕ) → Cause
   Passing : (ms : ℕ) → Cause
@@ -147,8 +149,8 @@ pub data Cause : Type 0 where
   Refusing : (why : Objection) → Cause
   PowerOn : Cause
 
--- A row of the device table: from a device by a cause to an answer and a device. Only a setup is answered, which is written as Ack
--- elsewhere; a program that refuses an image writes nothing; a loss of power leaves the medium as it is.
+-- A row of the device table leads from a device, by a cause, to an answer and a device. Only a setup is answered; where nothing is
+-- answered, Ack is written. A program that refuses an image writes nothing, and a loss of power leaves the medium as it is.
 abbrev pub Row : DeviceView → Cause → Answer → List ℕ → DeviceView → Type 0
 Row w (Transfer setup body) a out w' = Handles setup body w a out w'
 Row w (Passing ms) a out w' = (a ≡ answer.Ack) × (out ≡ []) × Elapses ms w w'

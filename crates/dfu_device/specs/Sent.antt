@@ -1,4 +1,4 @@
--- The bytes that an upload has sent: those of a state, those of a row, and those of a whole history.
+-- The bytes that an upload has sent, three ways: in a state, by a row, and by a whole history.
 use Rattle.std.specs.Prelude.{◌≡◌, ℕ, ◌==◌, ◌&&◌, Bool, true, false, if◌then◌else◌, List, [], ◌++◌, take, slice_index}
 use Rattle.dfu_wire.specs.declared.states.State.{State}
 use Rattle.dfu_wire.specs.declared.states.State.TheVariants.{UploadIdle}
@@ -16,29 +16,29 @@ abbrev pub is_uploading : State → Bool
 is_uploading UploadIdle = true
 is_uploading state = false
 
--- The bytes of the image that were sent so far.
+-- Bytes of the image sent so far, by the image and the stage.
 abbrev pub sent_in : List ℕ → Stage → List ℕ
 sent_in image (InUploadIdle place number) = take place image
 sent_in image stage = []
 
--- The bytes sent of a situation.
+-- Bytes of the image sent so far, by the situation.
 abbrev pub sent_of : Situation → List ℕ
 sent_of s = sent_in s.image s.stage
 
 -- The bytes sent by a row.
 
--- UPLOAD is answered by bytes that it sends, and nothing else sends any.
-abbrev pub upload_sent : Request → Reply → List ℕ
-upload_sent (Upload number size) (Data bytes) = bytes
-upload_sent request reply = []
+-- Bytes sent by a reply: UPLOAD is answered by bytes that it sends, and nothing else sends any.
+abbrev pub piece_sent_by_reply : Request → Reply → List ℕ
+piece_sent_by_reply (Upload number size) (Data bytes) = bytes
+piece_sent_by_reply request reply = []
 
--- Nothing counts as sent if a row ends in another state.
-abbrev pub still_sent : State → List ℕ → List ℕ
-still_sent state sent = if is_uploading state then sent else []
+-- Bytes sent after a row: none, if it ends in a state outside an upload.
+abbrev pub sent_in_state : State → List ℕ → List ℕ
+sent_in_state state sent = if is_uploading state then sent else []
 
--- The bytes sent after a row.
+-- Bytes sent after a row, by its request and its outcome.
 abbrev pub sent_after : List ℕ → Request → Outcome → List ℕ
-sent_after sent request o = still_sent (state_of o.after.stage) (sent ++ upload_sent request o.reply)
+sent_after sent request o = sent_in_state (state_of o.after.stage) (sent ++ piece_sent_by_reply request o.reply)
 
 -- The bytes sent by a history.
 
@@ -47,23 +47,23 @@ abbrev pub is_upload : List ℕ → Bool
 is_upload setup = (slice_index setup 0 == 0xa1) && (slice_index setup 1 == 2)
 
 -- The bytes with which an UPLOAD was answered.
-abbrev pub piece : Cause → Answer → List ℕ → List ℕ
-piece (Transfer setup body) answer.Bytes out = if is_upload setup then out else []
-piece cause a out = []
+abbrev pub sent_piece : Cause → Answer → List ℕ → List ℕ
+sent_piece (Transfer setup body) answer.Bytes out = if is_upload setup then out else []
+sent_piece cause a out = []
 
--- A step ends in dfuUPLOAD-IDLE.
-abbrev pub uploads : HistoryStep → Bool
-uploads s = is_uploading (state_of s.after.stage)
+-- The step ends in dfuUPLOAD-IDLE.
+abbrev pub ends_in_upload : HistoryStep → Bool
+ends_in_upload s = is_uploading (state_of s.after.stage)
 
 -- The bytes with which a step answered an UPLOAD.
 abbrev pub upload_piece : HistoryStep → List ℕ
-upload_piece s = piece s.cause s.answer s.out
+upload_piece s = sent_piece s.cause s.answer s.out
 
--- These bytes were sent by a history: the pieces that were answered after the last step that ends in another state.
-abbrev pub Sent : List HistoryStep → List ℕ → Type 0
-Sent h bytes = Gathered uploads upload_piece h bytes
+-- The bytes sent by a history: the pieces answered after the last step that ends in another state.
+abbrev pub SentBytes : List HistoryStep → List ℕ → Type 0
+SentBytes h bytes = Gathered ends_in_upload upload_piece h bytes
 
--- A step is the last one of an upload: an UPLOAD that is answered by bytes, and ends in dfuIDLE.
+-- The last step of an upload: an UPLOAD that is answered by bytes and ends in dfuIDLE.
 pub record LastUploadStep (s : HistoryStep) : Type 0 where
   pub setup : List ℕ
   pub body : List ℕ

@@ -1,26 +1,27 @@
--- The laws of the bytes sent: an upload has sent what its history says.
+-- The laws of the bytes sent: an upload has sent the bytes that its history sent.
 use Rattle.std.specs.Prelude.{◌≡◌, ℕ, List, [], ◌∷◌, ◌++◌}
 use Rattle.dfu_device.specs.declared.answer.Answer.{Answer}
 use Rattle.dfu_device.specs.Stage.{state_of}
 use Rattle.dfu_device.specs.DeviceView.{DeviceView, situation}
 use Rattle.dfu_device.specs.Rows.{Cause, Row}
-use Rattle.dfu_device.specs.History.{HistoryStep, IsRow, IsHistory}
-use Rattle.dfu_device.specs.Sent.{sent_of, still_sent, piece, Sent}
+use Rattle.dfu_device.specs.History.{HistoryStep, IsTableRow, IsHistory}
+use Rattle.dfu_device.specs.Sent.{sent_of, sent_in_state, sent_piece, SentBytes}
 
--- After a row of any cause the bytes sent are those before with its piece, or none if it ends in another state.
-abbrev pub RowSends : Type 0
-RowSends = (w : DeviceView) (cause : Cause) (a : Answer) (out : List ℕ) (w' : DeviceView) → Row w cause a out w'
-    → sent_of (situation w') ≡ still_sent (state_of w'.stage) (sent_of (situation w) ++ piece cause a out)
+-- After a row of any cause the bytes sent are those before, followed by the row's piece, or none if the row ends in another state.
+abbrev pub RowSendsPiece : Type 0
+RowSendsPiece = (w : DeviceView) (cause : Cause) (a : Answer) (out : List ℕ) (w' : DeviceView) → Row w cause a out w'
+    → sent_of (situation w') ≡ sent_in_state (state_of w'.stage) (sent_of (situation w) ++ sent_piece cause a out)
 
--- If the bytes sent are those of a history, they are so after one more step.
-abbrev pub StepSends : Type 0
-StepSends = (h : List HistoryStep) (s : HistoryStep) → Sent h (sent_of (situation s.before)) → IsRow s →
-    Sent (h ++ s ∷ []) (sent_of (situation s.after))
+-- If the bytes sent are those of a history, they are those of the history with one more step.
+abbrev pub StepSendsPiece : Type 0
+StepSendsPiece = (h : List HistoryStep) (s : HistoryStep) → SentBytes h (sent_of (situation s.before)) → IsTableRow s →
+    SentBytes (h ++ s ∷ []) (sent_of (situation s.after))
 
--- A device that has sent nothing at first has sent what its history says in the end.
-abbrev pub HistorySends : Type 0
-HistorySends = (h : List HistoryStep) (w w' : DeviceView) → sent_of (situation w) ≡ [] → IsHistory w h w' → Sent h (sent_of (situation w'))
+-- A device that had sent nothing has sent, after a history, the bytes of that history.
+abbrev pub HistorySendsPieces : Type 0
+HistorySendsPieces =
+    (h : List HistoryStep) (w w' : DeviceView) → sent_of (situation w) ≡ [] → IsHistory w h w' → SentBytes h (sent_of (situation w'))
 
--- A history sends these bytes and no others.
-abbrev pub OneSent : Type 0
-OneSent = (h : List HistoryStep) (a b : List ℕ) → Sent h a → Sent h b → a ≡ b
+-- A history sends one list of bytes and no other.
+abbrev pub SentBytesUnique : Type 0
+SentBytesUnique = (h : List HistoryStep) (a b : List ℕ) → SentBytes h a → SentBytes h b → a ≡ b

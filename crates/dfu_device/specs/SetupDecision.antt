@@ -10,17 +10,17 @@ use Rattle.dfu_device.specs.declared.device_state.DeviceState.{DeviceState}
 use Rattle.dfu_device.specs.Stage.{Stall}
 use Rattle.dfu_device.specs.Table.{Sure, plan}
 use Rattle.dfu_device.specs.Parts.{stage_of}
-use Rattle.dfu_device.specs.Rows.{meant, asked_length, is_served}
+use Rattle.dfu_device.specs.Rows.{request_for_table, asked_length, is_served}
 use Rattle.dfu_device.specs.Decision.{profile_in, plan_of, HasWrittenBytes}
 
--- The decision on a setup with its body in this mode is its row, as its eight bytes are read; and so many bytes of a status or of a state
--- are asked for.
+-- The decision on a setup with its body in a mode is its row, by the reading of its eight bytes; `asked` is how many bytes of a status or a
+-- state the setup asks for.
 pub record DecidesSetup (p : ProfileRead) (m : DeviceState) (setup body : List ℕ) (d : Decision) (asked : ℕ) : Type 0 where
   pub read : Setup
   pub request : Asked
   pub fields : IsSetup read setup
   pub asks : SetupRequest read request
-  pub asked_is : asked ≡ asked_length request
+  pub asked_is_request_length : asked ≡ asked_length request
   pub row : (image spare block : List ℕ) → HasWrittenBytes m spare → plan_of (profile_in p) image spare block body d
-      ≡ (if is_served read request body then plan (profile_in p) image (stage_of m spare block) (meant request body)
+      ≡ (if is_served read request body then plan (profile_in p) image (stage_of m spare block) (request_for_table request body)
       else Sure Stall (stage_of m spare block))

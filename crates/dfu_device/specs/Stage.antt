@@ -1,5 +1,5 @@
--- The words of the device table: what a host asks, what a device answers, and the states with what each keeps
--- (USB DFU 1.1, sections 3 and 6.1.2).
+-- The words of the device table: the requests of a host, the replies of a device, and the stages with what each keeps (USB DFU 1.1,
+-- sections 3 and 6.1.2).
 use Rattle.std.specs.Prelude.{ℕ, Bool, List, length}
 use Rattle.dfu_wire.specs.declared.states.State.{State}
 use Rattle.dfu_wire.specs.declared.states.State.TheVariants.{AppIdle, AppDetach, DfuIdle, DownloadSync, DownloadBusy, DownloadIdle, ManifestSync, Manifest, ManifestWaitReset, UploadIdle, Error}
@@ -8,7 +8,7 @@ use Rattle.dfu_wire.specs.declared.codes.Code.TheVariants.{Ok as NoFault}
 use Rattle.dfu_device.specs.declared.config.Pace.{Pace}
 use Rattle.dfu_device.specs.Pace.{block_ms, image_ms}
 
--- Request of a host: one of the seven requests of the class, with what the table reads of it, or another request of the class.
+-- Request of a host: one of the seven requests of the class, with the parts that the table reads, or another request of the class.
 pub data Request : Type 0 where
   -- DETACH, with wTimeout in milliseconds.
   Detach : (timeout : ℕ) → Request
@@ -22,7 +22,7 @@ pub data Request : Type 0 where
   Abort : Request
   OtherRequest : Request
 
--- Reply of a device: it acknowledges, reports a status or a state, sends bytes of its image, or stalls.
+-- Reply of a device: an acknowledgement, a status or a state, bytes of its image, or a stall.
 pub data Reply : Type 0 where
   Ack : Reply
   StatusOf : Code → (poll : ℕ) → State → Reply
@@ -53,8 +53,8 @@ pub record Profile : Type 0 where
   -- The most bytes of an image.
   pub capacity : ℕ
 
--- A state with what it keeps, and nothing else: so what a state does not keep is forgotten on entering it. `number` is that of the next
--- block, `passed` how many milliseconds passed in the state.
+-- A state with what it keeps and nothing else, so that entering a state forgets what the state does not keep. `number` is the number of the
+-- next block, `passed` the milliseconds that passed in the state.
 pub data Stage : Type 0 where
   InAppIdle : Stage  -- appIDLE: the application runs
   InAppDetach : (timer passed : ℕ) → Stage  -- appDETACH: it got DETACH; its timer
@@ -91,13 +91,13 @@ abbrev pub code_of : Stage → Code
 code_of (InError code) = code
 code_of stage = NoFault
 
--- The poll time of a stage: how long a host is to wait in dfuDNBUSY for this block and in dfuMANIFEST for this image, and 0 in every other
--- state.
-abbrev pub poll_of : Profile → Stage → ℕ
-poll_of c (InDownloadBusy before block number passed) = block_ms c.pace c.busy (length before) (length block)
-poll_of c (InManifest taken passed) = image_ms c.pace c.manifest (length taken)
-poll_of c stage = 0
+-- The poll time of a stage: the milliseconds that a host must wait in dfuDNBUSY for its block and in dfuMANIFEST for its image, and 0 in
+-- every other state.
+abbrev pub poll_of_stage : Profile → Stage → ℕ
+poll_of_stage c (InDownloadBusy before block number passed) = block_ms c.pace c.busy (length before) (length block)
+poll_of_stage c (InManifest taken passed) = image_ms c.pace c.manifest (length taken)
+poll_of_stage c stage = 0
 
 -- The status of a stage.
 abbrev pub status_of : Profile → Stage → Reply
-status_of c stage = StatusOf (code_of stage) (poll_of c stage) (state_of stage)
+status_of c stage = StatusOf (code_of stage) (poll_of_stage c stage) (state_of stage)

@@ -1,24 +1,24 @@
--- Effect of a row on the slot store, and so on the image.
+-- Use of the slot store by a row, and the image after it.
 use Rattle.std.specs.Prelude.{◌≡◌, ◌⊎◌, ℕ, List, [], ◌∷◌, ◌++◌, length}
 use Rattle.dfu_wire.specs.declared.codes.Code.{Code}
 use Rattle.dfu_slots.specs.declared.fault.WriteFault.{WriteFault}
-use Rattle.dfu_slots.specs.StoreView.{store_on, image_of, Commit, Ending, AllWorked, BrokenBy, Called}
+use Rattle.dfu_slots.specs.StoreView.{store_on, image_of, Commit, Ending, AllWorked, BrokenBy, CallsEnd}
 use Rattle.dfu_device.specs.declared.answer.Answer.{Answer}
 use Rattle.dfu_device.specs.Stage.{InError}
 use Rattle.dfu_device.specs.Table.{write_code, commit_code}
-use Rattle.dfu_device.specs.DeviceView.{DeviceView, situation, written_in}
+use Rattle.dfu_device.specs.DeviceView.{DeviceView, situation, written_bytes_in}
 use Rattle.dfu_device.specs.Rows.{block_calls, Cause, Row}
 use Rattle.dfu_device.specs.AcceptedBytes.{accepted_of}
 
--- The last block taken was written after those before it, all the bytes written: the image stays, and if a write had a
--- fault the code tells it.
-pub record WroteOn (w w' : DeviceView) : Type 0 where
+-- The last block was written after the bytes before it, which are all written. The image stays, and if a write had a fault the code tells
+-- it.
+pub record WroteLastBlock (w w' : DeviceView) : Type 0 where
   pub before : List ℕ
   pub block : List ℕ
-  pub behind : before ≡ written_in w.stage
+  pub behind : before ≡ written_bytes_in w.stage
   pub all : before ++ block ≡ accepted_of (situation w)
   pub ending : Ending
-  pub calls : Called w.slots (block_calls before block) ending w'.slots
+  pub calls : CallsEnd w.slots (block_calls before block) ending w'.slots
   pub image : image_of w'.slots ≡ image_of w.slots
   pub failed : (fault : WriteFault) → ending ≡ BrokenBy fault → w'.stage ≡ InError (write_code fault)
 
@@ -26,24 +26,24 @@ pub record WroteOn (w w' : DeviceView) : Type 0 where
 -- one or the bytes taken.
 pub record PutInPlace (w w' : DeviceView) : Type 0 where
   pub ending : Ending
-  pub calls : Called w.slots (Commit (length (accepted_of (situation w))) ∷ []) ending w'.slots
+  pub calls : CallsEnd w.slots (Commit (length (accepted_of (situation w))) ∷ []) ending w'.slots
   pub image : ending ≡ AllWorked → image_of w'.slots ≡ accepted_of (situation w)
   pub failed : (fault : WriteFault) → ending ≡ BrokenBy fault → (w'.stage ≡ InError (commit_code fault))
       × ((image_of w'.slots ≡ image_of w.slots) ⊎ (image_of w'.slots ≡ accepted_of (situation w)))
 
--- The slot store stays as it is, or it was opened again on its medium.
+-- The slot store stays as it was, or was opened again on its medium.
 abbrev pub StaysStored : DeviceView → DeviceView → Type 0
 StaysStored w w' = (w'.slots ≡ w.slots) ⊎ (w'.slots ≡ store_on w.slots.medium)
 
--- Nothing of the slot store was called, so that the image stays; or the last block taken was written; or the bytes taken were committed.
+-- Use of the slot store by a row: no call, so that the image stays; or a write of the last block taken; or a commit of the bytes taken.
 abbrev pub StoreUse : DeviceView → DeviceView → Type 0
-StoreUse w w' = StaysStored w w' ⊎ WroteOn w w' ⊎ PutInPlace w w'
+StoreUse w w' = StaysStored w w' ⊎ WroteLastBlock w w' ⊎ PutInPlace w w'
 
--- Each row calls the slot store for the bytes taken or calls nothing, and changes the image only by a commit of them.
+-- Each row calls the slot store for the bytes taken or not at all, and only a commit of them changes the image.
 abbrev pub RowsUseStore : Type 0
 RowsUseStore = (w : DeviceView) (cause : Cause) (a : Answer) (out : List ℕ) (w' : DeviceView) → Row w cause a out w' → StoreUse w w'
 
--- In dfuERROR no row calls anything of the slot store, so that the image stays.
+-- In dfuERROR no row calls the slot store, so the image stays.
 abbrev pub ErrorRowsUseNothing : Type 0
 ErrorRowsUseNothing = (code : Code) (w : DeviceView) (cause : Cause) (a : Answer) (out : List ℕ) (w' : DeviceView) → w.stage ≡ InError code
     → Row w cause a out w' → StaysStored w w'

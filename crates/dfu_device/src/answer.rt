@@ -6,7 +6,7 @@ ghost use Rattle.dfu_slots.specs.StoreView.{image_of};
 ghost use Rattle.dfu_device.specs.Stage.{state_of};
 ghost use Rattle.dfu_device.specs.Rows.{Handles};
 ghost use Rattle.dfu_device.specs.inside.PendingAnswer.{pending_answer_of, AnswersPending};
-ghost use Rattle.dfu_device.specs.inside.View.{shown};
+ghost use Rattle.dfu_device.specs.inside.View.{view_of_core};
 
 use crate::decision::Reply;
 use crate::device_core::DeviceCore;
@@ -17,11 +17,11 @@ use dfu_slots::{Medium, Slots};
 /// Answer of a device to a setup. The bytes of an answer are in the buffer that the caller gave.
 #[derive(Clone, Copy)]
 pub enum Answer {
-    /// The request is acknowledged; there are no bytes.
+    /// Acknowledges the request; there are no bytes.
     Ack,
     /// The request is answered with the bytes in the buffer, which may be none.
     Bytes,
-    /// The request is stalled; there are no bytes.
+    /// Stalls the request; there are no bytes.
     Stall,
 }
 
@@ -43,7 +43,7 @@ pub(crate) enum PendingAnswer {
     Stall,
 }
 
-/// The pending answer of a reply to a request for so many bytes.
+/// Returns the pending answer of a reply to a request for `asked` bytes.
 pub(crate) fn pending_answer_of(reply: Reply, asked: u16) -> PendingAnswer
     ensures { result ≡ pending_answer_of asked reply }
 {
@@ -56,27 +56,27 @@ pub(crate) fn pending_answer_of(reply: Reply, asked: u16) -> PendingAnswer
 }
 
 impl<M: Medium> DeviceCore<M> {
-    /// Answers a setup with its body.
+    /// Answers `setup` with its `body`, and writes the bytes of the answer to `out`.
     pub(crate) fn handle(
         &mut self,
         setup: &[u8; 8],
         body: &[u8],
         out: &mut ArrayVec<u8, 4096>,
     ) -> Answer
-        ensures row { Handles setup.now body.now (shown self.old) result out.new.items (shown self.new) }
+        ensures row { Handles setup.now body.now (view_of_core self.old) result out.new.items (view_of_core self.new) }
     {
-        // Called for its clause `fits`, which `give` needs; its result isn't used.
+        // Calls `transfer` for its clause `fits`, which `give` needs.
         let _ = self.config.transfer();
         let pending_answer = self.pending_answer(setup, body);
         out.clear();
         self.give(pending_answer, out)
     }
 
-    /// Puts the bytes of an answer into an empty buffer.
+    /// Writes the bytes of `pending_answer` to `out`, an empty buffer.
     fn give(&self, pending_answer: PendingAnswer, out: &mut ArrayVec<u8, 4096>) -> Answer
         requires out { out.old.items ≡ [] }
-        requires fits { (a : Answer) (sent : List ℕ) → AnswersPending pending_answer (shown self.now) a sent → length sent ≤ 4096 }
-        ensures { AnswersPending pending_answer (shown self.now) result out.new.items }
+        requires fits { (a : Answer) (sent : List ℕ) → AnswersPending pending_answer (view_of_core self.now) a sent → length sent ≤ 4096 }
+        ensures { AnswersPending pending_answer (view_of_core self.now) result out.new.items }
     {
         match pending_answer {
             PendingAnswer::Ack => Answer::Ack,
@@ -102,7 +102,7 @@ impl<M: Medium> DeviceCore<M> {
         }
     }
 
-    /// Returns the bytes that the image has from `place` on, at most `len`.
+    /// Returns how many bytes the image has from `place` on, at most `len`.
     #[inline(never)]
     pub(crate) fn piece_len(&self, place: u32, len: u16) -> u16
         ensures count { result ≡ length (take len (drop place (image_of self.now.slots))) }
@@ -115,7 +115,7 @@ impl<M: Medium> DeviceCore<M> {
     }
 }
 
-/// Copies so many bytes of the active image, from `place` on.
+/// Copies `count` bytes of the active image, from `place` on.
 fn copy_image<M: Medium>(slots: &Slots<M>, place: u32, count: u16, out: &mut ArrayVec<u8, 4096>)
     requires within { place + count ≤ length (image_of slots.now) }
     requires most { count ≤ 4096 }

@@ -2,7 +2,7 @@
 
 ghost use Rattle.std.specs.Prelude.{◌≡◌, IfSome, IfNone, None};
 ghost use Rattle.dfu_device.specs.Candidate.{candidate_in, IsCandidate};
-ghost use Rattle.dfu_device.specs.inside.View.{shown};
+ghost use Rattle.dfu_device.specs.inside.View.{view_of_core};
 
 use crate::Device;
 use crate::device_core::DeviceCore;
@@ -12,16 +12,16 @@ use dfu_slots::Medium;
 /// the medium, are held back in memory (`Slots::held`).
 #[derive(Clone, Copy)]
 pub struct Candidate {
-    /// Place of its first byte on the medium.
+    /// Place of the image's first byte on the medium.
     pub at: u32,
-    /// Number of its bytes that are there.
+    /// Number of the image's bytes on the medium.
     pub stored: u32,
 }
 
 impl<M: Medium> Device<M> {
-    /// Returns the place of the received image, for a program that checks it before it calls `refuse_close` or `refuse`, or neither. It is
-    /// Some in dfuDNLOAD-IDLE, in dfuMANIFEST-SYNC before it is complete, and in dfuMANIFEST, else None. It reads and writes no byte of the
-    /// medium.
+    /// Returns the place of the received image, for a program that checks it before it calls `refuse_close` or `refuse`, or neither. The
+    /// place is Some in dfuDNLOAD-IDLE, in dfuMANIFEST-SYNC before it is complete, and in dfuMANIFEST, else None. The call reads and
+    /// writes no byte of the medium.
     pub fn candidate(&self) -> Option<Candidate>
         ensures some { IfSome result (λ c. IsCandidate self.now c) }
         ensures none { IfNone result (candidate_in self.now.stage ≡ None) }
@@ -33,11 +33,11 @@ impl<M: Medium> Device<M> {
 impl<M: Medium> DeviceCore<M> {
     // Returns the place of the received image.
     fn candidate(&self) -> Option<Candidate>
-        ensures some { IfSome result (λ c. IsCandidate (shown self.now) c) }
-        ensures none { IfNone result (candidate_in (shown self.now).stage ≡ None) }
+        ensures some { IfSome result (λ c. IsCandidate (view_of_core self.now) c) }
+        ensures none { IfNone result (candidate_in (view_of_core self.now).stage ≡ None) }
     {
         let len = self.mode.candidate_len()?;
-        // Called for its clause `store`, by which as many bytes are held back as make no whole unit.
+        // Calls `held` for its clause `store`: fewer bytes are held back than make a whole unit.
         let _ = self.slots.held();
         let medium = self.slots.medium();
         let half = medium.len() / 2;

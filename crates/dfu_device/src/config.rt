@@ -2,7 +2,7 @@
 
 ghost use Rattle.std.specs.Prelude.{◌≡◌, ◌≤◌, ◌<◌, ◌^◌, IfOk, IfErr};
 ghost use Rattle.dfu_device.specs.Pace.{no_pace};
-ghost use Rattle.dfu_device.specs.Setting.{IsAllowed, FirstFault, of_this_version};
+ghost use Rattle.dfu_device.specs.Setting.{IsAllowedSetting, FirstFault, functional_of_this_version};
 ghost use Rattle.dfu_device.specs.DeviceView.{profile_of};
 ghost use Rattle.dfu_device.specs.Decision.{profile_in};
 
@@ -12,22 +12,22 @@ use std::fmt;
 use std::marker::Model;
 use thiserror::Error;
 
-/// Times of the flash of a device, and the steps in which it is written. A status then says the time of the block or of the image that it
-/// stands for: the erases and programs that are due for it, beside `busy_ms` or `manifest_ms`.
+/// Times of the flash of a device, and the steps in which it is written. With it a status says the time of its own block or image: of the
+/// erases and programs that are due, beside `busy_ms` or `manifest_ms`.
 #[derive(Clone, Copy, Drop)]
 pub struct Pace {
     /// Milliseconds to erase a sector.
     pub erase_ms: u16,
     /// Milliseconds to program 256 bytes.
     pub program_ms: u16,
-    /// The unit in which it is written.
+    /// Unit in which the flash is written.
     pub unit: Unit,
-    /// Bytes that are erased at a time; 0 if it is written over in place.
+    /// Bytes that are erased at a time; 0 if the flash is overwritten in place.
     pub sector: u32,
 }
 
 impl Pace {
-    /// Erases and programs take no time of their own.
+    /// Returns a pace at which erases and programs take no time.
     pub fn none() -> Pace
         ensures { result ≡ no_pace }
     {
@@ -40,11 +40,11 @@ impl Pace {
     }
 }
 
-/// Settings of a device: who it is, its functional descriptor, the fewest bytes of an image (1 to 16,777,216), how long it takes to write a
-/// block and to put an image in place (0 to 16,777,215 ms; at least 1 ms for an image if the device is not tolerant of manifestation), and
-/// the pace of its flash.
+/// Settings of a device: its identifiers, its functional descriptor, the fewest bytes of an image (1 to 16,777,216), how long it takes to
+/// write a block and to put an image in place (0 to 16,777,215 ms; at least 1 ms for an image if the device is not tolerant of
+/// manifestation), and the pace of its flash.
 ///
-/// Without a pace both times are to have room for the erases of a medium with sectors: a block takes at most one, and one more for each
+/// Without a pace both times must have room for the erases of a medium with sectors: a block takes at most one, and one more for each
 /// sector that begins in the transfer size and a unit; an image takes two or three.
 #[derive(Clone, Copy)]
 pub struct Config {
@@ -57,13 +57,13 @@ pub struct Config {
 }
 
 impl Model for Config {
-    ghost use Rattle.dfu_device.specs.Setting.{Setting, setting_from, IsAllowed};
+    ghost use Rattle.dfu_device.specs.Setting.{Setting, setting_of_values, IsAllowedSetting};
 
     ghost Value = { Setting };
 
-    ghost view = { λ c. setting_from c.ids c.functional c.least c.busy_ms c.manifest_ms c.pace };
+    ghost view = { λ c. setting_of_values c.ids c.functional c.least c.busy_ms c.manifest_ms c.pace };
 
-    ghost invariant = { λ c. IsAllowed (setting_from c.ids c.functional c.least c.busy_ms c.manifest_ms c.pace) };
+    ghost invariant = { λ c. IsAllowedSetting (setting_of_values c.ids c.functional c.least c.busy_ms c.manifest_ms c.pace) };
 
     ghost inverse = { λ s. record {
       ids = s.ids;
@@ -75,7 +75,7 @@ impl Model for Config {
     } };
 }
 
-/// Faults for which a device cannot be set up, in the order in which they are checked.
+/// A fault for which a device cannot be set up. The faults are checked in this order.
 #[derive(Clone, Copy, Debug, Drop, Error)]
 pub enum ConfigFault {
     /// The transfer size of the functional descriptor is 0 or over 4,096 bytes.
@@ -107,17 +107,17 @@ pub struct Profile {
     pub least: u32,
     /// Time of each block beside the erases and programs of the flash, in milliseconds.
     pub busy_ms: u32,
-    /// Time of each image beside them, in milliseconds.
+    /// Time of each image beside the erases and programs of the flash, in milliseconds.
     pub manifest_ms: u32,
     /// Time of the flash for an erase and for a program.
     pub pace: Pace,
-    /// The most bytes of an image.
+    /// Largest number of bytes of an image.
     pub capacity: u64,
 }
 
 impl Config {
-    /// A configuration of these values; the version of the descriptor becomes 0110h. The faults, in
-    /// the order in which they are checked:
+    /// Makes a configuration; the version of the descriptor becomes 0110h. The faults, in the order in which
+    /// they are checked:
     ///
     /// 1. `BadTransfer`: the transfer size is 0 or over 4,096.
     /// 2. `BadPoll`: a time is over 16,777,215, or `manifest_ms` is 0 and the device is not tolerant.
@@ -131,13 +131,13 @@ impl Config {
     ) -> Result<Config, ConfigFault>
         ensures ok { IfOk result (λ c. c ≡ record {
           ids = ids;
-          functional = of_this_version functional;
+          functional = functional_of_this_version functional;
           least = least;
           busy_ms = busy_ms;
           manifest_ms = manifest_ms;
           pace = no_pace;
         }) }
-        ensures allowed { IfOk result (λ c. IsAllowed c) }
+        ensures allowed { IfOk result (λ c. IsAllowedSetting c) }
         ensures err { IfErr result (λ e. FirstFault e (record {
           ids = ids;
           functional = functional;
@@ -172,28 +172,28 @@ impl Config {
         })
     }
 
-    /// Returns these settings with the times of the flash.
+    /// Returns the settings with the times of the flash by `pace`.
     pub fn with_pace(self, pace: Pace) -> Config
         ensures { result ≡ record self { pace = pace } }
     {
         Config { pace, ..self }
     }
 
-    /// Who the device is.
+    /// Returns the identifiers of the device.
     pub(crate) fn ids(&self) -> Ids
         ensures { result ≡ self.now.ids }
     {
         self.ids
     }
 
-    /// The functional descriptor.
+    /// Returns the functional descriptor.
     pub fn functional(&self) -> Functional
         ensures { result ≡ self.now.functional }
     {
         self.functional
     }
 
-    /// The most bytes of a block.
+    /// Returns the most bytes of a block.
     pub(crate) fn transfer(&self) -> u16
         ensures value { result ≡ self.now.functional.transfer }
         ensures fits { result ≤ 4096 }
@@ -201,7 +201,7 @@ impl Config {
         self.functional.transfer
     }
 
-    /// The fewest bytes of an image.
+    /// Returns the fewest bytes of an image.
     pub fn least(&self) -> u32
         ensures { result ≡ self.now.least }
     {
@@ -224,14 +224,14 @@ impl Config {
         self.manifest_ms
     }
 
-    /// The times of its flash.
+    /// Returns the times of the device's flash.
     pub(crate) fn pace(&self) -> Pace
         ensures { result ≡ self.now.pace }
     {
         self.pace
     }
 
-    /// Returns the profile that the table reads of a device that is set up like this, with room for images of so many bytes.
+    /// Returns the profile that the table reads of a device with the settings and with room for images of `capacity` bytes.
     pub fn profile(&self, capacity: u64) -> Profile
         ensures profile { profile_in result ≡ profile_of self.now capacity }
         ensures capacity { result.capacity ≡ capacity }

@@ -19,31 +19,32 @@ pub enum Reply {
 /// mode that is named here, and a status in its answer is that of dfuERROR.
 #[derive(Clone, Copy)]
 pub enum Decision {
-    /// A mode is entered, and nothing of the slot store is called.
+    /// The device enters a mode, and calls nothing of the slot store.
     Sure {
-        /// What is answered.
+        /// Answer of the device.
         reply: Reply,
         /// The mode.
         mode: DeviceState,
     },
-    /// The body of the request becomes the block that is not written; this mode is entered, and it is acknowledged.
+    /// The body of the request becomes the block that is not written; the device enters `mode`, and acknowledges
+    /// the request.
     Holds {
         /// The mode.
         mode: DeviceState,
     },
-    /// The next bytes of the active image are sent. Fewer than `size` are the last ones: dfuIDLE is entered then, and
-    /// dfuUPLOAD-IDLE else.
+    /// The next bytes of the active image are sent. If they are fewer than `size`, they are the last and the device
+    /// enters dfuIDLE, else dfuUPLOAD-IDLE.
     Sends {
-        /// Bytes of the image that were sent before.
+        /// Number of bytes of the image that were sent before.
         place: u32,
         /// wLength of the request, 1 or more.
         size: u16,
         /// The next part's number.
         number: u16,
     },
-    /// The block is written. dfuDNLOAD-IDLE is entered then, or dfuDNLOAD-SYNC if it is `late`.
+    /// The block is written. The device enters dfuDNLOAD-IDLE then, or dfuDNLOAD-SYNC if the time was `late`.
     Writes {
-        /// What is answered.
+        /// Answer of the device.
         reply: Reply,
         /// Bytes before the block.
         written: u32,
@@ -52,11 +53,11 @@ pub enum Decision {
         /// Time passed, so that the host has to ask for the status once more.
         late: bool,
     },
-    /// The bytes taken become the active image, and this mode is entered.
+    /// The bytes taken become the active image, and the device enters a mode.
     Commits {
-        /// What is answered.
+        /// Answer of the device.
         reply: Reply,
-        /// Number of these bytes.
+        /// Number of the bytes taken.
         written: u32,
         /// The mode.
         mode: DeviceState,

@@ -1,10 +1,10 @@
 //! A device, as a bootloader would run it.
 
 ghost use Rattle.std.specs.Prelude.{◌≡◌, ◌<◌, ◌≤◌, length, take, OnOk, OnErr, IfOk, IfErr, IfSome, IfNone};
-ghost use Rattle.dfu_slots.specs.StoreView.{fused};
+ghost use Rattle.dfu_slots.specs.StoreView.{store_with_fuse};
 ghost use Rattle.dfu_slots.specs.Medium.Fuse.{Whole, Armed, Lying};
 ghost use Rattle.dfu_slots.specs.Image.{HasImage};
-ghost use Rattle.dfu_slots.specs.Changes.{IsOpenFault};
+ghost use Rattle.dfu_slots.specs.Changes.{FirstOpenFault};
 ghost use Rattle.dfu_device.specs.Stage.{InAppIdle, state_of, code_of};
 ghost use Rattle.dfu_device.specs.Table.{reset_stage};
 ghost use Rattle.dfu_device.specs.DeviceView.{IsInSpareSlot, powered_on};
@@ -54,22 +54,22 @@ use std::marker::Model;
 ///   from the bus. In dfuMANIFEST-WAIT-RESET it waits for its maker or the host to reset it.
 #[derive(Drop)]
 pub struct Device<M: Medium> {
-    // A layer of its own: its functions read its fields, which keep an invariant, and a caller of
-    // `Device` sees one plain value, `DeviceView`, and not those fields.
+    // Keeps the fields in a layer of its own, because its functions read them and keep their invariant, while
+    // a caller of `Device` sees one plain value, `DeviceView`.
     pub(crate) core: DeviceCore<M>,
 }
 
 impl<M: Medium> Model for Device<M> {
     ghost use Rattle.dfu_device.specs.DeviceView.{DeviceView};
-    ghost use Rattle.dfu_device.specs.inside.View.{shown};
+    ghost use Rattle.dfu_device.specs.inside.View.{view_of_core};
 
     ghost Value = { DeviceView };
 
-    ghost view = { λ d. shown d.core };
+    ghost view = { λ d. view_of_core d.core };
 }
 
 impl<M: Medium> Device<M> {
-    /// A device in appIDLE.
+    /// Returns a device with `config` in appIDLE, on `slots`.
     pub fn start(config: Config, slots: Slots<M>) -> Device<M>
         ensures { result ≡ record { config = config; slots = slots; stage = InAppIdle } }
     {
@@ -78,7 +78,7 @@ impl<M: Medium> Device<M> {
         }
     }
 
-    /// A device that is powered on: in appIDLE, on a medium that it opens and does not write.
+    /// Powers a device on: in appIDLE, on a medium that the call opens and does not write.
     ///
     /// # Errors
     ///
@@ -93,14 +93,14 @@ impl<M: Medium> Device<M> {
     pub fn power_on(config: Config, medium: M) -> Result<Device<M>, (OpenFault, M)>
         ensures ok { IfOk result (λ d. d ≡ powered_on config (M.state medium)) }
         ensures has_image { OnOk result (HasImage (M.state medium)) }
-        ensures err { IfErr result (λ e. (e.1 ≡ medium) × IsOpenFault e.0 (M.state medium)) }
+        ensures err { IfErr result (λ e. (e.1 ≡ medium) × FirstOpenFault e.0 (M.state medium)) }
         ensures refused { OnErr result (¬ HasImage (M.state medium)) }
     {
         let slots = Slots::open(medium)?;
         Ok(Device::start(config, slots))
     }
 
-    /// The power goes and comes back: the device starts anew on its medium as it is, in place, as `power_on` starts one on what
+    /// Lets the power go and come back: the device starts anew in place, on its medium as it is, just as `power_on` starts one on what
     /// `into_medium` gives back. A restart is never refused.
     pub fn restart(&mut self)
         ensures { self.new ≡ powered_on self.old.config self.old.slots.medium }
@@ -117,45 +117,47 @@ impl<M: Medium> Device<M> {
         self.core.handle(setup, body, out)
     }
 
-    /// This many milliseconds pass; 0 changes nothing. They count in appDETACH, dfuDNBUSY and dfuMANIFEST,
-    /// and add up there from the moment the state was entered (USB DFU 1.1, appendix A). A call makes at
-    /// most one change; the rest of its time is dropped. In every other state a call changes nothing, and
-    /// may be left out.
+    /// Lets `ms` milliseconds pass; 0 changes nothing. The time counts in appDETACH, dfuDNBUSY and dfuMANIFEST,
+    /// and adds up there from the moment the state was entered (USB DFU 1.1, appendix A). A call makes at
+    /// most one change; the rest of its time is dropped. In every other state a call changes nothing, and may
+    /// be left out.
     pub fn elapse(&mut self, ms: u32)
         ensures row { Elapses ms self.old self.new }
     {
         self.core.elapse(ms);
     }
 
-    /// The bus is reset: appDETACH goes to dfuIDLE, every other state to appIDLE (USB DFU 1.1, appendix A).
+    /// Reports a reset of the bus: appDETACH goes to dfuIDLE, every other state to appIDLE (USB DFU 1.1,
+    /// appendix A).
     pub fn usb_reset(&mut self)
         ensures { self.new ≡ record self.old { stage = reset_stage self.old.stage } }
     {
         self.core.mode = self.core.mode.after_reset();
     }
 
-    /// The state of the standard (USB DFU 1.1, section 6.1.2, bState).
+    /// Returns the state of the standard (USB DFU 1.1, section 6.1.2, bState).
     pub fn state(&self) -> State
         ensures { result ≡ state_of self.now.stage }
     {
         self.core.mode.state()
     }
 
-    /// The status code: that of dfuERROR, and OK in every other state (USB DFU 1.1, section 6.1.2, bStatus).
+    /// Returns the status code: the code of dfuERROR, and OK in every other state (USB DFU 1.1, section
+    /// 6.1.2, bStatus).
     pub fn code(&self) -> Code
         ensures { result ≡ code_of self.now.stage }
     {
         self.core.mode.code()
     }
 
-    /// The functional descriptor (USB DFU 1.1, section 4.1.3), with version 0110h.
+    /// Returns the functional descriptor (USB DFU 1.1, section 4.1.3), with version 0110h.
     pub fn functional(&self) -> Functional
         ensures { result ≡ self.now.config.functional }
     {
         self.core.config.functional()
     }
 
-    /// Who the device is.
+    /// Returns the identifiers of the device.
     pub fn ids(&self) -> Ids
         ensures { result ≡ self.now.config.ids }
     {
@@ -169,9 +171,9 @@ impl<M: Medium> Device<M> {
         self.core.config
     }
 
-    /// The slot store. Until the bytes taken are put in place they are at the front of the data of its spare slot, except for a block that
-    /// is not written yet. The store's view is meant: if the medium's unit is over 1 byte, the last of them may be held in memory until
-    /// their unit is full.
+    /// Returns the slot store. Until the bytes taken are put in place they are at the front of the data of its spare slot, except for a
+    /// block that is not written yet. The store's view is meant: if the medium's unit is over 1 byte, the last of them may be held in
+    /// memory until their unit is full.
     pub fn slots(&self) -> &Slots<M>
         ensures slots { result.now ≡ self.now.slots }
         ensures stored { IsInSpareSlot self.now }
@@ -179,8 +181,8 @@ impl<M: Medium> Device<M> {
         &self.core.slots
     }
 
-    /// Power off: returns the medium as it is. It has an active image, so `power_on` is never
-    /// refused on it.
+    /// Powers the device off and returns the medium as it is. The medium has an active image, so `power_on`
+    /// is never refused on it.
     pub fn into_medium(self) -> M
         ensures medium { M.state result ≡ self.slots.medium }
         ensures has_image { HasImage (M.state result) }
@@ -192,21 +194,21 @@ impl<M: Medium> Device<M> {
 impl<M: Faulty> Device<M> {
     /// Arms the medium, as `Slots::arm`.
     pub fn arm(&mut self, writes: u32, tear: &[u8], stop: bool)
-        ensures { self.new ≡ record self.old { slots = fused self.old.slots (Armed writes (take 4096 tear.now) stop) } }
+        ensures { self.new ≡ record self.old { slots = store_with_fuse self.old.slots (Armed writes (take 4096 tear.now) stop) } }
     {
         self.core.slots.arm(writes, tear, stop);
     }
 
     /// Arms the medium to lie, as `Slots::arm_lie`.
     pub fn arm_lie(&mut self, writes: u32, tear: &[u8])
-        ensures { self.new ≡ record self.old { slots = fused self.old.slots (Lying writes (take 4096 tear.now)) } }
+        ensures { self.new ≡ record self.old { slots = store_with_fuse self.old.slots (Lying writes (take 4096 tear.now)) } }
     {
         self.core.slots.arm_lie(writes, tear);
     }
 
     /// Disarms the medium, as `Slots::disarm`.
     pub fn disarm(&mut self)
-        ensures { self.new ≡ record self.old { slots = fused self.old.slots Whole } }
+        ensures { self.new ≡ record self.old { slots = store_with_fuse self.old.slots Whole } }
     {
         self.core.slots.disarm();
     }

@@ -4,10 +4,10 @@ ghost use Rattle.std.specs.Prelude.{◌≡◌, ◌<◌, ◌≤◌, ◌+◌, leng
 ghost use Rattle.dfu_slots.specs.StoreView.{image_of, spare_of, room_of};
 ghost use Rattle.dfu_device.specs.Stage.{InAppIdle};
 ghost use Rattle.dfu_device.specs.DeviceView.{DeviceView, profile};
-ghost use Rattle.dfu_device.specs.Parts.{is_sound};
+ghost use Rattle.dfu_device.specs.Parts.{are_device_parts};
 ghost use Rattle.dfu_device.specs.Rows.{Elapses};
 ghost use Rattle.dfu_device.specs.Borrowed.{answer_room};
-ghost use Rattle.dfu_device.specs.Decision.{profile_in, plan_of, IsPossible, IsSilent};
+ghost use Rattle.dfu_device.specs.Decision.{profile_in, plan_of, IsPossibleDecision, IsSilentDecision};
 ghost use Rattle.dfu_device.specs.inside.PendingAnswer.{AnswersPending, CarriedOutPending, HandledPending};
 
 use crate::answer::{PendingAnswer, pending_answer_of};
@@ -29,25 +29,24 @@ fn hold(block: &mut ArrayVec<u8, 4096>, bytes: &[u8])
     let _ = block.try_extend_from_slice(bytes);
 }
 
-/// The core of a device: what is fixed, the slot store, the state, and the block that is not
-/// written yet.
+/// The core of a device: its fixed settings, its slot store, its mode, and the block that is not written yet.
 #[derive(Drop)]
 pub struct DeviceCore<M: Medium> {
     pub config: Config,
     pub slots: Slots<M>,
     pub mode: DeviceState,
     pub block: ArrayVec<u8, 4096>,
-    ghost sound: { IsTrue (is_sound mode (length block.items) slots) },
+    ghost sound: { IsTrue (are_device_parts mode (length block.items) slots) },
 }
 
 impl<M: Medium> DeviceCore<M> {
-    ghost use Rattle.dfu_device.specs.inside.View.{shown};
+    ghost use Rattle.dfu_device.specs.inside.View.{view_of_core};
 
-    /// A core in appIDLE.
+    /// Returns a core with `config` in appIDLE, on `slots`, with the memory of `block`.
     pub(crate) fn start(config: Config, slots: Slots<M>, block: ArrayVec<u8, 4096>) -> DeviceCore<M>
-        ensures { shown result ≡ record { config = config; slots = slots; stage = InAppIdle } }
+        ensures { view_of_core result ≡ record { config = config; slots = slots; stage = InAppIdle } }
     {
-        // Called for its clauses, which say that the store is shaped, as the core is to keep it.
+        // Calls `capacity` for its clauses, by which the store has the shape that the core must keep.
         let _ = slots.capacity();
         DeviceCore {
             config,
@@ -57,32 +56,33 @@ impl<M: Medium> DeviceCore<M> {
         }
     }
 
-    /// Returns the settings that the table reads of it.
+    /// Returns the settings that the table reads.
     fn profile(&self) -> Profile
-        ensures profile { profile_in result ≡ profile (shown self.now) }
+        ensures profile { profile_in result ≡ profile (view_of_core self.now) }
         ensures capacity { result.capacity ≡ room_of self.now.slots }
         ensures transfer { result.functional.transfer ≡ self.now.config.functional.transfer }
     {
         self.config.profile(u64::from(self.slots.capacity()))
     }
 
-    /// Returns the answer to a setup with its body: the three rules before the table, then the table.
+    /// Returns the answer to `setup` with its `body`: the three rules before the table, then the table.
     pub(crate) fn pending_answer(&mut self, setup: &[u8; 8], body: &[u8]) -> PendingAnswer
-        ensures row { HandledPending setup.now body.now (shown self.old) result (shown self.new) }
-        ensures fits { (a : Answer) (sent : List ℕ) → AnswersPending result (shown self.new) a sent
+        ensures row { HandledPending setup.now body.now (view_of_core self.old) result (view_of_core self.new) }
+        ensures fits { (a : Answer) (sent : List ℕ) → AnswersPending result (view_of_core self.new) a sent
             → length sent ≤ answer_room self.old.config }
     {
         let (decision, asked) = asked_row(&self.profile(), self.mode, setup, body);
         self.carry_out(decision, asked, body)
     }
 
-    /// Carries a decision out, with the body of its request, which asks for so many bytes of a status or of a state.
+    /// Performs `decision`. `asked` is the number of bytes of a status or a state that the request asks for, and `body` is its body.
     pub(crate) fn carry_out(&mut self, decision: Decision, asked: u16, body: &[u8]) -> PendingAnswer
-        requires { IsPossible self.old.config.functional.transfer (length self.old.block.items) (length body.now) self.old.slots decision }
-        ensures row { let w = shown self.old in let spare = spare_of w.slots in
+        requires { IsPossibleDecision self.old.config.functional.transfer (length self.old.block.items)
+            (length body.now) self.old.slots decision }
+        ensures row { let w = view_of_core self.old in let spare = spare_of w.slots in
             CarriedOutPending (plan_of (profile w) (image_of w.slots) spare self.old.block.items body.now decision) asked w result
-            (shown self.new) }
-        ensures silent { IsSilent decision → result ≡ PendingAnswer.Ack }
+            (view_of_core self.new) }
+        ensures silent { IsSilentDecision decision → result ≡ PendingAnswer.Ack }
     {
         match decision {
             Decision::Sure { reply, mode } => {
@@ -90,7 +90,7 @@ impl<M: Medium> DeviceCore<M> {
                 pending_answer_of(reply, asked)
             }
             Decision::Holds { mode } => {
-                // Called for its clause `fits`: the body of a block finds room.
+                // Calls `transfer` for its clause `fits`: the body of a block finds room.
                 let _ = self.config.transfer();
                 hold(&mut self.block, body);
                 self.mode = mode;
@@ -124,7 +124,7 @@ impl<M: Medium> DeviceCore<M> {
         }
     }
 
-    /// The mode after these bytes of the image are sent: fewer than `size` are the last ones.
+    /// Returns the mode after a piece of the image is sent; a piece of fewer than `size` bytes is the last.
     fn after_piece(&self, place: u32, size: u16, number: u16) -> DeviceState
         ensures mode { let part = take size (drop place (image_of self.now.slots)) in
             result ≡ (if nat_lt (length part) size then DeviceState.DfuIdle else DeviceState.UploadIdle (place + size) number) }
@@ -138,9 +138,9 @@ impl<M: Medium> DeviceCore<M> {
         }
     }
 
-    /// This many milliseconds pass.
+    /// Lets `ms` milliseconds pass.
     pub(crate) fn elapse(&mut self, ms: u32)
-        ensures row { Elapses ms (shown self.old) (shown self.new) }
+        ensures row { Elapses ms (view_of_core self.old) (view_of_core self.new) }
     {
         let block_len = self.block.as_slice().len();
         let decision = decide_time(&self.profile(), self.mode, block_len, ms);

@@ -4,7 +4,7 @@ ghost use Rattle.std.specs.Prelude.{◌≡◌, ◌<◌, ◌^◌, ℕ, List, true
 ghost use Rattle.dfu_slots.specs.StoreView.{SlotsState};
 ghost use Rattle.dfu_device.specs.Stage.{state_of, code_of, InError, status_of};
 ghost use Rattle.dfu_device.specs.DeviceView.{profile_of};
-ghost use Rattle.dfu_device.specs.Rows.{Answers};
+ghost use Rattle.dfu_device.specs.Rows.{ReplyAnswer};
 ghost use Rattle.dfu_device.specs.Candidate.{candidate_length};
 ghost use Rattle.dfu_device.specs.Decision.{HasWrittenBytes, HasTimeInputs};
 ghost use Rattle.dfu_device.specs.Table.{reset_stage, may_close, refuse_stage, objection_code};
@@ -43,7 +43,7 @@ pub enum DeviceState {
     },
     /// dfuDNLOAD-SYNC: the block is written.
     DownloadSyncWritten {
-        /// All bytes taken, 1 or more.
+        /// Number of all bytes taken, 1 or more.
         written: u32,
         /// The next block's number.
         number: u16,
@@ -59,21 +59,21 @@ pub enum DeviceState {
     },
     /// dfuDNLOAD-IDLE: the next block may come.
     DownloadIdle {
-        /// All bytes taken, 1 or more.
+        /// Number of all bytes taken, 1 or more.
         written: u32,
         /// The next block's number.
         number: u16,
     },
     /// dfuMANIFEST-SYNC, not complete: the download is closed, and its bytes are not in place yet.
     ManifestSync {
-        /// All bytes taken, 1 or more.
+        /// Number of all bytes taken, 1 or more.
         written: u32,
     },
     /// dfuMANIFEST-SYNC, complete: the bytes taken are the active image.
     ManifestSyncComplete,
     /// dfuMANIFEST: the bytes taken are being put in place, until the manifestation time has passed.
     Manifest {
-        /// All bytes taken, 1 or more.
+        /// Number of all bytes taken, 1 or more.
         written: u32,
         /// Milliseconds in this state.
         passed: u32,
@@ -82,7 +82,7 @@ pub enum DeviceState {
     ManifestWaitReset,
     /// dfuUPLOAD-IDLE: a part of the image was sent.
     UploadIdle {
-        /// Bytes of the image that were sent.
+        /// Number of bytes of the image that were sent.
         place: u32,
         /// The next part's number.
         number: u16,
@@ -95,7 +95,7 @@ pub enum DeviceState {
 }
 
 impl DeviceState {
-    /// The state of the standard (USB DFU 1.1, section 6.1.2, bState).
+    /// Returns the state of the standard (USB DFU 1.1, section 6.1.2, bState).
     pub fn state(self) -> State
         ensures { (spare block : List ℕ) → result ≡ state_of (stage_of self spare block) }
     {
@@ -116,7 +116,8 @@ impl DeviceState {
         }
     }
 
-    /// The status code: that of dfuERROR, and OK in every other state (USB DFU 1.1, section 6.1.2, bStatus).
+    /// Returns the status code: the code of dfuERROR, and OK in every other state (USB DFU 1.1, section
+    /// 6.1.2, bStatus).
     pub fn code(self) -> Code
         ensures { (spare block : List ℕ) → result ≡ code_of (stage_of self spare block) }
     {
@@ -126,7 +127,7 @@ impl DeviceState {
         }
     }
 
-    /// The mode after a reset of the bus.
+    /// Returns the mode after a reset of the bus.
     pub fn after_reset(self) -> DeviceState
         ensures stage { (spare block : List ℕ) → stage_of result spare block ≡ reset_stage (stage_of self spare block) }
         ensures filled { (block : ℕ) (s : SlotsState) → is_filled result block s ≡ true }
@@ -137,8 +138,8 @@ impl DeviceState {
         }
     }
 
-    /// Returns the length of an image that was taken and may be refused: in dfuDNLOAD-IDLE, in dfuMANIFEST-SYNC before it is complete, and
-    /// in dfuMANIFEST.
+    /// Returns the length of a received image that the program may refuse: in dfuDNLOAD-IDLE, in dfuMANIFEST-SYNC before it is complete,
+    /// and in dfuMANIFEST.
     pub fn candidate_len(self) -> Option<u32>
         ensures { result ≡ candidate_length self }
     {
@@ -150,8 +151,7 @@ impl DeviceState {
         }
     }
 
-    /// Returns whether a DNLOAD of no bytes closes a download in this mode, if an image has so many bytes at least: in dfuDNLOAD-IDLE, once
-    /// as many were taken.
+    /// Returns true if a DNLOAD of no bytes closes a download in the mode: in dfuDNLOAD-IDLE, once at least `least` bytes were taken.
     pub fn may_close(self, least: u32) -> bool
         ensures { (spare block : List ℕ) → HasWrittenBytes self spare → result ≡ may_close least (stage_of self spare block) }
     {
@@ -161,7 +161,7 @@ impl DeviceState {
         }
     }
 
-    /// The mode after the program refuses the image that such a request closes: dfuERROR with the code of its objection.
+    /// Returns the mode after the program refuses the image that a request closes: dfuERROR with the code of `objection`.
     pub fn after_refused_close(objection: Objection) -> DeviceState
         ensures stage { (spare block : List ℕ) → stage_of result spare block ≡ InError (objection_code objection) }
         ensures filled { (block : ℕ) (s : SlotsState) → is_filled result block s ≡ true }
@@ -171,8 +171,8 @@ impl DeviceState {
         }
     }
 
-    /// The mode after the program refuses the image that was closed: dfuERROR with the code of its objection from dfuMANIFEST-SYNC, not
-    /// complete, and from dfuMANIFEST. Every other mode stays.
+    /// Returns the mode after the program refuses the image that was closed: dfuERROR with the code of `objection` from dfuMANIFEST-SYNC,
+    /// not complete, and from dfuMANIFEST. Every other mode stays.
     pub fn after_refusal(self, objection: Objection) -> DeviceState
         ensures stage { (spare block : List ℕ) → stage_of result spare block ≡ refuse_stage objection (stage_of self spare block) }
         ensures filled { (block : ℕ) (s : SlotsState) → is_filled self block s ≡ true → is_filled result block s ≡ true }
@@ -186,10 +186,10 @@ impl DeviceState {
     }
 }
 
-/// The six bytes of the status of a device that is set up like this, in a mode, with a block of so many bytes.
+/// Returns the six bytes of the status of a device with `config` in `mode`, with a block of `block_len` bytes.
 pub fn status_in(config: &Config, mode: DeviceState, block_len: usize) -> [u8; 6]
     ensures answers { (room : ℕ) (spare block : List ℕ) (len : ℕ) → HasTimeInputs mode block_len spare block →
-        Answers len (status_of (profile_of config.now room) (stage_of mode spare block)) Answer.Bytes (take len result) }
+        ReplyAnswer len (status_of (profile_of config.now room) (stage_of mode spare block)) Answer.Bytes (take len result) }
     ensures size { length result ≡ 6 }
 {
     let Ok(status) = Status::new(mode.code(), poll_ms(config, mode, block_len), mode.state()) else {

@@ -1,14 +1,14 @@
-//! Effects of a device on its slot store: it writes a block, or makes the bytes taken the active image.
+//! Effects of a device on its slot store: a block is written, or the bytes taken become the active image.
 
 ghost use Rattle.std.specs.Prelude.{◌≡◌, ◌<◌, ◌≤◌, ◌+◌, ◌++◌, ◌⊎◌, length, take, [], IsTrue, true, OnOk, OnErr, IfErr};
-ghost use Rattle.dfu_slots.specs.Medium.{Rose};
-ghost use Rattle.dfu_slots.specs.StoreView.{image_of, spare_of, room_of, is_shaped, Called};
+ghost use Rattle.dfu_slots.specs.Medium.{CountRose};
+ghost use Rattle.dfu_slots.specs.StoreView.{image_of, spare_of, room_of, is_shaped, CallsEnd};
 ghost use Rattle.dfu_slots.specs.Changes.{fault_of, ending_of};
 ghost use Rattle.dfu_device.specs.Table.{write_code, commit_code};
 ghost use Rattle.dfu_device.specs.Parts.{is_put, is_filled, stage_of};
 ghost use Rattle.dfu_device.specs.Rows.{WroteBlock, FailedBlock, Committed, FailedCommit, block_calls};
 ghost use Rattle.dfu_device.specs.Decision.{written_stage, AcceptsNothing};
-ghost use Rattle.dfu_device.specs.inside.View.{shown};
+ghost use Rattle.dfu_device.specs.inside.View.{view_of_core};
 
 use crate::device_core::DeviceCore;
 use crate::device_state::DeviceState;
@@ -28,9 +28,9 @@ impl<M: Medium> DeviceCore<M> {
         ensures done { let before = take written (spare_of self.old.slots) in
             let block = self.old.block.items in
             OnOk result (WroteBlock before block self.old.config self.old.slots (written_stage late (before ++ block) number)
-            (shown self.new)) }
+            (view_of_core self.new)) }
         ensures failed { IfErr result (λ fault. FailedBlock fault
-            (take written (spare_of self.old.slots)) self.old.block.items self.old.config self.old.slots (shown self.new)) }
+            (take written (spare_of self.old.slots)) self.old.block.items self.old.config self.old.slots (view_of_core self.new)) }
     {
         match put_block(&mut self.slots, written, self.block.as_slice()) {
             Ok(()) => {
@@ -52,15 +52,15 @@ impl<M: Medium> DeviceCore<M> {
         }
     }
 
-    /// Makes the bytes taken the active image, and goes on to the next state. It returns the fault if a
-    /// write had one.
+    /// Makes the bytes taken the active image, and goes on to the next state. Returns the fault if a write
+    /// had one.
     pub(crate) fn commit_taken(&mut self, written: u32, next: DeviceState) -> Result<(), WriteFault>
         requires taken { IsTrue (is_filled (DeviceState.ManifestSync written) (length self.old.block.items) self.old.slots) }
         requires next { AcceptsNothing next }
         ensures done { OnOk result (Committed (take written (spare_of self.old.slots)) self.old.config self.old.slots
-            (stage_of next [] []) (shown self.new)) }
+            (stage_of next [] []) (view_of_core self.new)) }
         ensures failed { IfErr result (λ fault. FailedCommit fault (take written (spare_of self.old.slots)) self.old.config self.old.slots
-            (shown self.new)) }
+            (view_of_core self.new)) }
     {
         match self.slots.commit(written) {
             Ok(()) => {
@@ -78,7 +78,7 @@ impl<M: Medium> DeviceCore<M> {
     }
 }
 
-/// The fault of the write that broke off a call of the slot store.
+/// Returns the fault of the write that broke off a call of the slot store with `fault`.
 fn write_fault(fault: PutFault) -> WriteFault
     ensures { result ≡ fault_of fault }
 {
@@ -88,7 +88,7 @@ fn write_fault(fault: PutFault) -> WriteFault
     }
 }
 
-/// The status code of a block whose write had this fault.
+/// Returns the status code of `fault` in a block's write.
 fn write_code(fault: WriteFault) -> Code
     ensures { result ≡ write_code fault }
 {
@@ -98,7 +98,7 @@ fn write_code(fault: WriteFault) -> Code
     }
 }
 
-/// The status code of a commit in which a write had this fault.
+/// Returns the status code of `fault` in a commit's write.
 fn commit_code(fault: WriteFault) -> Code
     ensures { result ≡ commit_code fault }
 {
@@ -118,10 +118,10 @@ fn put_block<M: Medium>(slots: &mut Slots<M>, written: u32, block: &[u8]) -> Res
     ensures shape { is_shaped slots.new ≡ true }
     ensures room { room_of slots.new ≡ room_of slots.old }
     ensures image { image_of slots.new ≡ image_of slots.old }
-    ensures calls { Called slots.old (block_calls (take written (spare_of slots.old)) block.now) (ending_of result) slots.new }
+    ensures calls { CallsEnd slots.old (block_calls (take written (spare_of slots.old)) block.now) (ending_of result) slots.new }
     ensures put { OnOk result (is_put (written + length block.now) slots.new ≡ true) }
     ensures spare { OnOk result (take (written + length block.now) (spare_of slots.new) ≡ take written (spare_of slots.old) ++ block.now) }
-    ensures err { OnErr result (Rose slots.old.medium.failures slots.new.medium.failures) }
+    ensures err { OnErr result (CountRose slots.old.medium.failures slots.new.medium.failures) }
 {
     if written > 0 {
         return slots.put(written, block);

@@ -6,32 +6,32 @@ ghost use Rattle.dfu_device.specs.Parts.{is_filled};
 
 use crate::device_state::DeviceState;
 
-/// Facts of a slot store that decide whether a mode goes with it.
+/// Facts of a slot store that decide if a mode fits it.
 #[derive(Clone, Copy)]
 pub struct PutSoFar {
-    /// The most bytes of an image.
+    /// Largest number of bytes of an image.
     pub room: u32,
-    /// Tells whether the gate of the spare slot is closed.
+    /// The gate of the spare slot is closed.
     pub begun: bool,
     /// Place at which the puts end.
     pub end: u32,
 }
 
-// Returns whether so many bytes were put in the closed spare, and no more.
+// Returns whether exactly `written` bytes were put in the closed spare.
 fn is_put(seen: PutSoFar, written: u32) -> bool
     ensures { result ≡ (seen.begun && (seen.end == written)) }
 {
     seen.begun && seen.end == written
 }
 
-// Returns whether all is written, and some of it.
+// Returns whether all bytes taken are written, at least one.
 fn is_written(seen: PutSoFar, written: u32) -> bool
     ensures { result ≡ (nat_lt 0 written && (nat_le written seen.room && (seen.begun && (seen.end == written)))) }
 {
     0 < written && written <= seen.room && is_put(seen, written)
 }
 
-// Returns whether there is room for a block of so many bytes after the bytes that are written.
+// Returns whether a block of `block` bytes has room after the bytes that are written.
 fn is_next(seen: PutSoFar, written: u32, block: usize) -> bool
     requires { block < 2 ^ 32 }
     ensures { result ≡ (nat_lt 0 block && (nat_le (written + block) seen.room && ((written == 0) || (seen.begun && (seen.end == written))))) }
@@ -41,8 +41,7 @@ fn is_next(seen: PutSoFar, written: u32, block: usize) -> bool
         && (written == 0 || is_put(seen, written))
 }
 
-/// Returns whether a mode, with a block of so many bytes that is not written, goes with what was put in each slot store that looks like
-/// this.
+/// Returns whether a mode, with a block of `block` bytes that is not written, fits what was put in the slot store.
 pub fn is_filled(seen: PutSoFar, mode: DeviceState, block: usize) -> bool
     requires { block < 2 ^ 32 }
     ensures { (s : SlotsState) → seen.room ≡ room_of s → seen.begun ≡ is_begun s → seen.end ≡ s.put_end →

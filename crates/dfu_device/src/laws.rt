@@ -1,23 +1,23 @@
 //! Laws of the rows of a device. Each is the contract of a function with an empty body, which is proved
 //! and not to be called.
 
-ghost use Rattle.dfu_device.specs.PlanOutcomes.{PlansHaveOutcomes, RowOf, SetupsHaveOutcomes, NotServed, TimesHaveOutcomes, StatusWhole};
-ghost use Rattle.dfu_device.specs.AcceptedHistory.{SetupAcceptsBody, TimeAcceptsNothing, RowAcceptsBody, StepAcceptsBody, HistoryAcceptsBodies, StartAcceptsBodies, AcceptedUnique};
-ghost use Rattle.dfu_device.specs.SentHistory.{RowSends, StepSends, HistorySends, OneSent};
+ghost use Rattle.dfu_device.specs.PlanOutcomes.{PlansHaveOutcomes, RowByReading, SetupsHaveOutcomes, NotServedIsStalled, TimesHaveOutcomes, StatusReadBack};
+ghost use Rattle.dfu_device.specs.AcceptedHistory.{SetupAcceptsBody, TimeAcceptsNothing, RowAcceptsBody, StepAcceptsBody, HistoryAcceptsBodies, StartAcceptsBodies, AcceptedBytesUnique};
+ghost use Rattle.dfu_device.specs.SentHistory.{RowSendsPiece, StepSendsPiece, HistorySendsPieces, SentBytesUnique};
 ghost use Rattle.dfu_device.specs.Uploaded.{UploadIsImage, UploadsAreImages};
 ghost use Rattle.dfu_device.specs.ReportLaws.{StatusReportMatches, StateReportMatches};
 ghost use Rattle.dfu_device.specs.StoreUse.{RowsUseStore, ErrorRowsUseNothing};
-ghost use Rattle.dfu_device.specs.Errors.{ErrorsHaveCause};
+ghost use Rattle.dfu_device.specs.Errors.{MediumErrorsHaveCause};
 
 /// Each row leads to the outcome of its plan, at some luck of the medium. A setup whose reading is known goes by that reading; one that
 /// does not go by the table is stalled and changes nothing. If six bytes are asked for, the answer to GETSTATUS is read back as the status.
 pub fn rows_come_to_outcomes()
     ensures plan { PlansHaveOutcomes }
-    ensures row_of { RowOf }
+    ensures row_of { RowByReading }
     ensures asked { SetupsHaveOutcomes }
-    ensures not_served { NotServed }
+    ensures not_served { NotServedIsStalled }
     ensures time { TimesHaveOutcomes }
-    ensures status { StatusWhole }
+    ensures status { StatusReadBack }
 {}
 
 /// The bytes taken: a row takes the body that it acknowledges, and a device has taken what its
@@ -29,22 +29,22 @@ pub fn rows_take()
     ensures step { StepAcceptsBody }
     ensures history { HistoryAcceptsBodies }
     ensures from_start { StartAcceptsBodies }
-    ensures one { AcceptedUnique }
+    ensures one { AcceptedBytesUnique }
 {}
 
 /// The bytes sent: a row sends the bytes with which it answers an UPLOAD, and a device has sent what
 /// its history says, which says it of no other bytes. At the end of an upload the pieces, joined, are
 /// the active image.
 pub fn rows_send()
-    ensures row { RowSends }
-    ensures step { StepSends }
-    ensures history { HistorySends }
+    ensures row { RowSendsPiece }
+    ensures step { StepSendsPiece }
+    ensures history { HistorySendsPieces }
     ensures ends { UploadIsImage }
     ensures gives { UploadsAreImages }
-    ensures one { OneSent }
+    ensures one { SentBytesUnique }
 {}
 
-/// A status or a state that was answered is that of the state entered.
+/// An answered status is that of the state that the device enters, and so is an answered state.
 pub fn rows_tell()
     ensures status { StatusReportMatches }
     ensures state { StateReportMatches }
@@ -56,5 +56,5 @@ pub fn rows_tell()
 pub fn rows_keep()
     ensures image { RowsUseStore }
     ensures error { ErrorRowsUseNothing }
-    ensures errors { ErrorsHaveCause }
+    ensures errors { MediumErrorsHaveCause }
 {}

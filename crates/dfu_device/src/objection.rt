@@ -1,4 +1,4 @@
-//! The program of a device refuses an image.
+//! The refusal of an image by the program of a device.
 
 ghost use Rattle.std.specs.Prelude.{[], ◌≡◌, ◌↔◌, not, IsTrue};
 ghost use Rattle.dfu_device.specs.Rows.{is_close, IsCloseSetup, ClosesDownload, RefusingClose, Row};
@@ -19,7 +19,7 @@ fn closes(request: Request) -> bool
     }
 }
 
-/// Returns whether a setup is a DNLOAD with wLength 0, which closes a download in dfuDNLOAD-IDLE.
+/// Returns true if `setup` is a DNLOAD with wLength 0, which closes a download in dfuDNLOAD-IDLE.
 pub fn is_close(setup: &[u8; 8]) -> bool
     ensures { IsTrue result ↔ IsCloseSetup setup.now }
 {
@@ -31,12 +31,12 @@ pub fn is_close(setup: &[u8; 8]) -> bool
 pub enum Objection {
     /// The image is not for this device: errTARGET.
     Target,
-    /// The image is for this device and fails a test of its vendor, such as that of a signature: errFILE.
+    /// The image is for this device, but fails a test of its vendor, such as that of a signature: errFILE.
     File,
 }
 
 impl Objection {
-    /// The status code that reports it to a host.
+    /// Returns the status code that reports the objection to a host.
     pub fn code(self) -> Code
         ensures { result ≡ objection_code self }
     {
@@ -48,11 +48,11 @@ impl Objection {
 }
 
 impl<M: Medium> Device<M> {
-    /// The program refuses the image that this setup closes: a DNLOAD of no bytes in dfuDNLOAD-IDLE, with as many bytes taken as an image
-    /// has at least. The device enters dfuERROR with errTARGET or errFILE, nothing is written, and the caller stalls the request.
+    /// Refuses the image that the setup closes: a DNLOAD of no bytes in dfuDNLOAD-IDLE, once at least the fewest bytes of an image were
+    /// taken. The device enters dfuERROR with errTARGET or errFILE, nothing is written, and the caller stalls the request.
     ///
-    /// False, with nothing changed, if it is no such setup; then the caller hands it in by `handle`, as one that the program does not
-    /// refuse.
+    /// Returns false and changes nothing if the setup is another one; then the caller hands it in by `handle`, like a setup that the
+    /// program does not refuse.
     pub fn refuse_close(&mut self, setup: &[u8; 8], objection: Objection) -> bool
         ensures closes { IsTrue result ↔ ClosesDownload setup.now self.old }
         ensures row { IsTrue result → Row self.old (RefusingClose setup.now objection) Answer.Stall [] self.new }
@@ -66,9 +66,9 @@ impl<M: Medium> Device<M> {
         true
     }
 
-    /// The program refuses the image that was closed, for a check that takes longer than a transfer may. In dfuMANIFEST-SYNC, before it is
-    /// complete, and in dfuMANIFEST the device enters dfuERROR with errTARGET or errFILE, and nothing is put in place. In every other state
-    /// nothing changes.
+    /// Refuses the image that was closed, for a program whose check takes longer than a transfer may. In dfuMANIFEST-SYNC, before it is
+    /// complete, and in dfuMANIFEST the device enters dfuERROR with errTARGET or errFILE, and nothing is put in place. In every other
+    /// state nothing changes.
     pub fn refuse(&mut self, objection: Objection)
         ensures { self.new ≡ record self.old { stage = refuse_stage objection self.old.stage } }
     {

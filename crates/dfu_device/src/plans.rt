@@ -1,17 +1,17 @@
-//! The words in which the device table says what is done, and the rows of DNLOAD and UPLOAD.
+//! The decisions from which the device table is made, and the rows of DNLOAD and UPLOAD.
 
 ghost use Rattle.std.specs.Prelude.{◌≡◌, ◌⊎◌, ◌<◌, true, ℕ, List, [], length, take};
 ghost use Rattle.dfu_slots.specs.StoreView.{SlotsState, room_of};
 ghost use Rattle.dfu_device.specs.Table.{block_plan, first_plan, further_plan, upload_plan};
 ghost use Rattle.dfu_device.specs.Parts.{is_put};
-ghost use Rattle.dfu_device.specs.Decision.{profile_in, plan_of, Allows, IsPossible};
+ghost use Rattle.dfu_device.specs.Decision.{profile_in, plan_of, AllowsDecision, IsPossibleDecision};
 
 use crate::config::Profile;
 use crate::decision::{Decision, Reply};
 use crate::device_state::DeviceState;
 use dfu_wire::{Code, Request};
 
-/// The request is acknowledged, and this mode entered.
+/// Returns the decision that acknowledges the request and enters `mode`.
 pub(crate) fn ack(mode: DeviceState) -> Decision
     ensures { result ≡ Decision.Sure Reply.Ack mode }
 {
@@ -21,7 +21,7 @@ pub(crate) fn ack(mode: DeviceState) -> Decision
     }
 }
 
-/// The request is stalled, and this mode entered.
+/// Returns the decision that stalls the request and enters `mode`.
 pub(crate) fn stall(mode: DeviceState) -> Decision
     ensures { result ≡ Decision.Sure Reply.Stall mode }
 {
@@ -31,14 +31,14 @@ pub(crate) fn stall(mode: DeviceState) -> Decision
     }
 }
 
-/// The request is stalled, and dfuERROR entered with this code.
+/// Returns the decision that stalls the request and enters dfuERROR with `code`.
 pub(crate) fn error(code: Code) -> Decision
     ensures { result ≡ Decision.Sure Reply.Stall (DeviceState.Error code) }
 {
     stall(DeviceState::Error { code })
 }
 
-/// GETSTATUS is answered with the status of the mode that is entered.
+/// Returns the decision that answers GETSTATUS with the status of `mode`, which the device enters.
 pub(crate) fn report(mode: DeviceState) -> Decision
     ensures { result ≡ Decision.Sure Reply.Status mode }
 {
@@ -48,7 +48,7 @@ pub(crate) fn report(mode: DeviceState) -> Decision
     }
 }
 
-/// GETSTATE is answered with the current state.
+/// Returns the decision that answers GETSTATE with the state of `mode`, the current one.
 pub(crate) fn tell(mode: DeviceState) -> Decision
     ensures { result ≡ Decision.Sure Reply.State mode }
 {
@@ -58,14 +58,14 @@ pub(crate) fn tell(mode: DeviceState) -> Decision
     }
 }
 
-/// DNLOAD with wLength over 0, if so many bytes are written and this number is due: the errors in their order, else the block
-/// is kept and counts as taken, not as written.
+/// Decides on a DNLOAD with wBlockNum `number` and wLength `size`, over 0, after `written` bytes, with `expected` as the number that is
+/// due: the errors in their order, else the block is kept and counts as taken, not as written.
 fn block(profile: &Profile, written: u32, expected: u16, number: u16, size: u16) -> Decision
     ensures row { (image spare block body : List ℕ) → length (take written spare) ≡ written → length body ≡ size
         → plan_of (profile_in profile.now) image spare block body result
         ≡ block_plan (profile_in profile.now) (take written spare) expected number body }
     ensures possible { (block : ℕ) (s : SlotsState) → room_of s ≡ profile.now.capacity → 0 < size
-        → (written ≡ 0) ⊎ (is_put written s ≡ true) → IsPossible profile.now.functional.transfer block size s result }
+        → (written ≡ 0) ⊎ (is_put written s ≡ true) → IsPossibleDecision profile.now.functional.transfer block size s result }
 {
     if size > profile.functional.transfer {
         return error(Code::StalledPkt);
@@ -84,11 +84,11 @@ fn block(profile: &Profile, written: u32, expected: u16, number: u16, size: u16)
     }
 }
 
-/// DNLOAD in dfuIDLE: the first block has number 0.
+/// Decides on a DNLOAD with wBlockNum `number` and wLength `size` in dfuIDLE: the first block has number 0.
 pub(crate) fn first(profile: &Profile, number: u16, size: u16) -> Decision
     ensures row { (image spare block body : List ℕ) → length body ≡ size
         → plan_of (profile_in profile.now) image spare block body result ≡ first_plan (profile_in profile.now) number body }
-    ensures possible { Allows profile.now DeviceState.DfuIdle size result }
+    ensures possible { AllowsDecision profile.now DeviceState.DfuIdle size result }
 {
     if !profile.functional.can_download || size == 0 {
         return error(Code::StalledPkt);
@@ -96,7 +96,8 @@ pub(crate) fn first(profile: &Profile, number: u16, size: u16) -> Decision
     block(profile, 0, 0, number, size)
 }
 
-/// DNLOAD in dfuDNLOAD-IDLE: one with wLength 0 closes the download, if the image is long enough.
+/// Decides on a DNLOAD with wBlockNum `number` and wLength `size` in dfuDNLOAD-IDLE: one with wLength 0 closes the download, if the image
+/// is long enough.
 pub(crate) fn further(
     profile: &Profile,
     written: u32,
@@ -107,7 +108,7 @@ pub(crate) fn further(
     ensures row { (image spare block body : List ℕ) → length (take written spare) ≡ written → length body ≡ size
         → plan_of (profile_in profile.now) image spare block body result
         ≡ further_plan (profile_in profile.now) (take written spare) expected number body }
-    ensures possible { Allows profile.now (DeviceState.DownloadIdle written expected) size result }
+    ensures possible { AllowsDecision profile.now (DeviceState.DownloadIdle written expected) size result }
 {
     if size > 0 {
         return block(profile, written, expected, number, size);
@@ -118,7 +119,8 @@ pub(crate) fn further(
     ack(DeviceState::ManifestSync { written })
 }
 
-/// UPLOAD, if so many bytes were sent and this number is due: the errors in their order, else the next bytes of the image.
+/// Decides on an UPLOAD with wBlockNum `number` and wLength `size`, after `place` bytes, with `expected` as the number that is due: the
+/// errors in their order, else the next bytes of the image.
 pub(crate) fn upload(
     profile: &Profile,
     place: u32,
@@ -128,7 +130,7 @@ pub(crate) fn upload(
 ) -> Decision
     ensures row { (image spare block body : List ℕ) → plan_of (profile_in profile.now) image spare block body result
         ≡ upload_plan (profile_in profile.now) image place expected number size }
-    ensures possible { (block body : ℕ) (s : SlotsState) → IsPossible profile.now.functional.transfer block body s result }
+    ensures possible { (block body : ℕ) (s : SlotsState) → IsPossibleDecision profile.now.functional.transfer block body s result }
 {
     if size == 0 || size > profile.functional.transfer {
         return error(Code::StalledPkt);

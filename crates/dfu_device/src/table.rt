@@ -5,7 +5,7 @@
 ghost use Rattle.std.specs.Prelude.{◌≡◌, ◌==◌, length};
 ghost use Rattle.dfu_device.specs.Rows.{body_length, asked_length, is_served};
 ghost use Rattle.dfu_device.specs.SetupDecision.{DecidesSetup};
-ghost use Rattle.dfu_device.specs.Decision.{Decides, Allows, AllowsRequest};
+ghost use Rattle.dfu_device.specs.Decision.{DecisionIsRow, AllowsDecision, AllowsRequest};
 
 use crate::config::Profile;
 use crate::decision::{Decision, Reply};
@@ -23,7 +23,7 @@ fn asked_length(request: Request) -> u16
     }
 }
 
-// Returns whether a body goes with its setup: it has wLength bytes if the host sends, and none if it reads.
+// Returns whether a body fits its setup: wLength bytes if the host sends, and none if it reads.
 fn goes_with(setup: &Setup, body: &[u8]) -> bool
     ensures { result ≡ (length body.now == body_length setup.now) }
 {
@@ -35,7 +35,7 @@ fn goes_with(setup: &Setup, body: &[u8]) -> bool
     body.len() == len
 }
 
-// Returns whether a request goes by the table: it is one of the class, and its body goes with its setup.
+// Returns whether a request goes by the table: a request of the class, whose body fits its setup.
 fn is_served(setup: &Setup, request: Request, body: &[u8]) -> bool
     ensures { result ≡ is_served setup.now request body.now }
 {
@@ -47,7 +47,7 @@ fn is_served(setup: &Setup, request: Request, body: &[u8]) -> bool
 
 // appIDLE. The timer of appDETACH is the smaller of the host's timeout and the device's.
 fn in_app_idle(profile: &Profile, request: Request) -> Decision
-    ensures row { Decides profile.now DeviceState.AppIdle request result }
+    ensures row { DecisionIsRow profile.now DeviceState.AppIdle request result }
     ensures possible { AllowsRequest profile.now DeviceState.AppIdle request result }
 {
     match request {
@@ -63,7 +63,7 @@ fn in_app_idle(profile: &Profile, request: Request) -> Decision
 
 // appDETACH. Any other request, a second DETACH too, goes back to the application.
 fn in_app_detach(timer: u32, passed: u32, request: Request) -> Decision
-    ensures row { (p : Profile) → Decides p (DeviceState.AppDetach timer passed) request result }
+    ensures row { (p : Profile) → DecisionIsRow p (DeviceState.AppDetach timer passed) request result }
     ensures possible { (p : Profile) → AllowsRequest p (DeviceState.AppDetach timer passed) request result }
 {
     match request {
@@ -75,7 +75,7 @@ fn in_app_detach(timer: u32, passed: u32, request: Request) -> Decision
 
 // dfuIDLE. A device that can't download or upload takes DNLOAD or UPLOAD as any other request.
 fn in_dfu_idle(profile: &Profile, request: Request) -> Decision
-    ensures row { Decides profile.now DeviceState.DfuIdle request result }
+    ensures row { DecisionIsRow profile.now DeviceState.DfuIdle request result }
     ensures possible { AllowsRequest profile.now DeviceState.DfuIdle request result }
 {
     match request {
@@ -92,7 +92,7 @@ fn in_dfu_idle(profile: &Profile, request: Request) -> Decision
 
 // dfuDNLOAD-SYNC, block not written. With a busy time of 0 the block is written now.
 fn in_download_sync(profile: &Profile, written: u32, number: u16, request: Request) -> Decision
-    ensures row { Decides profile.now (DeviceState.DownloadSync written number) request result }
+    ensures row { DecisionIsRow profile.now (DeviceState.DownloadSync written number) request result }
     ensures possible { AllowsRequest profile.now (DeviceState.DownloadSync written number) request result }
 {
     match request {
@@ -114,7 +114,7 @@ fn in_download_sync(profile: &Profile, written: u32, number: u16, request: Reque
 
 // dfuDNLOAD-SYNC, block written.
 fn in_download_sync_written(written: u32, number: u16, request: Request) -> Decision
-    ensures row { (p : Profile) → Decides p (DeviceState.DownloadSyncWritten written number) request result }
+    ensures row { (p : Profile) → DecisionIsRow p (DeviceState.DownloadSyncWritten written number) request result }
     ensures possible { (p : Profile) → AllowsRequest p (DeviceState.DownloadSyncWritten written number) request result }
 {
     match request {
@@ -126,7 +126,7 @@ fn in_download_sync_written(written: u32, number: u16, request: Request) -> Deci
 
 // dfuDNLOAD-IDLE
 fn in_download_idle(profile: &Profile, written: u32, number: u16, request: Request) -> Decision
-    ensures row { Decides profile.now (DeviceState.DownloadIdle written number) request result }
+    ensures row { DecisionIsRow profile.now (DeviceState.DownloadIdle written number) request result }
     ensures possible { AllowsRequest profile.now (DeviceState.DownloadIdle written number) request result }
 {
     match request {
@@ -140,7 +140,7 @@ fn in_download_idle(profile: &Profile, written: u32, number: u16, request: Reque
 
 // dfuMANIFEST-SYNC, not complete. With a manifestation time of 0 the image is put in place now.
 fn in_manifest_sync(profile: &Profile, written: u32, request: Request) -> Decision
-    ensures row { Decides profile.now (DeviceState.ManifestSync written) request result }
+    ensures row { DecisionIsRow profile.now (DeviceState.ManifestSync written) request result }
     ensures possible { AllowsRequest profile.now (DeviceState.ManifestSync written) request result }
 {
     match request {
@@ -157,7 +157,7 @@ fn in_manifest_sync(profile: &Profile, written: u32, request: Request) -> Decisi
 
 // dfuMANIFEST-SYNC, complete
 fn in_manifest_sync_complete(request: Request) -> Decision
-    ensures row { (p : Profile) → Decides p DeviceState.ManifestSyncComplete request result }
+    ensures row { (p : Profile) → DecisionIsRow p DeviceState.ManifestSyncComplete request result }
     ensures possible { (p : Profile) → AllowsRequest p DeviceState.ManifestSyncComplete request result }
 {
     match request {
@@ -169,7 +169,7 @@ fn in_manifest_sync_complete(request: Request) -> Decision
 
 // dfuUPLOAD-IDLE
 fn in_upload_idle(profile: &Profile, place: u32, number: u16, request: Request) -> Decision
-    ensures row { Decides profile.now (DeviceState.UploadIdle place number) request result }
+    ensures row { DecisionIsRow profile.now (DeviceState.UploadIdle place number) request result }
     ensures possible { AllowsRequest profile.now (DeviceState.UploadIdle place number) request result }
 {
     match request {
@@ -183,7 +183,7 @@ fn in_upload_idle(profile: &Profile, place: u32, number: u16, request: Request) 
 
 // dfuERROR
 fn in_error(code: Code, request: Request) -> Decision
-    ensures row { (p : Profile) → Decides p (DeviceState.Error code) request result }
+    ensures row { (p : Profile) → DecisionIsRow p (DeviceState.Error code) request result }
     ensures possible { (p : Profile) → AllowsRequest p (DeviceState.Error code) request result }
 {
     match request {
@@ -194,13 +194,13 @@ fn in_error(code: Code, request: Request) -> Decision
     }
 }
 
-/// Returns the decision on a request of the class in a mode: its row of the table. A DNLOAD is to have a body of wLength bytes.
+/// Returns the decision on `request`, one of the class, in `mode`: its row of the table. A DNLOAD must have a body of wLength bytes.
 ///
-/// In dfuDNBUSY and dfuMANIFEST any request is an error, GETSTATUS too, and nothing is written. In dfuMANIFEST-WAIT-RESET any
-/// request is stalled, and the device stays.
+/// In dfuDNBUSY and dfuMANIFEST any request is an error, GETSTATUS too, and nothing is written. In dfuMANIFEST-WAIT-RESET any request is
+/// stalled, and the device stays.
 #[rattlefmt::skip]
 pub fn decide(profile: &Profile, mode: DeviceState, request: Request) -> Decision
-    ensures row { Decides profile.now mode request result }
+    ensures row { DecisionIsRow profile.now mode request result }
     ensures possible { AllowsRequest profile.now mode request result }
 {
     match mode {
@@ -220,9 +220,9 @@ pub fn decide(profile: &Profile, mode: DeviceState, request: Request) -> Decisio
     }
 }
 
-/// Returns the decision on a setup with its body in a mode, and how many bytes of a status or of a state it asks for. A request that is not
-/// one of the class for interface 0, or whose body does not go with it, is stalled and changes nothing; any other one goes by the table
-/// (USB DFU 1.1, section 3 and appendix A).
+/// Returns the decision on `setup` with its `body` in `mode`, and the number of bytes of a status or of a state that it asks for. A
+/// request that is not one of the class for interface 0, or whose body does not go with it, is stalled and changes nothing; any other one
+/// goes by the table (USB DFU 1.1, section 3 and appendix A).
 pub fn asked_row(
     profile: &Profile,
     mode: DeviceState,
@@ -230,7 +230,7 @@ pub fn asked_row(
     body: &[u8],
 ) -> (Decision, u16)
     ensures row { DecidesSetup profile.now mode setup.now body.now result.0 result.1 }
-    ensures possible { Allows profile.now mode (length body.now) result.0 }
+    ensures possible { AllowsDecision profile.now mode (length body.now) result.0 }
 {
     let setup = Setup::decode(setup);
     let request = setup.request();

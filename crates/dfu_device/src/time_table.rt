@@ -1,22 +1,22 @@
-//! The rows of time that passes, as a value (USB DFU 1.1, appendix A): it makes at most one change, and the rest of the time is
-//! dropped. A block and an image take the time of the erases and programs that are due for them.
+//! The rows of time that passes, as values (USB DFU 1.1, appendix A): a time makes at most one change, and the rest of the time
+//! is dropped. A block and an image take the time of the erases and programs that are due for them.
 
 ghost use Rattle.std.specs.Prelude.{◌≡◌, ◌+◌, ◌*◌, ◌^◌, ◌≤◌, ◌<◌, ℕ, List};
-ghost use Rattle.dfu_device.specs.Pace.{edges, erases_ms, programs_ms, writes_ms, block_ms, image_ms};
-ghost use Rattle.dfu_device.specs.Stage.{poll_of};
-ghost use Rattle.dfu_device.specs.Parts.{stage_of, mode_ms};
+ghost use Rattle.dfu_device.specs.Pace.{sector_starts_from, erases_ms, programs_ms, writes_ms, block_ms, image_ms};
+ghost use Rattle.dfu_device.specs.Stage.{poll_of_stage};
+ghost use Rattle.dfu_device.specs.Parts.{stage_of, wait_ms_of_mode};
 ghost use Rattle.dfu_device.specs.DeviceView.{profile_of};
-ghost use Rattle.dfu_device.specs.Decision.{IsSilent, DecidesTime, Allows, HasTimeInputs};
+ghost use Rattle.dfu_device.specs.Decision.{IsSilentDecision, DecidesTime, AllowsDecision, HasTimeInputs};
 
 use crate::config::{Config, Pace, Profile};
 use crate::decision::{Decision, Reply};
 use crate::device_state::DeviceState;
 use crate::plans::ack;
 
-// Counts the sectors that begin in so many bytes from a place on.
+// Counts the sectors that begin in `count` bytes from `at` on.
 fn edges(sector: u32, at: u32, count: u32) -> u32
     requires { 0 < sector }
-    ensures value { result ≡ edges sector at count }
+    ensures value { result ≡ sector_starts_from sector at count }
     ensures most { result ≤ count }
 {
     let behind = at % sector;
@@ -27,11 +27,11 @@ fn edges(sector: u32, at: u32, count: u32) -> u32
     (count - rest - 1) / sector + 1
 }
 
-// The time to erase the sectors that begin in so many bytes from a place on, and so many others.
+// Returns the time to erase the sectors that begin in `count` bytes from `at` on, and `others` more.
 fn erases_ms(pace: Pace, at: u32, count: u32, others: u32) -> u32
     requires count { count ≤ 4352 }
     requires others { others ≤ 2 }
-    ensures value { result ≡ erases_ms pace (edges pace.sector at count + others) }
+    ensures value { result ≡ erases_ms pace (sector_starts_from pace.sector at count + others) }
     ensures fits { result < 2 ^ 29 }
 {
     if pace.sector == 0 {
@@ -40,7 +40,7 @@ fn erases_ms(pace: Pace, at: u32, count: u32, others: u32) -> u32
     (edges(pace.sector, at, count) + others) * u32::from(pace.erase_ms)
 }
 
-// The time to program so many bytes.
+// Returns the time to program `count` bytes.
 fn programs_ms(pace: Pace, count: u32) -> u32
     requires { count ≤ 4864 }
     ensures value { result ≡ programs_ms pace count }
@@ -49,7 +49,8 @@ fn programs_ms(pace: Pace, count: u32) -> u32
     (count * u32::from(pace.program_ms) + 255) / 256
 }
 
-// The time to write so many bytes from a place in a slot's data on, and so many gates and headers, at most what fits in bwPollTimeout.
+// Returns the time to write `count` bytes from `at` on in a slot's data, and `others` gates and headers; at most what fits in
+// bwPollTimeout.
 fn writes_ms(pace: Pace, base: u32, at: u32, count: u32, others: u32) -> u32
     requires count { count ≤ 4352 }
     requires others { others ≤ 2 }
@@ -61,7 +62,7 @@ fn writes_ms(pace: Pace, base: u32, at: u32, count: u32, others: u32) -> u32
     base.saturating_add(erases + programs).min(0xff_ffff)
 }
 
-// The time of a block of so many bytes after those written.
+// Returns the time of a block of `block_len` bytes after `written` ones.
 fn block_ms(pace: Pace, base: u32, written: u32, block_len: usize) -> u32
     ensures value { result ≡ block_ms pace base written block_len }
     ensures fits { result < 2 ^ 24 }
@@ -73,7 +74,7 @@ fn block_ms(pace: Pace, base: u32, written: u32, block_len: usize) -> u32
     writes_ms(pace, base, written - behind, all - all % unit, others)
 }
 
-// The time to put an image of so many bytes in place.
+// Returns the time to put an image of `written` bytes in place.
 fn image_ms(pace: Pace, base: u32, written: u32) -> u32
     ensures value { result ≡ image_ms pace base written }
     ensures fits { result < 2 ^ 24 }
@@ -84,11 +85,11 @@ fn image_ms(pace: Pace, base: u32, written: u32) -> u32
     writes_ms(pace, base, written - behind, count, 2)
 }
 
-/// Returns the time that the host must wait in a mode with a block of so many bytes, in milliseconds (bwPollTimeout).
+/// Returns the milliseconds that the host must wait in a mode with a block of `block_len` bytes (bwPollTimeout).
 pub fn poll_ms(config: &Config, mode: DeviceState, block_len: usize) -> u32
     ensures value { (room : ℕ) (spare block : List ℕ) → HasTimeInputs mode block_len spare block
-        → result ≡ poll_of (profile_of config.now room) (stage_of mode spare block) }
-    ensures time { result ≡ mode_ms config.now mode block_len }
+        → result ≡ poll_of_stage (profile_of config.now room) (stage_of mode spare block) }
+    ensures time { result ≡ wait_ms_of_mode config.now mode block_len }
     ensures fits { result < 2 ^ 24 }
 {
     match mode {
@@ -105,8 +106,8 @@ pub fn poll_ms(config: &Config, mode: DeviceState, block_len: usize) -> u32
 // appDETACH: the timer runs out, or the device detaches by itself. A timer of 0 counts as 1.
 fn in_app_detach(profile: &Profile, timer: u32, passed: u32, ms: u32) -> Decision
     ensures row { (n : ℕ) → DecidesTime profile.now (DeviceState.AppDetach timer passed) n ms result }
-    ensures possible { Allows profile.now (DeviceState.AppDetach timer passed) 0 result }
-    ensures silent { IsSilent result }
+    ensures possible { AllowsDecision profile.now (DeviceState.AppDetach timer passed) 0 result }
+    ensures silent { IsSilentDecision result }
 {
     let now = u64::from(passed) + u64::from(ms);
     if ms == 0 {
@@ -123,7 +124,7 @@ fn in_app_detach(profile: &Profile, timer: u32, passed: u32, ms: u32) -> Decisio
     }
 }
 
-// dfuDNBUSY: the block, which has so many bytes, is written once its time has passed.
+// dfuDNBUSY: the block of `block_len` bytes is written once its time has passed.
 fn in_download_busy(
     profile: &Profile,
     written: u32,
@@ -133,8 +134,8 @@ fn in_download_busy(
     ms: u32,
 ) -> Decision
     ensures row { DecidesTime profile.now (DeviceState.DownloadBusy written number passed) block_len ms result }
-    ensures possible { Allows profile.now (DeviceState.DownloadBusy written number passed) 0 result }
-    ensures silent { IsSilent result }
+    ensures possible { AllowsDecision profile.now (DeviceState.DownloadBusy written number passed) 0 result }
+    ensures silent { IsSilentDecision result }
 {
     let now = u64::from(passed) + u64::from(ms);
     let limit = block_ms(profile.pace, profile.busy_ms, written, block_len);
@@ -157,8 +158,8 @@ fn in_download_busy(
 // waits for a reset.
 fn in_manifest(profile: &Profile, written: u32, passed: u32, ms: u32) -> Decision
     ensures row { (n : ℕ) → DecidesTime profile.now (DeviceState.Manifest written passed) n ms result }
-    ensures possible { Allows profile.now (DeviceState.Manifest written passed) 0 result }
-    ensures silent { IsSilent result }
+    ensures possible { AllowsDecision profile.now (DeviceState.Manifest written passed) 0 result }
+    ensures silent { IsSilentDecision result }
 {
     let now = u64::from(passed) + u64::from(ms);
     let limit = image_ms(profile.pace, profile.manifest_ms, written);
@@ -180,12 +181,12 @@ fn in_manifest(profile: &Profile, written: u32, passed: u32, ms: u32) -> Decisio
     })
 }
 
-/// Returns the decision on so many milliseconds in a mode with a block of so many bytes: their row of the table. In the other modes nothing
-/// comes of them.
+/// Returns the decision on `ms` milliseconds in a mode with a block of `block_len` bytes: their row of the table. In the other modes
+/// nothing comes of them.
 pub fn decide_time(profile: &Profile, mode: DeviceState, block_len: usize, ms: u32) -> Decision
     ensures row { DecidesTime profile.now mode block_len ms result }
-    ensures possible { Allows profile.now mode 0 result }
-    ensures silent { IsSilent result }
+    ensures possible { AllowsDecision profile.now mode 0 result }
+    ensures silent { IsSilentDecision result }
 {
     match mode {
         DeviceState::AppDetach { timer, passed } => in_app_detach(profile, timer, passed, ms),

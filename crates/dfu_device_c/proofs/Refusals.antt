@@ -1,34 +1,34 @@
--- Device of a record after a refusal of the program.
+-- Devices of a record after a refusal of the program.
 use Rattle.std.proofs.Common.{◌≡◌, ℕ, true, IsTrue, List, [], length, refl, sym, ap, ◌∙◌, subst}
 use Rattle.dfu_slots.specs.StoreView.{SlotsState, spare_of}
 use Rattle.dfu_device.specs.declared.answer.Answer.TheVariants as answer
 use Rattle.dfu_device.specs.declared.device_state.DeviceState.{DeviceState}
 use Rattle.dfu_device.specs.declared.objection.Objection.{Objection}
-use Rattle.dfu_device.specs.Parts.{stage_of, is_filled, is_sound}
+use Rattle.dfu_device.specs.Parts.{stage_of, is_filled, are_device_parts}
 use Rattle.dfu_device.specs.Rows.{ClosesDownload, RefusingClose, Refusing, Row}
 use Rattle.dfu_device.specs.Stage.{InError}
 use Rattle.dfu_device.specs.Table.{objection_code, refuse_stage}
-use Rattle.dfu_device.proofs.Carried.{filled}
+use Rattle.dfu_device.proofs.Carried.{parts_filled_by_mode}
 use Rattle.dfu_asks.specs.Lent.{LentDevice}
-use Rattle.dfu_asks.specs.Asks.{store_in, device_in, IsDevice}
+use Rattle.dfu_asks.specs.Asks.{flash_store, device_in, IsDevice}
 use Rattle.dfu_core.specs.declared.config.DfuConfig.{DfuConfig}
-use Rattle.dfu_core.specs.Config.{setting_of}
+use Rattle.dfu_core.specs.Config.{config_setting}
 
-module _ (c : DfuConfig) (m m' : DeviceState) (why : Objection) (l : LentDevice) (flash : List ℕ) (config : l.config ≡ setting_of c)
+module _ (c : DfuConfig) (m m' : DeviceState) (why : Objection) (l : LentDevice) (flash : List ℕ) (config : l.config ≡ config_setting c)
     (mode : m ≡ l.mode) (device : IsDevice l flash) where
   abbrev s : SlotsState
-  s = store_in l flash
+  s = flash_store l flash
 
-  sound : IsTrue (is_sound m (length l.block) s)
-  sound = subst (λ (x : DeviceState). IsTrue (is_sound x (length l.block) s)) (sym mode) device.sound
+  sound : IsTrue (are_device_parts m (length l.block) s)
+  sound = subst (λ (x : DeviceState). IsTrue (are_device_parts x (length l.block) s)) (sym mode) device.sound
 
-  -- An image that was closed.
-  pub refuse_leads : ((spare block : List ℕ) → stage_of m' spare block ≡ refuse_stage why (stage_of m spare block))
+  -- A refusal of an image that was closed is the row of `refuse`.
+  pub refused_image_takes_row : ((spare block : List ℕ) → stage_of m' spare block ≡ refuse_stage why (stage_of m spare block))
       → ((n : ℕ) (x : SlotsState) → is_filled m n x ≡ true → is_filled m' n x ≡ true)
       → IsTrue (is_filled m' (length l.block) s)
       × Row (device_in l flash) (Refusing why) answer.Ack [] (device_in (record l { mode = m' }) flash)
-  refuse_leads stage fills = (
-    fills (length l.block) s (filled m (length l.block) s sound),
+  refused_image_takes_row stage fills = (
+    fills (length l.block) s (parts_filled_by_mode m (length l.block) s sound),
     (
       refl,
       refl,
@@ -37,13 +37,13 @@ module _ (c : DfuConfig) (m m' : DeviceState) (why : Objection) (l : LentDevice)
     ),
   )
 
-  -- One that this setup closes.
-  pub close_leads : (setup : List ℕ) → ClosesDownload setup (device_in l flash)
+  -- A refusal of the image that the setup closes is the row of `refuse_close`.
+  pub refused_close_takes_row : (setup : List ℕ) → ClosesDownload setup (device_in l flash)
       → ((spare block : List ℕ) → stage_of m' spare block ≡ InError (objection_code why))
       → ((n : ℕ) (x : SlotsState) → is_filled m' n x ≡ true)
       → IsTrue (is_filled m' (length l.block) s)
       × Row (device_in l flash) (RefusingClose setup why) answer.Stall [] (device_in (record l { mode = m' }) flash)
-  close_leads setup closes stage fills = (
+  refused_close_takes_row setup closes stage fills = (
     fills (length l.block) s,
     (refl, refl, closes, ap (λ st. record (device_in l flash) { stage = st }) (stage (spare_of s) l.block)),
   )

@@ -8,77 +8,80 @@ use Rattle.dfu_slots.specs.Units.{unit_size}
 use Rattle.dfu_device.specs.Setting.{Setting}
 use Rattle.dfu_asks.specs.declared.asking.Asking.{Asking}
 use Rattle.dfu_asks.specs.declared.sector.Sector.{Sector}
-use Rattle.dfu_asks.specs.Lent.{LentDevice, lent, HasRoom, IsSetUpAs}
+use Rattle.dfu_asks.specs.Lent.{LentDevice, lent, HasRoom, SameSetup}
 use Rattle.dfu_asks.specs.Refused.{RoomForBlocks, IsDeviceOn, IsRefusedCall as IsRefusedFor}
 use Rattle.dfu_asks.specs.declared.reply.Refusal.{Refusal as Why}
 use Rattle.dfu_core.specs.declared.config.DfuConfig.{DfuConfig}
 use Rattle.dfu_core.specs.declared.record.DfuRecord.{DfuRecord}
 use Rattle.dfu_core.specs.declared.numbers.Refusal.{Refusal}
 use Rattle.dfu_core.specs.Config.{transfer_of, block_memory_size, IsConfig}
-use Rattle.dfu_core.specs.RecordMeaning.{IsRecordOf, IsSetUp, block_in, tail_memory, with_memory}
-use Rattle.dfu_core.specs.Calls.{RecordCall, CoreRefuses, IsIntact, CallRefusal}
+use Rattle.dfu_core.specs.RecordMeaning.{IsRecordOf, IsSetupOfConfig, block_in_memory, tail_memory, with_memory}
+use Rattle.dfu_core.specs.Calls.{RecordAfterCall, CoreRefuses, IsIntactBlock, CallRefusal}
 use Rattle.dfu_core.specs.Numbers.{refusal_of, refusal_number}
-use Rattle.dfu_device_c.proofs.Found.{cause_of}
+use Rattle.dfu_device_c.proofs.Found.{refusal_cause_of_call}
 
--- These are the two parts.
+-- `front` and `held` are the two parts of the memory.
 pub record IsSplit (a : Asking) (memory front held : List ℕ) : Type 0 where
-  pub front_is : block_in a memory ≡ front
+  pub front_is : block_in_memory a memory ≡ front
   pub held_is : tail_memory a memory ≡ held
 
-split : (a : Asking) (memory front held : List ℕ) → memory ≡ front ++ held → length front ≡ a.config.functional.transfer
+memory_of_two_parts_is_split : (a : Asking) (memory front held : List ℕ) → memory ≡ front ++ held → length front
+    ≡ a.config.functional.transfer
     → IsSplit a memory front held
-split a memory front held is size = record {
+memory_of_two_parts_is_split a memory front held is size = record {
   front_is = (λ i. take (sym size i) (is i)) ∙ take-append_seam front held;
   held_is = (λ i. drop (sym size i) (is i)) ∙ drop-append_seam front held;
 }
 
--- Memory is its front and what follows it.
-pub joined : (n : ℕ) (memory front held : List ℕ) → front ≡ take n memory → held ≡ drop n memory → memory ≡ front ++ held
-joined n memory front held is is' = sym ((λ i. is i ++ is' i) ∙ take-append-drop n memory)
+-- A memory is its first n bytes and the rest.
+pub memory_is_front_and_rest : (n : ℕ) (memory front held : List ℕ) → front ≡ take n memory → held ≡ drop n memory → memory ≡ front ++ held
+memory_is_front_and_rest n memory front held is is' = sym ((λ i. is i ++ is' i) ∙ take-append-drop n memory)
 
 module _ {a : Asking} {memory front held : List ℕ} (s : IsSplit a memory front held) where
-  -- The device with the memory is the one with both parts.
-  pub lent_is : with_memory memory a ≡ lent a front held
-  lent_is = λ i. lent a (s.front_is i) (s.held_is i)
+  -- A device with the memory is the device with both parts.
+  pub split_memory_is_lent : with_memory memory a ≡ lent a front held
+  split_memory_is_lent = λ i. lent a (s.front_is i) (s.held_is i)
 
-  -- If it is as the last call left it, so it is with the two parts.
-  pub whole : (flash : List ℕ) → IsIntact memory flash a → IsDeviceOn a front held flash
+  -- If the memory is as the last call left it, so are both parts.
+  pub whole : (flash : List ℕ) → IsIntactBlock memory flash a → IsDeviceOn a front held flash
   whole flash is = subst (λ (h : List ℕ). IsDeviceOn a front h flash) s.held_is
       (subst (λ (f : List ℕ). IsDeviceOn a f (tail_memory a memory) flash) s.front_is is)
 
-  -- And the other way round.
-  pub intact : (flash : List ℕ) → IsDeviceOn a front held flash → IsIntact memory flash a
+  -- If both parts are as the last call left them, so is the memory.
+  pub intact : (flash : List ℕ) → IsDeviceOn a front held flash → IsIntactBlock memory flash a
   intact flash is = subst (λ (f : List ℕ). IsDeviceOn a f (tail_memory a memory) flash) (sym s.front_is)
       (subst (λ (h : List ℕ). IsDeviceOn a front h flash) (sym s.held_is) is)
 
-  -- Refusal of a call with the two parts.
-  refused_for : (e : Why) (flash : List ℕ) (need room : ℕ) → IsRefusedFor e a front held flash need room
-      → IsRefusedFor e a (block_in a memory) (tail_memory a memory) flash need room
-  refused_for e flash need room is = subst (λ (f : List ℕ). IsRefusedFor e a f (tail_memory a memory) flash need room) (sym s.front_is)
+  -- A refusal of a call with both parts is a refusal with the memory.
+  refused_for_both_parts : (e : Why) (flash : List ℕ) (need room : ℕ) → IsRefusedFor e a front held flash need room
+      → IsRefusedFor e a (block_in_memory a memory) (tail_memory a memory) flash need room
+  refused_for_both_parts e flash need room is = subst (λ (f : List ℕ). IsRefusedFor e a f (tail_memory a memory) flash need room) (sym
+      s.front_is)
       (subst (λ (h : List ℕ). IsRefusedFor e a front h flash need room) (sym s.held_is) is)
 
--- A call does with the memory what it does with the two parts.
-pub in_memory : {a a' : Asking} {memory front held memory' front' held' : List ℕ} (Does : LentDevice → LentDevice → Type 0)
+-- A call does to the device with the memory what it does to the device with both parts.
+pub call_in_split_memory : {a a' : Asking} {memory front held memory' front' held' : List ℕ} (Does : LentDevice → LentDevice → Type 0)
     → IsSplit a memory front held → IsSplit a' memory' front' held' → Does (lent a front held) (lent a' front' held')
     → Does (with_memory memory a) (with_memory memory' a')
-in_memory {a} {a'} {memory} {front} {held} {memory'} Does s s' is =
-    subst (λ (l : LentDevice). Does l (with_memory memory' a')) (sym (lent_is s))
-    (subst (λ (l : LentDevice). Does (lent a front held) l) (sym (lent_is s')) is)
+call_in_split_memory {a} {a'} {memory} {front} {held} {memory'} Does s s' is =
+    subst (λ (l : LentDevice). Does l (with_memory memory' a')) (sym (split_memory_is_lent s))
+    (subst (λ (l : LentDevice). Does (lent a front held) l) (sym (split_memory_is_lent s')) is)
 
--- A record is this device, the configuration is allowed, and the memory of the block has room, and was split at the
--- transfer size.
-pub record IsParted (k : DfuConfig) (r : DfuRecord) (a : Asking) (memory front held : List ℕ) : Type 0 where
+-- The record stands for the device a, the configuration is allowed, and the memory of the block has room and was split at the transfer
+-- size.
+pub record IsDeviceOfSplitMemory (k : DfuConfig) (r : DfuRecord) (a : Asking) (memory front held : List ℕ) : Type 0 where
   pub kept : IsRecordOf k r a
   pub config : IsConfig k
   pub room : block_memory_size k ≤ length memory
   pub parts : memory ≡ front ++ held
   pub size : length front ≡ transfer_of k
 
--- So it is if `found` gave that device.
-pub is_parted : (k : DfuConfig) (r : DfuRecord) (a : Asking) (memory front held : List ℕ) (said : Result Asking Refusal) → said ≡ Ok a
+-- If `found` returned a device, the record stands for it, and its memory was split.
+pub found_device_has_split_memory : (k : DfuConfig) (r : DfuRecord) (a : Asking) (memory front held : List ℕ) (said : Result Asking
+    Refusal) → said ≡ Ok a
     → IfOk said (λ x. IsRecordOf k r x) → OnOk said (IsConfig k) → OnOk said (block_memory_size k ≤ length memory)
-    → memory ≡ front ++ held → length front ≡ transfer_of k → IsParted k r a memory front held
-is_parted k r a memory front held said is kept config room parts size = record {
+    → memory ≡ front ++ held → length front ≡ transfer_of k → IsDeviceOfSplitMemory k r a memory front held
+found_device_has_split_memory k r a memory front held said is kept config room parts size = record {
   kept = IfOk-at_ok _ is kept;
   config = IfOk-at_ok _ is config;
   room = IfOk-at_ok _ is room;
@@ -86,7 +89,7 @@ is_parted k r a memory front held said is kept config room parts size = record {
   size = size;
 }
 
-module _ {k : DfuConfig} {r : DfuRecord} {a : Asking} {memory front held : List ℕ} (p : IsParted k r a memory front held) where
+module _ {k : DfuConfig} {r : DfuRecord} {a : Asking} {memory front held : List ℕ} (p : IsDeviceOfSplitMemory k r a memory front held) where
   -- The second part has room for a unit.
   pub has_room : HasRoom a.unit held
   has_room = omega (
@@ -98,36 +101,38 @@ module _ {k : DfuConfig} {r : DfuRecord} {a : Asking} {memory front held : List 
     ap unit_size p.kept.set_up.unit_is,
   )
 
-  -- The device has the two parts.
-  pub split_in : IsSplit a memory front held
-  split_in = split a memory front held p.parts (p.size ∙ sym (ap (λ (s : Setting). s.functional.transfer) p.kept.set_up.config_is))
+  -- The memory of the device has the two parts.
+  pub device_memory_is_split : IsSplit a memory front held
+  device_memory_is_split = memory_of_two_parts_is_split a memory front held p.parts (p.size
+      ∙ sym (ap (λ (s : Setting). s.functional.transfer) p.kept.set_up.config_is))
 
-  -- So has one that is set up like it, after a call that leaves the first part as long as it was.
-  pub split_after : {a' : Asking} (memory' front' held' : List ℕ) → IsSetUpAs a a' → memory' ≡ front' ++ held'
+  -- After a call that keeps the setup of the device and the length of the first part, the memory has two parts again.
+  pub memory_is_split_after_call : {a' : Asking} (memory' front' held' : List ℕ) → SameSetup a a' → memory' ≡ front' ++ held'
       → length front' ≡ length front
       → IsSplit a' memory' front' held'
-  split_after {a'} memory' front' held' same parts long = split a' memory' front' held' parts
+  memory_is_split_after_call {a'} memory' front' held' same parts long = memory_of_two_parts_is_split a' memory' front' held' parts
       (long ∙ p.size ∙ sym (ap (λ (s : Setting). s.functional.transfer) (same.config ∙ p.kept.set_up.config_is)))
 
-  -- Bytes that fit in a first part that long fit in the transfer size.
-  pub fits_front : {a' : Asking} (front' : List ℕ) → length front' ≡ length front → RoomForBlocks a' (length front')
+  -- If the first part has its old length, and the device has room in it, the device has room in the transfer size.
+  pub front_fits_transfer_size : {a' : Asking} (front' : List ℕ) → length front' ≡ length front → RoomForBlocks a' (length front')
       → RoomForBlocks a' (transfer_of k)
-  fits_front {a'} front' long fits = subst (λ (n : ℕ). RoomForBlocks a' n) (long ∙ p.size) fits
+  front_fits_transfer_size {a'} front' long fits = subst (λ (n : ℕ). RoomForBlocks a' n) (long ∙ p.size) fits
 
-  -- If both parts are as they were, the memory is.
+  -- If both parts are as they were, so is the memory.
   pub unchanged : (front' held' : List ℕ) → front' ≡ front → held' ≡ held → front' ++ held' ≡ memory
   unchanged front' held' same same' = (λ i. same i ++ same' i) ∙ sym p.parts
 
-  -- With another second part the first one is as it was.
-  pub same_front : (held' : List ℕ) → take (transfer_of k) (front ++ held') ≡ take (transfer_of k) memory
-  same_front held' =
+  -- With another second part, the first part of the memory stays.
+  pub front_same_with_other_tail : (held' : List ℕ) → take (transfer_of k) (front ++ held') ≡ take (transfer_of k) memory
+  front_same_with_other_tail held' =
       (λ i. take (sym p.size i) (front ++ held')) ∙ take-append_seam front held' ∙ sym (take-append_seam front held)
       ∙ (λ i. take (p.size i) (sym p.parts i))
 
-  -- A call took the device to one that was kept.
-  pub goes : {r' : DfuRecord} {a' : Asking} {memory' : List ℕ} {Does : Asking → Asking → Type 0} → IsSetUpAs a a'
-      → (IsSetUp k a'.config a'.unit a'.sector → IsRecordOf k r' a') → (RoomForBlocks a (transfer_of k) → RoomForBlocks a' (transfer_of k))
-      → Does a a' → RecordCall k r memory r' memory' Does
+  -- A call changed the device, and the record was written for the device after it.
+  pub goes : {r' : DfuRecord} {a' : Asking} {memory' : List ℕ} {Does : Asking → Asking → Type 0} → SameSetup a a'
+      → (IsSetupOfConfig k a'.config a'.unit a'.sector → IsRecordOf k r' a')
+      → (RoomForBlocks a (transfer_of k) → RoomForBlocks a' (transfer_of k))
+      → Does a a' → RecordAfterCall k r memory r' memory' Does
   goes {a' = a'} same kept fits does = record {
     config = p.config;
     room = p.room;
@@ -143,7 +148,7 @@ module _ {k : DfuConfig} {r : DfuRecord} {a : Asking} {memory front held : List 
     does = does;
   }
 
-  -- A call was refused, for this, if its buffer has room for the answer.
+  -- A call was refused for the reason `why`, if its buffer has room for the answer.
   pub refuses : (why : Why) (flash : List ℕ) (need room : ℕ) {e : Refusal} {n : ℤ} {r' : DfuRecord} {memory' : List ℕ} → need ≤ room
       → IsRefusedFor why a front held flash need room → e ≡ refusal_of why → n ≡ refusal_number e → r' ≡ r → memory' ≡ memory
       → CoreRefuses k r memory flash n r' memory'
@@ -156,7 +161,7 @@ module _ {k : DfuConfig} {r : DfuRecord} {a : Asking} {memory front held : List 
       p.kept,
       p.room,
       subst (λ (x : Refusal). CallRefusal x memory flash a) (sym e_is)
-          (cause_of why memory flash a need room fits (refused_for split_in why flash need room is)),
+          (refusal_cause_of_call why memory flash a need room fits (refused_for_both_parts device_memory_is_split why flash need room is)),
     );
     unchanged = same;
     block_is = same';

@@ -1,4 +1,4 @@
--- An answer about the devices of a setting in a mode is one about each device that a record is.
+-- Answers about a record, which are true of the device for which it stands.
 use Rattle.std.proofs.Common.{◌≡◌, ◌⊎◌, inl, inr, min, Bool, true, false, ℕ, ℤ, pos, List, sym, ◌∙◌, refl, subst, length, arith}
 use Rattle.dfu_slots.specs.declared.layout.Unit.{Unit as WriteUnit}
 use Rattle.dfu_slots.specs.StoreView.{spare_of}
@@ -7,59 +7,61 @@ use Rattle.dfu_device.specs.DeviceView.{DeviceView}
 use Rattle.dfu_device.specs.Setting.{Setting}
 use Rattle.dfu_asks.specs.declared.asking.Asking.{Asking}
 use Rattle.dfu_asks.specs.declared.sector.Sector.{Sector}
-use Rattle.dfu_asks.specs.Asks.{grain_in, store_in, device_in, IsDevice}
+use Rattle.dfu_asks.specs.Asks.{grain_in, flash_store, device_in, IsDevice}
 use Rattle.dfu_asks.specs.InMode.{IsDeviceIn}
 use Rattle.dfu_asks.specs.Lent.{LentDevice}
 use Rattle.dfu_asks.specs.Mapped.{grain_of}
 use Rattle.dfu_asks.specs.Times.{due_of, ChangesOnceDue}
-use Rattle.dfu_asks.proofs.DueTimes.{time_due}
+use Rattle.dfu_asks.proofs.DueTimes.{times_in_each_mode}
 use Rattle.dfu_core.specs.declared.config.DfuConfig.{DfuConfig}
 use Rattle.dfu_core.specs.declared.record.DfuRecord.{DfuRecord}
-use Rattle.dfu_core.specs.Due.{LATEST, DueResult}
-use Rattle.dfu_core.specs.RecordMeaning.{IsRecordOf, IsSetUp, with_memory, block_in}
+use Rattle.dfu_core.specs.Due.{LONGEST_DUE, DueResult}
+use Rattle.dfu_core.specs.RecordMeaning.{IsRecordOf, IsSetupOfConfig, with_memory, block_in_memory}
 use Rattle.dfu_core.specs.Mode.{HasMode}
-use Rattle.dfu_core.specs.Numbers.{told_number}
+use Rattle.dfu_core.specs.Numbers.{yes_no_number}
 use Rattle.std.proofs.lemmas.List.{length-take}
 use Rattle.dfu_device.specs.Decision.{HasTimeInputs}
 use Rattle.dfu_device.proofs.Carried.{holds_time}
 
--- A yes or a no has one of two numbers.
-pub two : (said : Bool) (n : ℤ) → n ≡ told_number said → (n ≡ pos 0) ⊎ (n ≡ pos 1)
-two true n is = inr is
-two false n is = inl is
+-- The number of a yes or a no is 0 or 1.
+pub yes_no_is_two_numbers : (said : Bool) (n : ℤ) → n ≡ yes_no_number said → (n ≡ pos 0) ⊎ (n ≡ pos 1)
+yes_no_is_two_numbers true n is = inr is
+yes_no_is_two_numbers false n is = inl is
 
 module _ (c : DfuConfig) (r : DfuRecord) {config : Setting} {unit : WriteUnit} {sector : Sector} (m : DeviceState)
-    (set_up : IsSetUp c config unit sector) (the_mode : (x : DeviceState) → HasMode r x → m ≡ x) (block flash : List ℕ) (a : Asking)
+    (set_up : IsSetupOfConfig c config unit sector) (the_mode : (x : DeviceState) → HasMode r x → m ≡ x) (block flash : List ℕ) (a : Asking)
     (kept : IsRecordOf c r a) where
-  -- The record is a device of this setting in this mode.
-  pub kept_in : IsDevice (with_memory block a) flash → IsDeviceIn config m (with_memory block a) flash
-  kept_in device = record {
+  -- The device of the record has the setting, and is in the mode.
+  pub record_device_is_in_mode : IsDevice (with_memory block a) flash → IsDeviceIn config m (with_memory block a) flash
+  record_device_is_in_mode device = record {
     config_is = kept.set_up.config_is ∙ sym set_up.config_is;
     mode_is = sym (the_mode a.mode kept.mode);
     device = device;
   }
 
-  -- Its flash is written like this.
+  -- The device of the record writes its flash in the unit and the sectors.
   pub grain_is : grain_in (with_memory block a) ≡ grain_of unit sector
   grain_is = λ i. record {
     unit = (kept.set_up.unit_is ∙ sym set_up.unit_is) i;
     sector = (kept.set_up.sector_is ∙ sym set_up.sector_is) i;
   }
 
--- A change of its state is due when it is said to be.
-pub told_due : (c : DfuConfig) (r : DfuRecord) {config : Setting} {unit : WriteUnit} {sector : Sector} (m : DeviceState) (result : ℤ)
-    → IsSetUp c config unit sector → ((x : DeviceState) → HasMode r x → m ≡ x) → result ≡ pos (min LATEST (due_of config m r.length))
+-- The state of the record's device changes when the result says so.
+pub due_result_of_record : (c : DfuConfig) (r : DfuRecord) {config : Setting} {unit : WriteUnit} {sector : Sector} (m : DeviceState)
+    (result : ℤ)
+    → IsSetupOfConfig c config unit sector → ((x : DeviceState) → HasMode r x → m ≡ x)
+    → result ≡ pos (min LONGEST_DUE (due_of config m r.length))
     → DueResult c r result
-told_due c r {config = config} m result set_up the_mode says = record {
+due_result_of_record c r {config = config} m result set_up the_mode says = record {
   due = due_of config m r.length;
   number_is = says;
   told = λ memory flash a kept on ms d' went.
       let l : LentDevice = with_memory memory a in
       let d : DeviceView = device_in l flash in
-      let s = store_in l flash in
-      let in_mode : IsDeviceIn config m l flash = kept_in c r m set_up the_mode memory flash a kept on.is in
-      let whole : length l.block ≡ a.block_len = omega (arith, length-take a.block_len (block_in a memory), on.fits.block) in
+      let s = flash_store l flash in
+      let in_mode : IsDeviceIn config m l flash = record_device_is_in_mode c r m set_up the_mode memory flash a kept on.is in
+      let whole : length l.block ≡ a.block_len = omega (arith, length-take a.block_len (block_in_memory a memory), on.fits.block) in
       subst (λ (k : ℕ). ChangesOnceDue k ms d d') (λ i. due_of (in_mode.config_is i) (in_mode.mode_is i) (kept.block i))
-      (time_due ms d d' l.mode a.block_len (spare_of s) l.block
+      (times_in_each_mode ms d d' l.mode a.block_len (spare_of s) l.block
       (subst (λ (n : ℕ). HasTimeInputs l.mode n (spare_of s) l.block) whole (holds_time l.mode l.block s on.is.sound)) refl went);
 }

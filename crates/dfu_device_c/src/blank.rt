@@ -6,11 +6,10 @@ use crate::tells::told_number;
 use dfu_asks::Mapped;
 use dfu_core::{DfuConfig, settings_of};
 
-/// Returns whether the flash reads as if it was never written: 1 if every byte that the gates and the headers of both slots take up is FFh,
-/// and then there is no active image; 0 if one is not.
+/// Returns 1 if `flash` reads as if it was never written: every byte of the gates and the headers of both slots is FFh, and then there is
+/// no active image. Returns 0 if a byte of them is not FFh.
 ///
-/// Refused with -2 if the configuration is not allowed; -3 if the flash has 2^32 bytes or more; -6 if it has not as
-/// many as two slots can have.
+/// Refused with -2 if the configuration is not allowed; -3 if the flash has 2^32 bytes or more; -6 if two slots cannot have its size.
 #[unsafe(no_mangle)]
 pub extern "C" fn dfu_core_is_blank(config: &DfuConfig, flash: &[u8]) -> i32
     ensures outcome { BlankResult config.now flash.now result ⊎ RefusesBlank config.now flash.now result }

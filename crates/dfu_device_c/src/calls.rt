@@ -1,23 +1,25 @@
 //! The calls for a device that asks, as a program in C makes them: `include/dfu_core.h` says each for a reader of C.
 //!
-//! Every call is refused, in this order, with -12 if a format is due; -2 if the configuration is not allowed; -10 if the block's memory
-//! has less room than the transfer size and the unit together; -4 if the record is no device's; -12 if writes are due; -3 if the header
-//! that the record notes is not in an open slot of the flash; -4 if record or memory are not as the last call left them on this flash.
+//! Every call is refused, in this order, with -12 if a format is due; -2 if the configuration is not allowed; -10 if the block's memory has
+//! less room than the transfer size and the unit together; -4 if the record is not that of a device; -12 if writes are due; -3 if the
+//! header that the record notes is not in an open slot of the flash; -4 if record or memory are not as the last call left them on the
+//! flash.
 ghost use Rattle.std.specs.Prelude.{◌≡◌, ◌⊎◌, ◌<◌, [], ℕ, List, pos, length, take};
 ghost use Rattle.dfu_slots.specs.Medium.{Torn};
 ghost use Rattle.dfu_device.specs.Borrowed.{answer_room};
 ghost use Rattle.dfu_core.specs.Board.{CoreHandle, CoreElapse, CoreReset, CoreWrite, CoreTook, core_board};
-ghost use Rattle.dfu_core.specs.Config.{setting_of, transfer_of};
-ghost use Rattle.dfu_core.specs.Happens.{CoreHappens};
+ghost use Rattle.dfu_core.specs.Config.{config_setting, transfer_of};
+ghost use Rattle.dfu_core.specs.Happens.{CoreEventOutcome};
 ghost use Rattle.dfu_core.specs.RecordMeaning.{with_memory};
-ghost use Rattle.dfu_core.specs.Numbers.{NO_ROOM};
-ghost use Rattle.dfu_core.specs.Writes.{ask_step, HandsOut, RefusesPiece, HandsNothing};
+ghost use Rattle.dfu_core.specs.Numbers.{NO_ROOM_NUMBER};
+ghost use Rattle.dfu_core.specs.Writes.{ask_step, WriteHandedOut, RefusesPiece, NoWriteHandedOut};
 
 use crate::tells::{NO_ROOM, kind_of, number_of, refused, room_for};
 use dfu_asks::{Reply, addressed};
 use dfu_core::{ASKS, DfuAsk, DfuConfig, DfuRecord, Refusal, found, keep};
 
-// Keeps the device after a call, and gives the number of what it replied; or that of the refusal, and nothing is kept.
+// Writes the device into its record after a call, and returns the number of its reply; if the call was refused, writes nothing, and returns
+// the number of the refusal.
 macro_rules! reply {
     ($asking:ident, $device:ident, $called:expr, $answered:pat => $number:expr, $refusal:pat => $refused:expr) => {
         match $called {
@@ -34,8 +36,8 @@ macro_rules! reply {
     };
 }
 
-/// Answers a setup with its body, as `Asking::handle`: how many bytes of the answer are in `out`, or -1 for a stall; or -11
-/// if its writes are due now.
+/// Answers a setup with its body, as `Asking::handle`: the number of bytes of the answer, which are at the front of `out`; -1 for a stall;
+/// or -11 if the writes of the request are due now.
 ///
 /// Refused with -5 if `out` has less room than an answer may need; then as every call.
 #[unsafe(no_mangle)]
@@ -48,9 +50,9 @@ pub extern "C" fn dfu_core_handle(
     body: &[u8],
     out: &mut [u8],
 ) -> i32
-    ensures step { CoreHappens (core_board config.now device.old block.old flash.now) (CoreHandle setup.now body.now out.old) result out.new
+    ensures step { CoreEventOutcome (core_board config.now device.old block.old flash.now) (CoreHandle setup.now body.now out.old) result out.new
         (core_board config.now device.new block.new flash.now) }
-    ensures short { length out.old < answer_room (setting_of config.now) → result ≡ NO_ROOM }
+    ensures short { length out.old < answer_room (config_setting config.now) → result ≡ NO_ROOM_NUMBER }
 {
     if out.len() < room_for(config) {
         return NO_ROOM;
@@ -67,7 +69,7 @@ pub extern "C" fn dfu_core_handle(
     )
 }
 
-/// So many milliseconds pass, as `Asking::elapse`: 0; or -11 if writes are due now. Refused as every call.
+/// Lets `ms` milliseconds pass, as `Asking::elapse`. Returns 0; or -11 if writes are due now. Refused as every call.
 #[unsafe(no_mangle)]
 pub extern "C" fn dfu_core_elapse(
     config: &DfuConfig,
@@ -76,7 +78,7 @@ pub extern "C" fn dfu_core_elapse(
     flash: &[u8],
     ms: u32,
 ) -> i32
-    ensures step { CoreHappens (core_board config.now device.old block.old flash.now) (CoreElapse ms) result []
+    ensures step { CoreEventOutcome (core_board config.now device.old block.old flash.now) (CoreElapse ms) result []
         (core_board config.now device.new block.new flash.now) }
 {
     find!(asking, config, device, block.len(), mut);
@@ -90,7 +92,7 @@ pub extern "C" fn dfu_core_elapse(
     )
 }
 
-/// The bus is reset, as `Asking::usb_reset`: 0. Refused as every call.
+/// Takes a reset of the bus, as `Asking::usb_reset`. Returns 0. Refused as every call.
 #[unsafe(no_mangle)]
 pub extern "C" fn dfu_core_usb_reset(
     config: &DfuConfig,
@@ -98,7 +100,7 @@ pub extern "C" fn dfu_core_usb_reset(
     block: &mut [u8],
     flash: &[u8],
 ) -> i32
-    ensures step { CoreHappens (core_board config.now device.old block.old flash.now) CoreReset result []
+    ensures step { CoreEventOutcome (core_board config.now device.old block.old flash.now) CoreReset result []
         (core_board config.now device.new block.new flash.now) }
 {
     find!(asking, config, device, block.len(), mut);
@@ -112,8 +114,9 @@ pub extern "C" fn dfu_core_usb_reset(
     }
 }
 
-/// The write that `dfu_core_next` gave was carried out, or failed if `failed` is not 0; as `Asking::took`: -11, and the next
-/// one is due; or the answer of the call that asked. Of the block's memory only the bytes after the transfer size may change.
+/// Takes the report that the write that `dfu_core_next` handed out was carried out, or that it failed if `failed` is not 0, as
+/// `Asking::took`. Returns -11 if the next write is due; or the answer of the call that asked for the writes. Of the block's memory only
+/// the bytes after the transfer size may change.
 ///
 /// Refused with -5 if `out` has less room than 6 bytes; then as every call up to the first -4, and with -4 if no write is due.
 #[unsafe(no_mangle)]
@@ -125,10 +128,10 @@ pub extern "C" fn dfu_core_took(
     failed: u32,
     out: &mut [u8],
 ) -> i32
-    ensures step { CoreHappens (core_board config.now device.old block.old flash.now) (CoreTook failed out.old) result out.new
+    ensures step { CoreEventOutcome (core_board config.now device.old block.old flash.now) (CoreTook failed out.old) result out.new
         (core_board config.now device.new block.new flash.now) }
     ensures block { take (transfer_of config.now) block.new ≡ take (transfer_of config.now) block.old }
-    ensures short { length out.old < 6 → result ≡ NO_ROOM }
+    ensures short { length out.old < 6 → result ≡ NO_ROOM_NUMBER }
 {
     if out.len() < 6 {
         return NO_ROOM;
@@ -144,11 +147,11 @@ pub extern "C" fn dfu_core_took(
     )
 }
 
-/// The next write, as `Asking::next`: 0, and `ask` has it. Nothing else changes.
+/// Hands out the next write, as `Asking::next`: 0, and `ask` has the write. Nothing else changes.
 ///
-/// Refused as every call up to the first -4; then with -4 if no write is due, its range is not in the spare slot, that slot's gate is
-/// open and no image is active, it would erase less than a sector, or the flash has 2^32 bytes or more. Only the last of these can be if a
-/// call returned -11 and the writes before this one are on the flash.
+/// Refused as every call up to the first -4; then with -4 if no write is due, the range of the write is not in the spare slot, the gate of
+/// that slot is open and no image is active, the write would erase less than a sector, or the flash has 2^32 bytes or more. If a call
+/// returned -11 and the writes before this one are on the flash, only the last cause is possible.
 #[unsafe(no_mangle)]
 pub extern "C" fn dfu_core_next(
     config: &DfuConfig,
@@ -157,11 +160,11 @@ pub extern "C" fn dfu_core_next(
     flash: &[u8],
     ask: &mut DfuAsk,
 ) -> i32
-    ensures outcome { HandsOut config.now device.now block.now flash.now result ask.new
-        ⊎ (RefusesPiece config.now device.now block.now (λ a. HandsNothing (with_memory block.now a) flash.now) result
+    ensures outcome { WriteHandedOut config.now device.now block.now flash.now result ask.new
+        ⊎ (RefusesPiece config.now device.now block.now (λ a. NoWriteHandedOut (with_memory block.now a) flash.now) result
         × (ask.new ≡ ask.old)) }
     ensures step { result ≡ pos 0 → (now : List ℕ) → Torn flash.now (ask_step ask.new).write.at (ask_step ask.new).write.bytes now →
-        CoreHappens (core_board config.now device.now block.now flash.now) CoreWrite result []
+        CoreEventOutcome (core_board config.now device.now block.now flash.now) CoreWrite result []
         (core_board config.now device.now block.now now) }
 {
     find!(asking, config, device, block.len());

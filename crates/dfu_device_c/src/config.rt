@@ -1,12 +1,13 @@
-//! Tells a program about its configuration and the library.
+//! Facts of a configuration and of the library, for a program in C.
 ghost use Rattle.std.specs.Prelude.{◌≡◌, ◌⊎◌, ◌<◌, IsTrue, not, pos, slice_index};
 ghost use Rattle.dfu_wire.specs.Functional.{IsFunctional};
-ghost use Rattle.dfu_core.specs.Config.{version, setting_of, IsConfig};
-ghost use Rattle.dfu_core.specs.Numbers.{NO_CONFIG};
+ghost use Rattle.dfu_core.specs.Config.{version, config_setting, IsConfig};
+ghost use Rattle.dfu_core.specs.Numbers.{NO_CONFIG_NUMBER};
 
 use dfu_core::{DfuConfig, VERSION, functional_of, settings_of};
 
-// Returns whether the configuration is of this version, `Config::new` takes its numbers, a unit has that size, and there are such sectors.
+// Returns whether a configuration is allowed: its version is that of the library, `Config::new` takes its numbers, and a unit and sectors
+// have the sizes that it gives.
 fn is_allowed(config: &DfuConfig) -> bool
     ensures yes { IsTrue result → IsConfig config.now }
     ensures no { IsTrue (not result) → ¬ IsConfig config.now }
@@ -17,12 +18,12 @@ fn is_allowed(config: &DfuConfig) -> bool
     }
 }
 
-/// The functional descriptor, 9 bytes, at the front of `out`: 9. Bits 4 to 7 of bmAttributes are 0 (USB DFU 1.1, section 4.1.3). Refused
-/// with -2 if the configuration is not allowed.
+/// Writes the functional descriptor, 9 bytes, to the front of `out`: 9. Bits 4 to 7 of bmAttributes are 0 (USB DFU 1.1, section 4.1.3).
+/// Refused with -2 if the configuration is not allowed.
 #[unsafe(no_mangle)]
 pub extern "C" fn dfu_core_functional(config: &DfuConfig, out: &mut [u8; 9]) -> i32
-    ensures outcome { ((result ≡ pos 9) × IsConfig config.now × IsFunctional (setting_of config.now).functional out.new)
-        ⊎ ((result ≡ NO_CONFIG) × (¬ IsConfig config.now) × (out.new ≡ out.old)) }
+    ensures outcome { ((result ≡ pos 9) × IsConfig config.now × IsFunctional (config_setting config.now).functional out.new)
+        ⊎ ((result ≡ NO_CONFIG_NUMBER) × (¬ IsConfig config.now) × (out.new ≡ out.old)) }
     ensures reserved { result ≡ pos 9 → slice_index out.new 2 < 16 }
 {
     if !is_allowed(config) {
@@ -32,7 +33,7 @@ pub extern "C" fn dfu_core_functional(config: &DfuConfig, out: &mut [u8; 9]) -> 
     9
 }
 
-/// The version of the library, with which each configuration and each record begins.
+/// Returns the version of the library, with which each configuration and each record begins.
 #[unsafe(no_mangle)]
 pub extern "C" fn dfu_core_version() -> i32
     ensures { result ≡ pos version }

@@ -1,7 +1,7 @@
 //! A format that asks for its writes, as a program in C makes it: `include/dfu_core.h` says each call for a reader of C.
 ghost use Rattle.std.specs.Prelude.{◌≡◌, ◌⊎◌, ◌==◌, not, ℕ, List, length};
 ghost use Rattle.dfu_asks.specs.Formats.{FormatPending};
-ghost use Rattle.dfu_core.specs.Formats.{StartsFormat, IsNoStart, HandsFormat, RefusesFormat, FormatReport};
+ghost use Rattle.dfu_core.specs.Formats.{FormatStarted, FormatStartRefused, FormatWriteHandedOut, RefusesFormat, FormatPieceReport};
 
 use crate::tells::{format_number, kind_of};
 use dfu_asks::{FormatProgress, Formatting};
@@ -10,10 +10,10 @@ use dfu_core::{
 };
 use dfu_slots::FormatFault;
 
-/// Begins a format that asks for its writes, as `Formatting::start`: -11, and they are due now.
+/// Begins a format that asks for its writes, as `Formatting::start`: -11, because its writes are due now.
 ///
-/// Refused with -2 if the configuration is not allowed; -3 if the flash has 2^32 bytes or more; -6 if it has
-/// not as many as two slots can have; -7 if the image is too long.
+/// Refused with -2 if the configuration is not allowed; -3 if the flash has 2^32 bytes or more; -6 if two slots cannot have its size; -7 if
+/// the image is too long.
 #[unsafe(no_mangle)]
 pub extern "C" fn dfu_core_format_start(
     config: &DfuConfig,
@@ -21,8 +21,8 @@ pub extern "C" fn dfu_core_format_start(
     flash: &[u8],
     image: &[u8],
 ) -> i32
-    ensures outcome { StartsFormat config.now flash.now image.now result device.new
-        ⊎ (IsNoStart config.now flash.now image.now result × (device.new ≡ device.old)) }
+    ensures outcome { FormatStarted config.now flash.now image.now result device.new
+        ⊎ (FormatStartRefused config.now flash.now image.now result × (device.new ≡ device.old)) }
 {
     let Some(settings) = settings_of(config) else {
         return -2;
@@ -40,7 +40,7 @@ pub extern "C" fn dfu_core_format_start(
     }
 }
 
-/// The next write of a format, as `Formatting::next`: 0, and `ask` has it. Nothing else changes.
+/// Hands out the next write of a format, as `Formatting::next`: 0, and `ask` has the write. Nothing else changes.
 ///
 /// Refused with -2 if the configuration is not allowed; -4 if no write of a format is due.
 #[unsafe(no_mangle)]
@@ -51,7 +51,7 @@ pub extern "C" fn dfu_core_format_next(
     image: &[u8],
     ask: &mut DfuAsk,
 ) -> i32
-    ensures outcome { HandsFormat config.now device.now flash.now image.now result ask.new
+    ensures outcome { FormatWriteHandedOut config.now device.now flash.now image.now result ask.new
         ⊎ (RefusesFormat config.now device.now (λ f. (was : List ℕ) → ¬ FormatPending f image.now was flash.now) result
         × (ask.new ≡ ask.old)) }
 {
@@ -68,8 +68,9 @@ pub extern "C" fn dfu_core_format_next(
     0
 }
 
-/// The write that `dfu_core_format_next` gave was carried out, or failed if `failed` is not 0; as `Formatting::took`: -11, and
-/// the next one is due; 0, and the image is the active one; or -8, if it failed or other bytes were read back.
+/// Takes the report that the write that `dfu_core_format_next` handed out was carried out, or that it failed if `failed` is not 0, as
+/// `Formatting::took`. Returns -11 if the next write is due; 0 if the image is the active one now; or -8 if the write failed or other
+/// bytes were read back.
 ///
 /// Refused as `dfu_core_format_next`.
 #[unsafe(no_mangle)]
@@ -80,7 +81,7 @@ pub extern "C" fn dfu_core_format_took(
     image: &[u8],
     failed: u32,
 ) -> i32
-    ensures outcome { FormatReport config.now device.old flash.now image.now (not (failed == 0)) result device.new
+    ensures outcome { FormatPieceReport config.now device.old flash.now image.now (not (failed == 0)) result device.new
         ⊎ (RefusesFormat config.now device.old
         (λ f. (was before : List ℕ) → length before ≡ length flash.now → ¬ FormatPending f image.now was before) result
         × (device.new ≡ device.old)) }

@@ -1,6 +1,6 @@
-//! Places of images: the active one, which a program is to run, and one that was taken and is not in place yet.
+//! Places of two images: the active one, which a program runs, and one that was taken and is not in place yet.
 ghost use Rattle.std.specs.Prelude.{◌≡◌, ◌⊎◌};
-ghost use Rattle.dfu_core.specs.Candidate.{HasCandidate, HasNone, RefusesCandidate};
+ghost use Rattle.dfu_core.specs.Candidate.{HasCandidate, HasNoCandidate, RefusesCandidate};
 ghost use Rattle.dfu_core.specs.Power.{RefusesPower};
 ghost use Rattle.dfu_core.specs.Image.{ImageResult};
 
@@ -8,7 +8,7 @@ use crate::tells::refused;
 use dfu_asks::ImagePlace;
 use dfu_core::{DfuConfig, DfuPlace, DfuRecord, Refusal, found, settings_of};
 
-/// Returns the place of the active image in its flash: 0, and `place` has it.
+/// Finds the place of the active image in its flash: 0, and `place` has the place.
 ///
 /// Refused as `dfu_core_power_on`.
 #[unsafe(no_mangle)]
@@ -29,11 +29,11 @@ pub extern "C" fn dfu_core_image(config: &DfuConfig, flash: &[u8], place: &mut D
     }
 }
 
-// As much memory as any block needs, with those held back.
+// The most memory that a block needs, with the bytes that are held back.
 const BLOCK_MEMORY: usize = 4096 + 256;
 
-/// Returns the place of the image that was taken, as `Device::candidate`: 0, and `place` has its bytes in the flash, followed by the
-/// `held_length` ones that are held back, after the transfer size in the memory of the block.
+/// Finds the place of the image that was taken, as `Device::candidate`: 0, and `place` has the place of its bytes in the flash. The last
+/// `held_length` bytes of the image are held back, after the transfer size in the memory of the block.
 ///
 /// Refused as `dfu_core_elapse` with the most memory that a block needs; then with -20 if no image was taken that may be refused.
 #[unsafe(no_mangle)]
@@ -44,7 +44,7 @@ pub extern "C" fn dfu_core_candidate(
     place: &mut DfuPlace,
 ) -> i32
     ensures outcome { HasCandidate config.now device.now flash.now result place.new
-        ⊎ ((place.new ≡ place.old) × (HasNone config.now device.now flash.now result
+        ⊎ ((place.new ≡ place.old) × (HasNoCandidate config.now device.now flash.now result
         ⊎ RefusesCandidate config.now device.now flash.now result)) }
 {
     find!(asking, config, device, BLOCK_MEMORY);

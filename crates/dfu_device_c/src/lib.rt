@@ -1,8 +1,8 @@
-//! A device that asks for its writes, for programs in C: what it is set up with, what it keeps between two calls, its block and
-//! its flash are the caller's.
+//! A device that asks for its writes, for programs in C. The caller owns the configuration, the record between two calls, the memory of the
+//! block, and the flash.
 #![tactic(auto)]
 
-// Finds the device that a record is, if the memory of its block has so much room; else the call returns the number of the refusal.
+// Finds the device for which a record stands, with the memory of its block; if there is none, the call returns the number of the refusal.
 macro_rules! find {
     ($asking:ident, $config:ident, $device:ident, $room:expr $(, $mutable:tt)?) => {
         let mut read = Err(Refusal::NoDevice);
@@ -14,7 +14,7 @@ macro_rules! find {
     };
 }
 
-// Writes a piece into what a program is asked for, but for its bytes.
+// Writes a piece into the operation that is handed out, but for its bytes.
 macro_rules! hand_out {
     ($piece:ident, $ask:ident) => {
         $ask.kind = kind_of($piece.erases);

@@ -1,18 +1,18 @@
-//! A device that asks gets power.
+//! Devices that ask for their writes, and get power.
 ghost use Rattle.std.specs.Prelude.{◌≡◌, ◌⊎◌, true, false, ℕ, List, [], pos};
 ghost use Rattle.dfu_device.specs.declared.device_state.DeviceState.TheVariants.{AppIdle, DfuIdle};
 ghost use Rattle.dfu_core.specs.Board.{CoreRestart, core_board};
-ghost use Rattle.dfu_core.specs.Happens.{CoreHappens, IsCoreOn};
-ghost use Rattle.dfu_core.specs.Power.{Powers, RefusesPower};
+ghost use Rattle.dfu_core.specs.Happens.{CoreEventOutcome, IsCorePoweredOn};
+ghost use Rattle.dfu_core.specs.Power.{PowerOutcome, RefusesPower};
 
 use dfu_asks::Noted;
 use dfu_core::{DfuConfig, DfuRecord, blank, settings_of, slot_of};
 
-// A device gets power, and is in appIDLE or dfuIDLE, by the number of that mode: 0, or the number of the refusal.
+// A device gets power, and is in the mode of `mode`, appIDLE or dfuIDLE: 0, or the number of the refusal.
 fn start(config: &DfuConfig, device: &mut DfuRecord, flash: &[u8], mode: u32) -> i32
-    ensures app { mode ≡ 0 → Powers config.now AppIdle flash.now result device.new
+    ensures app { mode ≡ 0 → PowerOutcome config.now AppIdle flash.now result device.new
         ⊎ (RefusesPower config.now flash.now result × (device.new ≡ device.old)) }
-    ensures dfu { mode ≡ 2 → Powers config.now DfuIdle flash.now result device.new
+    ensures dfu { mode ≡ 2 → PowerOutcome config.now DfuIdle flash.now result device.new
         ⊎ (RefusesPower config.now flash.now result × (device.new ≡ device.old)) }
 {
     let Some(settings) = settings_of(config) else {
@@ -31,30 +31,30 @@ fn start(config: &DfuConfig, device: &mut DfuRecord, flash: &[u8], mode: u32) ->
     }
 }
 
-/// A device gets power, as `Asking::power_on`: 0, and `device` is in appIDLE. It may hold anything before.
+/// Powers `device` on, as `Asking::power_on`. Returns 0, and `device` is in appIDLE. `device` may hold anything before.
 ///
 /// Refused with -2 if the configuration is not allowed; -3 if the flash has no active image, or 2^32 bytes or more.
 #[unsafe(no_mangle)]
 pub extern "C" fn dfu_core_power_on(config: &DfuConfig, device: &mut DfuRecord, flash: &[u8]) -> i32
-    ensures outcome { Powers config.now AppIdle flash.now result device.new
+    ensures outcome { PowerOutcome config.now AppIdle flash.now result device.new
         ⊎ (RefusesPower config.now flash.now result × (device.new ≡ device.old)) }
     ensures step { result ≡ pos 0 → (kept : DfuRecord) (before block : List ℕ) →
-        CoreHappens (core_board config.now kept before flash.now) (CoreRestart false) result []
+        CoreEventOutcome (core_board config.now kept before flash.now) (CoreRestart false) result []
         (core_board config.now device.new block flash.now) }
-    ensures on { result ≡ pos 0 → (block : List ℕ) → IsCoreOn (core_board config.now device.new block flash.now) }
+    ensures on { result ≡ pos 0 → (block : List ℕ) → IsCorePoweredOn (core_board config.now device.new block flash.now) }
 {
     start(config, device, flash, 0)
 }
 
-/// A device gets power and begins in dfuIDLE, as by `dfu_core_power_on`, a DETACH and a reset of the bus. Refused as that.
+/// Powers `device` on and begins in dfuIDLE, as by `dfu_core_power_on`, a DETACH and a reset of the bus. Refused as `dfu_core_power_on`.
 #[unsafe(no_mangle)]
 pub extern "C" fn dfu_core_begin(config: &DfuConfig, device: &mut DfuRecord, flash: &[u8]) -> i32
-    ensures outcome { Powers config.now DfuIdle flash.now result device.new
+    ensures outcome { PowerOutcome config.now DfuIdle flash.now result device.new
         ⊎ (RefusesPower config.now flash.now result × (device.new ≡ device.old)) }
     ensures step { result ≡ pos 0 → (kept : DfuRecord) (before block : List ℕ) →
-        CoreHappens (core_board config.now kept before flash.now) (CoreRestart true) result []
+        CoreEventOutcome (core_board config.now kept before flash.now) (CoreRestart true) result []
         (core_board config.now device.new block flash.now) }
-    ensures on { result ≡ pos 0 → (block : List ℕ) → IsCoreOn (core_board config.now device.new block flash.now) }
+    ensures on { result ≡ pos 0 → (block : List ℕ) → IsCorePoweredOn (core_board config.now device.new block flash.now) }
 {
     start(config, device, flash, 2)
 }

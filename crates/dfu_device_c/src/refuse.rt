@@ -1,18 +1,18 @@
-//! The program refuses an image: only the record is needed.
+//! Calls by which the program refuses an image; they need only the record.
 ghost use Rattle.std.specs.Prelude.{◌≡◌, ℕ, List, [], IfSome, IfNone};
-ghost use Rattle.dfu_asks.specs.Addressed.{addressed};
+ghost use Rattle.dfu_asks.specs.Addressed.{addressed_setup};
 ghost use Rattle.dfu_core.specs.Board.{CoreRefuseClose, CoreRefuse, core_board};
-ghost use Rattle.dfu_core.specs.Happens.{CoreHappens};
-ghost use Rattle.dfu_core.specs.Refuse.{objection_in, IsObjection, WasRefused, CloseRefused};
+ghost use Rattle.dfu_core.specs.Happens.{CoreEventOutcome};
+ghost use Rattle.dfu_core.specs.Refuse.{objection_of_status, IsObjectionStatus, RefuseOutcome, RefuseCloseOutcome};
 
 use dfu_asks::{addressed, mode_closes};
 use dfu_core::{DfuConfig, DfuRecord, idle_mode, set_mode};
 use dfu_device::{DeviceState, Objection};
 
-// The objection of a status, which is errTARGET or errFILE.
+// Returns the objection that a status stands for, if the status is errTARGET or errFILE.
 fn objection_of(status: u32) -> Option<Objection>
-    ensures some { IfSome result (λ why. (why ≡ objection_in status) × IsObjection status) }
-    ensures none { IfNone result (¬ IsObjection status) }
+    ensures some { IfSome result (λ why. (why ≡ objection_of_status status) × IsObjectionStatus status) }
+    ensures none { IfNone result (¬ IsObjectionStatus status) }
 {
     match status {
         1 => Some(Objection::Target),
@@ -21,13 +21,13 @@ fn objection_of(status: u32) -> Option<Objection>
     }
 }
 
-/// The program refuses the image that was closed, as `Device::refuse`, with errTARGET (1) or errFILE (2): 0.
+/// Refuses the image that was closed, as `Device::refuse`, with errTARGET (1) or errFILE (2): 0.
 ///
 /// Refused as `dfu_core_would_stall`; then with -14 if the status is another one.
 #[unsafe(no_mangle)]
 pub extern "C" fn dfu_core_refuse(config: &DfuConfig, device: &mut DfuRecord, status: u32) -> i32
-    ensures outcome { WasRefused config.now device.old status result device.new }
-    ensures step { (block flash : List ℕ) → CoreHappens (core_board config.now device.old block flash) (CoreRefuse status) result []
+    ensures outcome { RefuseOutcome config.now device.old status result device.new }
+    ensures step { (block flash : List ℕ) → CoreEventOutcome (core_board config.now device.old block flash) (CoreRefuse status) result []
         (core_board config.now device.new block flash) }
 {
     let (_, mode) = match idle_mode(config, device) {
@@ -41,7 +41,7 @@ pub extern "C" fn dfu_core_refuse(config: &DfuConfig, device: &mut DfuRecord, st
     0
 }
 
-/// The program refuses the image that this setup closes, as `Device::refuse_close`, with errTARGET (1) or errFILE (2): -1.
+/// Refuses the image that a setup closes, as `Device::refuse_close`, with errTARGET (1) or errFILE (2): -1.
 ///
 /// Refused as `dfu_core_refuse`; then with -13 if the setup closes no download.
 #[unsafe(no_mangle)]
@@ -51,9 +51,9 @@ pub extern "C" fn dfu_core_refuse_close(
     setup: &[u8; 8],
     status: u32,
 ) -> i32
-    ensures outcome { CloseRefused config.now device.old (addressed config.now.interface setup.now) status result device.new }
+    ensures outcome { RefuseCloseOutcome config.now device.old (addressed_setup config.now.interface setup.now) status result device.new }
     ensures step { (block flash : List ℕ) →
-        CoreHappens (core_board config.now device.old block flash) (CoreRefuseClose setup.now status) result []
+        CoreEventOutcome (core_board config.now device.old block flash) (CoreRefuseClose setup.now status) result []
         (core_board config.now device.new block flash) }
 {
     let (settings, mode) = match idle_mode(config, device) {

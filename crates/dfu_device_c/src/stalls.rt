@@ -1,6 +1,6 @@
-//! Tells before the body of a setup is there whether a device will stall it.
+//! The call that tells, before the body of a setup is there, if a device will stall the setup.
 ghost use Rattle.std.specs.Prelude.{◌≡◌, ◌⊎◌, pos};
-ghost use Rattle.dfu_asks.specs.Addressed.{addressed};
+ghost use Rattle.dfu_asks.specs.Addressed.{addressed_setup};
 ghost use Rattle.dfu_core.specs.Stalls.{StallResult};
 ghost use Rattle.dfu_core.specs.Idle.{IsIdleRecord, RefusesSetup};
 
@@ -8,8 +8,8 @@ use crate::tells::told_number;
 use dfu_asks::{addressed, mode_stalls};
 use dfu_core::{DfuConfig, DfuRecord, idle_mode};
 
-/// Returns whether `dfu_core_handle` will stall this setup, whatever body of wLength bytes comes with it: 1 or 0. `size` is how many bytes
-/// the flash has.
+/// Returns whether `dfu_core_handle` will stall a setup, whatever body of wLength bytes comes with it: 1 or 0. `size` is the size of the
+/// flash in bytes.
 ///
 /// Refused with -2 if the configuration is not allowed; -4 if the record has no mode; -12 if writes are due.
 #[unsafe(no_mangle)]
@@ -20,7 +20,7 @@ pub extern "C" fn dfu_core_would_stall(
     setup: &[u8; 8],
 ) -> i32
     ensures outcome { (((result ≡ pos 0) ⊎ (result ≡ pos 1)) × IsIdleRecord config.now device.now
-        × StallResult config.now device.now size (addressed config.now.interface setup.now) result)
+        × StallResult config.now device.now size (addressed_setup config.now.interface setup.now) result)
         ⊎ RefusesSetup config.now device.now result }
 {
     let (settings, mode) = match idle_mode(config, device) {

@@ -1,15 +1,15 @@
-//! Facts that a record by itself shows: the state, the code, and when time changes them; and the numbers that a program in C gets.
+//! Facts that a record alone shows: the state, the status code, and the time after which they change; and the numbers that calls return.
 ghost use Rattle.std.specs.Prelude.{◌≡◌, ◌⊎◌, min, pos, List, ℕ, IfSome, IfNone, ◌≤◌, if◌then◌else◌};
 ghost use Rattle.dfu_wire.specs.Code.{code_byte};
 ghost use Rattle.dfu_wire.specs.State.{state_byte};
 ghost use Rattle.dfu_device.specs.declared.device_state.DeviceState.{DeviceState};
 ghost use Rattle.dfu_device.specs.Parts.{stage_of};
 ghost use Rattle.dfu_device.specs.Stage.{state_of, code_of};
-ghost use Rattle.dfu_core.specs.Config.{IsConfig, setting_of};
-ghost use Rattle.dfu_core.specs.Due.{LATEST, DueResult};
+ghost use Rattle.dfu_core.specs.Config.{IsConfig, config_setting};
+ghost use Rattle.dfu_core.specs.Due.{LONGEST_DUE, DueResult};
 ghost use Rattle.dfu_core.specs.Idle.{RefusesRecord};
 ghost use Rattle.dfu_core.specs.Mode.{HasMode};
-ghost use Rattle.dfu_core.specs.Numbers.{NO_DEVICE, answer_number, format_number, refusal_of, told_number};
+ghost use Rattle.dfu_core.specs.Numbers.{NO_DEVICE_NUMBER, answer_number, format_number, refusal_of, yes_no_number};
 ghost use Rattle.dfu_device.specs.Borrowed.{answer_room};
 
 use dfu_asks::mode_due;
@@ -20,7 +20,7 @@ use dfu_slots::FormatFault;
 /// DFU_NO_ROOM.
 pub(crate) const NO_ROOM: i32 = -5;
 
-/// The refusal of a call of a device that asks.
+/// Returns the refusal of a call in C for a refusal of dfu_asks.
 pub(crate) fn refused(refusal: dfu_asks::Refusal) -> Refusal
     ensures { result ≡ refusal_of refusal }
 {
@@ -31,7 +31,7 @@ pub(crate) fn refused(refusal: dfu_asks::Refusal) -> Refusal
     }
 }
 
-/// The number of an answer with so many bytes: how many they are, or -1 for a stall.
+/// Returns the number of `answer`: 0 for an acknowledgement, -1 for a stall, and else `count`, the number of its bytes.
 pub(crate) fn number_of(answer: Answer, count: usize) -> i32
     requires { count ≤ 65535 }
     ensures { result ≡ answer_number answer count }
@@ -43,7 +43,7 @@ pub(crate) fn number_of(answer: Answer, count: usize) -> i32
     }
 }
 
-/// The number of a fault of a format.
+/// Returns the number of `fault`, that of a format.
 pub(crate) fn format_number(fault: FormatFault) -> i32
     ensures { result ≡ format_number fault }
 {
@@ -54,34 +54,34 @@ pub(crate) fn format_number(fault: FormatFault) -> i32
     }
 }
 
-/// The number of a yes or a no.
+/// Returns the number of `said`: 1 for true and 0 for false.
 pub(crate) fn told_number(said: bool) -> i32
-    ensures { result ≡ told_number said }
+    ensures { result ≡ yes_no_number said }
 {
     if said { 1 } else { 0 }
 }
 
-/// Returns the bytes of room that an answer needs.
+/// Returns the number of bytes of `out` that an answer may need.
 pub(crate) fn room_for(config: &DfuConfig) -> usize
-    ensures { result ≡ answer_room (setting_of config.now) }
+    ensures { result ≡ answer_room (config_setting config.now) }
 {
     usize::from(config.transfer).max(6)
 }
 
-/// The number of what a piece does.
+/// Returns the kind of a piece: 1 for an erase, 2 for a program.
 pub(crate) fn kind_of(erases: bool) -> u32
     ensures { result ≡ (if erases then 1 else 2) }
 {
     if erases { ERASE } else { PROGRAM }
 }
 
-/// The state of the device, bState: 0 to 10; -4 if the record has no mode.
+/// Returns the state of the device, bState: 0 to 10; -4 if the record has no mode.
 #[unsafe(no_mangle)]
 pub extern "C" fn dfu_core_state(device: &DfuRecord) -> i32
     ensures state { (m : DeviceState) (spare block : List ℕ) → HasMode device.now m
         → result ≡ pos (state_byte (state_of (stage_of m spare block))) }
-    ensures refused { result ≡ NO_DEVICE → (m : DeviceState) → ¬ HasMode device.now m }
-    ensures only { ((m : DeviceState) → ¬ HasMode device.now m) → result ≡ NO_DEVICE }
+    ensures refused { result ≡ NO_DEVICE_NUMBER → (m : DeviceState) → ¬ HasMode device.now m }
+    ensures only { ((m : DeviceState) → ¬ HasMode device.now m) → result ≡ NO_DEVICE_NUMBER }
 {
     if !has_mode(device) {
         return -4;
@@ -103,13 +103,13 @@ pub extern "C" fn dfu_core_state(device: &DfuRecord) -> i32
     }
 }
 
-/// The status code of the device, bStatus: 0 to 15, and 0 in every state but dfuERROR; -4 if the record has no mode.
+/// Returns the status code of the device, bStatus: 0 to 15, and 0 in every state but dfuERROR; -4 if the record has no mode.
 #[unsafe(no_mangle)]
 pub extern "C" fn dfu_core_code(device: &DfuRecord) -> i32
     ensures code { (m : DeviceState) (spare block : List ℕ) → HasMode device.now m
         → result ≡ pos (code_byte (code_of (stage_of m spare block))) }
-    ensures refused { result ≡ NO_DEVICE → (m : DeviceState) → ¬ HasMode device.now m }
-    ensures only { ((m : DeviceState) → ¬ HasMode device.now m) → result ≡ NO_DEVICE }
+    ensures refused { result ≡ NO_DEVICE_NUMBER → (m : DeviceState) → ¬ HasMode device.now m }
+    ensures only { ((m : DeviceState) → ¬ HasMode device.now m) → result ≡ NO_DEVICE_NUMBER }
 {
     if !has_mode(device) {
         return -4;
@@ -120,9 +120,9 @@ pub extern "C" fn dfu_core_code(device: &DfuRecord) -> i32
     }
 }
 
-// The number of what is due: at the largest number in as many milliseconds or more; 0 if nothing is due.
+// Returns the number of a due time: the milliseconds; the largest number for as many or more; 0 if nothing is due.
 fn due_number(due: Option<u32>) -> i32
-    ensures some { IfSome due (λ ms. result ≡ pos (min LATEST ms)) }
+    ensures some { IfSome due (λ ms. result ≡ pos (min LONGEST_DUE ms)) }
     ensures none { IfNone due (result ≡ pos 0) }
 {
     match due {
@@ -131,8 +131,8 @@ fn due_number(due: Option<u32>) -> i32
     }
 }
 
-/// In how many milliseconds `dfu_core_elapse` changes the state: at least 1; or 0 if no time changes it. 2,147,483,647 says as
-/// many or more.
+/// Returns the number of milliseconds after which `dfu_core_elapse` changes the state: at least 1; or 0 if no time changes it.
+/// 2,147,483,647 stands for as many or more.
 ///
 /// Refused with -2 if the configuration is not allowed; -4 if the record has no mode.
 #[unsafe(no_mangle)]

@@ -4,7 +4,7 @@ ghost use Rattle.std.specs.Prelude.{◌≡◌, ◌<◌, ◌↔◌, ℕ, length, 
 ghost use Rattle.dfu_wire.specs.declared.states.State.TheVariants.{AppIdle};
 ghost use Rattle.dfu_slots.specs.Image.{HasImage};
 ghost use Rattle.dfu_slots.specs.StoreView.{image_of};
-ghost use Rattle.dfu_slots.specs.Changes.{IsOpenFault};
+ghost use Rattle.dfu_slots.specs.Changes.{FirstOpenFault};
 ghost use Rattle.dfu_device.specs.Stage.{state_of};
 ghost use Rattle.dfu_device.specs.DeviceView.{powered_on};
 ghost use Rattle.dfu_device.specs.Rows as rows;
@@ -25,7 +25,7 @@ pub enum Happened {
     BusReset,
     /// A control transfer came to the interface of this standard.
     Transfer,
-    /// So many milliseconds passed since the last tick.
+    /// This many milliseconds passed since the last tick.
     Tick(u32),
 }
 
@@ -38,14 +38,14 @@ pub struct Transfer {
 
 /// A USB device stack.
 pub trait UsbDevice {
-    /// Waits until something happens. A transfer that comes is put in `transfer`, with its whole data stage; one that
-    /// is too long for that is cut short, and stalled then.
+    /// Waits until something happens. A transfer that comes is put in `transfer`, with its whole data stage; a data
+    /// stage that is too long for it is cut short, and the transfer is stalled then.
     fn wait(&mut self, transfer: &mut Transfer) -> Happened;
 
     /// Acknowledges the status stage of the last transfer.
     fn acknowledge(&mut self);
 
-    /// Answers the last transfer with these bytes, which may be none.
+    /// Answers the last transfer with `bytes`, which may be empty.
     fn send(&mut self, bytes: &[u8]);
 
     /// Stalls the last transfer.
@@ -120,13 +120,13 @@ pub fn serve<M: Medium, U: UsbDevice>(device: &mut Device<M>, usb: &mut U)
     device.restart();
 }
 
-/// Powers a device on. If `stays` is true, as for a button or a mark of the application, it serves a stack until the
-/// application is to run.
+/// Powers a device on. If `stays` is true, as for a button or a mark of the application, the call serves a stack
+/// until the application is to run.
 ///
 /// # Errors
 ///
-/// Those of `Device::power_on`, in its order: exactly if the medium has no active image. The medium comes back as it
-/// was, and nothing was served.
+/// The faults of `Device::power_on`, in its order: exactly if the medium has no active image. The medium comes back
+/// as it was, and nothing was served.
 pub fn boot<M: Medium, U: UsbDevice>(
     config: Config,
     medium: M,
@@ -137,7 +137,7 @@ pub fn boot<M: Medium, U: UsbDevice>(
     ensures at_once { IfOk result (λ start. stays ≡ false → start.device ≡ powered_on config (M.state medium)) }
     ensures has_image { IfOk result (λ start. HasImage start.device.slots.medium) }
     ensures len { IfOk result (λ start. start.len ≡ length (image_of start.device.slots)) }
-    ensures err { IfErr result (λ e. (e.1 ≡ medium) × IsOpenFault e.0 (M.state medium)) }
+    ensures err { IfErr result (λ e. (e.1 ≡ medium) × FirstOpenFault e.0 (M.state medium)) }
     ensures refused { OnErr result (¬ HasImage (M.state medium)) }
 {
     let mut device = Device::power_on(config, medium)?;

@@ -13,14 +13,14 @@ pub trait UsbHost {
     /// too long; `Restarted` if the device left the bus and came back in the meantime.
     fn transfer(&mut self, setup: &[u8; 8], body: &[u8]) -> Seen<'_>;
 
-    /// Waits for so many milliseconds, and no less.
+    /// Waits for at least `ms` milliseconds.
     fn wait(&mut self, ms: u32);
 
     /// Resets the bus, and opens the interface of the device that comes back.
     fn reset(&mut self);
 }
 
-/// Carries out a session to its end, and returns the host's report.
+/// Performs the session of `host` to its end, and returns the host's report.
 pub fn flash<U: UsbHost>(host: &mut Host<'_>, usb: &mut U) -> Report
     ensures report { Act host.new (Action.Done result) }
     ensures over { remaining_inputs host.new ≡ 0 }

@@ -16,9 +16,9 @@ pub enum ChipFault {
 
 /// A driver of a chip that is overwritten byte by byte, without erase.
 ///
-/// It has to keep little: `read` returns the bytes in the chip, and a `write` leaves all bytes outside its range as they
-/// were, also if the power fails during it. It need not check that the bytes were written, since the store reads back
-/// what it wrote.
+/// A driver has few duties: `read` returns the bytes in the chip, and a `write` leaves all bytes outside its range as
+/// they were, also if the power fails during it. The driver need not check that the bytes were written, since the store
+/// reads back what it wrote.
 pub trait Chip: Drop {
     /// The bytes in the chip.
     ghost cells: { Self → List ℕ };
@@ -32,8 +32,8 @@ pub trait Chip: Drop {
         requires { at + length out.old ≤ length (cells self.now) }
         ensures { out.new ≡ slice_range (cells self.now) at (at + length out.old) };
 
-    /// Overwrites the bytes from `at` on. The range must lie within the size. With any answer, and any bytes in the
-    /// range afterwards, all other bytes and the size are as they were.
+    /// Writes `bytes` over the bytes from `at` on. The range must lie within the size. With any answer, and any bytes in the range
+    /// afterwards, all other bytes and the size are as they were.
     fn write(&mut self, at: u32, bytes: &[u8]) -> Result<(), ChipFault>
         requires { at + length bytes.now ≤ length (cells self.old) }
         ensures { FrameOutside at (at + length bytes.now) (cells self.old) (cells self.new) };
@@ -47,14 +47,14 @@ pub struct Fram<C: Chip> {
 
 impl<C: Chip> Medium for Fram<C> {
     ghost use Rattle.std.specs.Prelude.{◌-◌, ◌^◌, []};
-    ghost use Rattle.dfu_slots.specs.Units.{in_place};
+    ghost use Rattle.dfu_slots.specs.Units.{in_place_grain};
     ghost use Rattle.dfu_slots.specs.Medium.{MediumState};
     ghost use Rattle.dfu_slots.specs.Medium.Fuse.{Unknown};
     ghost use Rattle.dfu_slots.specs.declared.layout.Unit.TheVariants.{Byte};
 
     // Any write may fail or lie. A count of failures that is always at its last value leaves that open, so nothing
     // needs to be counted.
-    ghost state = { λ m. record { bytes = C.cells m.chip; failures = 2 ^ 64 - 1; fuse = Unknown; grain = in_place Byte; tag = [] } };
+    ghost state = { λ m. record { bytes = C.cells m.chip; failures = 2 ^ 64 - 1; fuse = Unknown; grain = in_place_grain Byte; tag = [] } };
 
     fn len(&self) -> u32 {
         self.chip.size()

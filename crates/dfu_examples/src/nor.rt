@@ -9,25 +9,27 @@ use dfu_slots::{Failed, Medium, Unit};
 
 /// A driver of NOR flash with sectors of one size.
 ///
-/// It has to keep little: `read` returns the bytes in the flash, and neither a `program` nor an `erase` changes a byte outside
-/// its range, also if the power fails during it. It need not check that the bytes were written, since the store reads
-/// back what it wrote. The store erases each sector before it programs in it, and programs no unit twice between two erases.
+/// A driver has few duties: `read` returns the bytes in the flash, and neither a `program` nor an `erase` changes a byte
+/// outside its range, also if the power fails during it. The driver need not check that the bytes were written, since the
+/// store reads back what it wrote. The store erases each sector before it programs in it, and programs no unit twice between
+/// two erases.
 pub trait Flash: Drop {
     /// The bytes in the flash.
     ghost cells: { Self → List ℕ };
 
-    /// The unit in which it is programmed, and the size of the sectors in which it is erased.
+    /// Sees a chip as its grain: the unit in which it is programmed, and the size of the sectors in which it
+    /// is erased.
     ghost grain: { Self → Grain };
 
     /// Returns the bytes of the flash.
     fn size(&self) -> u32
         ensures { result ≡ length (cells self.now) };
 
-    /// Unit in which it is programmed.
+    /// Returns the unit in which the flash is programmed.
     fn unit(&self) -> Unit
         ensures { result ≡ (grain self.now).unit };
 
-    /// Returns the bytes of a sector. The store takes multiples of 256 up to 131,072.
+    /// Returns the bytes of a sector. The store takes multiples of 256 up to 262,144.
     fn sector(&self) -> u32
         ensures { result ≡ (grain self.now).sector };
 

@@ -3,8 +3,8 @@
 ghost use Rattle.std.specs.Prelude.{◌≡◌, ℕ, List, IsTrue};
 ghost use Rattle.dfu_host.specs.declared.limits.Limits.{Limits};
 ghost use Rattle.dfu_sim.specs.declared.offering.Purpose.{Purpose};
-ghost use Rattle.dfu_link.specs.Bytes.{link_of};
-ghost use Rattle.dfu_link.specs.CleanRun.{resting};
+ghost use Rattle.dfu_link.specs.Bytes.{link_of_bench};
+ghost use Rattle.dfu_link.specs.CleanRun.{resting_link};
 ghost use Rattle.dfu_link.specs.Running.{happenings};
 ghost use Rattle.dfu_link.specs.CleanInstall.{CanInstall, clean_passes, offer_and_passes};
 
@@ -21,7 +21,7 @@ pub fn installs<'f, M: Faulty>(
 ) -> bool
     ensures { (purpose : Purpose) (file payload : List ℕ) (limits : Limits) → CanInstall world.old.bench purpose file limits payload
         → happenings events.now ≡ offer_and_passes purpose file limits (clean_passes purpose world.old.bench.device.config payload)
-        → IsTrue result → link_of world.new.bench ≡ resting payload }
+        → IsTrue result → link_of_bench world.new.bench ≡ resting_link payload }
 {
     match run(world, alloc, events) {
         Ok(_) => true,

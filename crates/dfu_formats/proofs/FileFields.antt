@@ -1,4 +1,4 @@
--- Numbers of four bytes among others.
+-- Fields of four bytes in a DfuSe file.
 use Rattle.std.proofs.Common.{◌≡◌, ℕ, ◌+◌, ◌^◌, ◌<◌, ◌≤◌, ◌&&◌, Bool, true, eqb, List, ◌∷◌, ◌++◌, length, take, drop, refl, sym, ap, ◌∙◌, arith, length-take, length-drop, get_or}
 use Rattle.std.specs.Int.{w32, from_le_bytes}
 use Rattle.std.proofs.lemmas.Bool.{eqb-true, and_parts}
@@ -8,12 +8,12 @@ use Rattle.std.proofs.Math.Seq.{drop-cons}
 use Rattle.dfu_suffix.proofs.Bytes.{AreBytes-drop, AreBytes-take}
 use Rattle.dfu_suffix.specs.Laws.{AreBytes}
 use Rattle.dfu_formats.specs.dfuse.Reading.{number_at}
-use Rattle.dfu_formats.specs.dfuse.Grammar.{four}
+use Rattle.dfu_formats.specs.dfuse.Grammar.{four_bytes_of}
 
--- Six bytes precede the others, each in its place.
-pub six_cut : (b : List ℕ) → 6 ≤ length b →
+-- Bytes, of which there are six at least, are their first six and the others.
+pub first_six_bytes_apart : (b : List ℕ) → 6 ≤ length b →
     b ≡ get_or b 0 0 ∷ get_or b 1 0 ∷ get_or b 2 0 ∷ get_or b 3 0 ∷ get_or b 4 0 ∷ get_or b 5 0 ∷ drop 6 b
-six_cut b long =
+first_six_bytes_apart b long =
     let c0 : b ≡ get_or b 0 0 ∷ drop 1 b = drop-cons b 0 0 (omega (arith, long)) in
     let c1 : drop 1 b ≡ get_or b 1 0 ∷ drop 2 b = drop-cons b 1 0 (omega (arith, long)) in
     let c2 : drop 2 b ≡ get_or b 2 0 ∷ drop 3 b = drop-cons b 2 0 (omega (arith, long)) in
@@ -22,33 +22,34 @@ six_cut b long =
     let c5 : drop 5 b ≡ get_or b 5 0 ∷ drop 6 b = drop-cons b 5 0 (omega (arith, long)) in
     cc
 
--- Four letters that are compared one by one are these, and so is what is asked after them.
-pub letters_are : (b : List ℕ) (l0 l1 l2 l3 : ℕ) (more : Bool)
+-- If a test that compares four letters and asks for `more` is true, the bytes begin with the four letters, and `more` is true.
+pub four_letters_compared_equal : (b : List ℕ) (l0 l1 l2 l3 : ℕ) (more : Bool)
     → (eqb (get_or b 0 0) l0 && (eqb (get_or b 1 0) l1 && (eqb (get_or b 2 0) l2 && (eqb (get_or b 3 0) l3 && more)))) ≡ true
     → (get_or b 0 0 ≡ l0) × (get_or b 1 0 ≡ l1) × (get_or b 2 0 ≡ l2) × (get_or b 3 0 ≡ l3) × (more ≡ true)
-letters_are b l0 l1 l2 l3 more h =
+four_letters_compared_equal b l0 l1 l2 l3 more h =
     let s0 = and_parts (eqb (get_or b 0 0) l0) _ h in
     let s1 = and_parts (eqb (get_or b 1 0) l1) _ s0.1 in
     let s2 = and_parts (eqb (get_or b 2 0) l2) _ s1.1 in
     let s3 = and_parts (eqb (get_or b 3 0) l3) more s2.1 in
     (eqb-true _ _ s0.0, eqb-true _ _ s1.0, eqb-true _ _ s2.0, eqb-true _ _ s3.0, s3.1)
 
--- From a place on there are the four bytes of the number there, and what follows them.
-pub cut : (place next : ℕ) (b : List ℕ) → AreBytes b → next ≡ place + 4 → next ≤ length b → drop place b ≡ four (number_at place b) ++ drop next b
-cut place next b f e h =
+-- The bytes from `place` on are the four bytes of the number there, and then the bytes from `next` on.
+pub number_bytes_at_place : (place next : ℕ) (b : List ℕ) → AreBytes b → next ≡ place + 4 → next ≤ length b
+    → drop place b ≡ four_bytes_of (number_at place b) ++ drop next b
+number_bytes_at_place place next b f e h =
     let xs = drop place b in
     let bytes = AreBytes-take 4 xs (AreBytes-drop b place f) in
     let long : length (take 4 xs) ≡ 4 = length-take 4 xs ∙ omega (arith, length-drop place b) in
-    let here : four (number_at place b) ≡ take 4 xs = le_bytes_4 (take 4 xs) (number_at place b) long bytes refl in
+    let here : four_bytes_of (number_at place b) ≡ take 4 xs = le_bytes_4 (take 4 xs) (number_at place b) long bytes refl in
     let behind : drop 4 xs ≡ drop next b = drop-drop 4 place b ∙ ap (λ (k : ℕ). drop k b) (sym e) in
     sym (ap (λ (z : List ℕ). z ++ drop next b) here ∙ (ap (λ (z : List ℕ). take 4 xs ++ z) (sym behind) ∙ take-append-drop 4 xs))
 
--- Such a number fits.
-pub number_fits : (place : ℕ) (b : List ℕ) → AreBytes b → number_at place b < 2 ^ 32
-number_fits place b f =
+-- The number in four bytes is below 2^32.
+pub number_at_fits_32_bits : (place : ℕ) (b : List ℕ) → AreBytes b → number_at place b < 2 ^ 32
+number_at_fits_32_bits place b f =
     let g = AreBytes-take 4 (drop place b) (AreBytes-drop b place f) in
     omega (arith, g 0, g 1, g 2, g 3)
 
--- The four bytes of a number make it.
-pub number_is : (n place : ℕ) (b rest : List ℕ) → n < 2 ^ 32 → drop place b ≡ four n ++ rest → number_at place b ≡ n
-number_is n place b rest h e = ap (λ (t : List ℕ). from_le_bytes w32 (take 4 t)) e ∙ from_le_bytes-to_le_bytes_4 n h
+-- If the four bytes of `n` stand at `place`, the number there is `n`.
+pub number_at_of_four_bytes : (n place : ℕ) (b rest : List ℕ) → n < 2 ^ 32 → drop place b ≡ four_bytes_of n ++ rest → number_at place b ≡ n
+number_at_of_four_bytes n place b rest h e = ap (λ (t : List ℕ). from_le_bytes w32 (take 4 t)) e ∙ from_le_bytes-to_le_bytes_4 n h

@@ -4,43 +4,45 @@ use Rattle.std.proofs.lemmas.Bool.Decides.{eqb_tells}
 use Rattle.dfu_formats.specs.declared.dfuse.fault.FileFault.{FileFault}
 use Rattle.dfu_formats.specs.dfuse.Reading.{◌>>=◌}
 
--- What comes of a first step that comes of both.
-pub bound : {A B : Type 0} (r : Result A FileFault) (k : A → Result B FileFault) (x : B) → (r >>= k) ≡ Ok x →
+-- If two steps together give a value, the first step gave a value, and the second gave the result from it.
+pub bound_result_of_both_steps : {A B : Type 0} (r : Result A FileFault) (k : A → Result B FileFault) (x : B) → (r >>= k) ≡ Ok x →
     (y : A) × (r ≡ Ok y) × (k y ≡ Ok x)
-bound (Ok y) k x h = (y, refl, h)
-bound (Err fault) k x h = cc
+bound_result_of_both_steps (Ok y) k x h = (y, refl, h)
+bound_result_of_both_steps (Err fault) k x h = cc
 
--- Nothing comes of a first step with a fault.
-pub never_bound : {A B : Type 0} (r : Result A FileFault) (k : A → Result B FileFault) (fault : FileFault) (x : B) → r ≡ Err fault →
+-- If the first step has a fault, two steps together give no value.
+pub faulty_step_gives_no_value : {A B : Type 0} (r : Result A FileFault) (k : A → Result B FileFault) (fault : FileFault) (x : B) → r
+    ≡ Err fault →
     (r >>= k) ≡ Ok x → ⊥
-never_bound (Ok y) k fault x is h = cc
-never_bound (Err other) k fault x is h = cc
+faulty_step_gives_no_value (Ok y) k fault x is h = cc
+faulty_step_gives_no_value (Err other) k fault x is h = cc
 
--- A condition that doesn't hold is passed over.
-pub passed : {A : Type 0} (t : Bool) (fault : FileFault) (r : Result A FileFault) (x : A) → cond t (Err fault) r ≡ Ok x →
+-- A result without a fault shows that the condition before it was false.
+pub passed_condition_is_false : {A : Type 0} (t : Bool) (fault : FileFault) (r : Result A FileFault) (x : A) → cond t (Err fault) r ≡ Ok x →
     (t ≡ false) × (r ≡ Ok x)
-passed true fault r x h = (cc, cc)
-passed false fault r x h = (refl, h)
+passed_condition_is_false true fault r x h = (cc, cc)
+passed_condition_is_false false fault r x h = (refl, h)
 
--- The same, the other way round.
-pub skip : {A : Type 0} (t : Bool) (fault : FileFault) (r s : Result A FileFault) → t ≡ false → r ≡ s → cond t (Err fault) r ≡ s
-skip true fault r s h e = cc
-skip false fault r s h e = e
+-- If a condition for a fault is false, the result is that of the steps after it.
+pub false_condition_is_skipped : {A : Type 0} (t : Bool) (fault : FileFault) (r s : Result A FileFault) → t ≡ false → r ≡ s →
+    cond t (Err fault) r ≡ s
+false_condition_is_skipped true fault r s h e = cc
+false_condition_is_skipped false fault r s h e = e
 
--- What two answers without a fault have is the same.
-pub same_ok : {A : Type 0} (x y : A) → ◌≡◌ {A = Result A FileFault} (Ok x) (Ok y) → x ≡ y
-same_ok x y h = cc
+-- If two answers without a fault are equal, their values are equal.
+pub ok_values_equal : {A : Type 0} (x y : A) → ◌≡◌ {A = Result A FileFault} (Ok x) (Ok y) → x ≡ y
+ok_values_equal x y h = cc
 
--- A test says no if a number is one at least.
-pub not_zero : (a : ℕ) → 1 ≤ a → eqb a 0 ≡ false
-not_zero a h = elim (eqb_tells a 0) [ inl p ↦ absurd (omega (arith, p.1)) | inr p ↦ p.0 ]
+-- A positive number fails the test for 0.
+pub positive_number_is_not_zero : (a : ℕ) → 1 ≤ a → eqb a 0 ≡ false
+positive_number_is_not_zero a h = elim (eqb_tells a 0) [ inl p ↦ absurd (omega (arith, p.1)) | inr p ↦ p.0 ]
 
--- A number is one at least if the test for 0 says no.
-pub zero_not : (a : ℕ) → eqb a 0 ≡ false → 1 ≤ a
-zero_not zero h = cc
-zero_not (suc n) h = omega arith
+-- A number that fails the test for 0 is positive.
+pub zero_test_false_means_positive : (a : ℕ) → eqb a 0 ≡ false → 1 ≤ a
+zero_test_false_means_positive zero h = cc
+zero_test_false_means_positive (suc n) h = omega arith
 
--- A number that isn't 0 is one more than another.
+-- A number other than 0 is one more than its predecessor.
 pub positive : (n : ℕ) → n ≢ 0 → n ≡ suc (n - 1)
 positive zero h = absurd (h refl)
 positive (suc n) h = omega arith

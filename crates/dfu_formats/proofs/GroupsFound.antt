@@ -1,43 +1,46 @@
--- A range that was read was spelled.
+-- Groups of pages that were read of a map are spelled by its text.
 use Rattle.std.proofs.Common.{◌≡◌, ◌≢◌, ℕ, ◌+◌, ◌*◌, ◌^◌, ◌≤◌, ◌&&◌, Bool, true, false, cond, eqb, ltb, leb, List, [], ◌∷◌, ◌++◌, refl, sym, ap, ◌∙◌, subst, arith, Some, Result, Ok, Err, append_assoc}
 use Rattle.std.proofs.lemmas.Bool.{eq-eqb, ltb-false, leb-true, and_parts}
 use Rattle.dfu_formats.specs.declared.memory.fault.MapFault.{MapFault}
 use Rattle.dfu_formats.specs.declared.memory.fault.MapFault.TheVariants.{BadCount, BadSize, BadType, PastTheEnd}
-use Rattle.dfu_formats.specs.memory.Reading.{NumberRead, LetterRead, Grouped, ◌>>=◌, or, counting, behind, map_number_at, count_at, unit_bytes, unit_at, size_at, access_of, access_at, ranged, group_at}
+use Rattle.dfu_formats.specs.memory.Reading.{NumberRead, LetterRead, Grouped, ◌>>=◌, map_value_or, nonzero_count, text_after_byte, map_number_at, count_at, unit_bytes, unit_at, size_at, access_of, access_at, range_of_pages, group_at}
 use Rattle.dfu_formats.specs.memory.Grammar.{IsNumber, IsUnit, IsGroup}
-use Rattle.dfu_formats.proofs.NumbersRead.{Spelled, number_found}
-use Rattle.dfu_formats.proofs.MapSteps.{then_ok, or_ok, counting_ok, behind_found}
+use Rattle.dfu_formats.proofs.NumbersRead.{NumberSpelled, read_number_is_spelled}
+use Rattle.dfu_formats.proofs.MapSteps.{both_steps_ok, value_or_fault_was_some, nonzero_count_is_positive, byte_taken_was_first}
 
--- A count that was read.
-record Counted (c : NumberRead) (text : List ℕ) : Type 0 where
+-- The text spells a count, `*` and the rest: the digits of the count, at least 1.
+record CountSpelled (c : NumberRead) (text : List ℕ) : Type 0 where
   digits : List ℕ
   text_is : text ≡ digits ++ 42 ∷ c.rest
   number_is : IsNumber 10 5 c.value digits
   some : 1 ≤ c.value
 
--- A number that isn't 0.
-record Number (fault : MapFault) (text : List ℕ) (n : NumberRead) : Type 0 where
-  spelled : Spelled 10 5 n text
+-- The text spells a number other than 0, and then the rest.
+record PositiveNumberSpelled (fault : MapFault) (text : List ℕ) (n : NumberRead) : Type 0 where
+  spelled : NumberSpelled 10 5 n text
   some : 1 ≤ n.value
 
-number : (fault : MapFault) (text : List ℕ) (n : NumberRead) → (or fault (map_number_at 10 5 text) >>= counting fault) ≡ Ok n →
-    Number fault text n
+number : (fault : MapFault) (text : List ℕ) (n : NumberRead)
+    → (map_value_or fault (map_number_at 10 5 text) >>= nonzero_count fault) ≡ Ok n →
+    PositiveNumberSpelled fault text n
 number fault text n h =
-    let s = then_ok (or fault (map_number_at 10 5 text)) (counting fault) n h in
-    let k = counting_ok fault s.0 n s.2 in
-    let e = or_ok fault (map_number_at 10 5 text) s.0 s.1 in record {
-      spelled = number_found 10 5 n text (e ∙ ap Some k.0);
+    let s = both_steps_ok (map_value_or fault (map_number_at 10 5 text)) (nonzero_count fault) n h in
+    let k = nonzero_count_is_positive fault s.0 n s.2 in
+    let e = value_or_fault_was_some fault (map_number_at 10 5 text) s.0 s.1 in record {
+      spelled = read_number_is_spelled 10 5 n text (e ∙ ap Some k.0);
       some = subst (λ (m : NumberRead). 1 ≤ m.value) k.0 k.1;
     }
 
-count_found : (c : NumberRead) (text : List ℕ) → count_at text ≡ Ok c → Counted c text
+read_count_is_spelled : (c : NumberRead) (text : List ℕ) → count_at text ≡ Ok c → CountSpelled c text
 unfolding count_at
-count_found c text h =
-    let s = then_ok (or BadCount (map_number_at 10 5 text) >>= counting BadCount)
-    (λ (n : NumberRead). or BadCount (behind 42 n.rest) >>= λ (rest : List ℕ). Ok (record { value = n.value; rest = rest })) c h in
+read_count_is_spelled c text h =
+    let s = both_steps_ok (map_value_or BadCount (map_number_at 10 5 text) >>= nonzero_count BadCount)
+    (λ (n : NumberRead). map_value_or BadCount (text_after_byte 42 n.rest) >>= λ (rest : List ℕ). Ok
+    (record { value = n.value; rest = rest })) c h in
     let n = number BadCount text s.0 s.1 in
-    let t = then_ok (or BadCount (behind 42 (s.0).rest)) (λ (rest : List ℕ). Ok (record { value = (s.0).value; rest = rest })) c s.2 in
-    let star = behind_found 42 (s.0).rest t.0 (or_ok BadCount (behind 42 (s.0).rest) t.0 t.1) in
+    let t = both_steps_ok (map_value_or BadCount (text_after_byte 42 (s.0).rest))
+    (λ (rest : List ℕ). Ok (record { value = (s.0).value; rest = rest })) c s.2 in
+    let star = byte_taken_was_first 42 (s.0).rest t.0 (value_or_fault_was_some BadCount (text_after_byte 42 (s.0).rest) t.0 t.1) in
     let same : ◌≡◌ {A = NumberRead} (record { value = (s.0).value; rest = t.0 }) c = cc in
     let value : (s.0).value ≡ c.value = ap (λ (m : NumberRead). m.value) same in
     let rest : t.0 ≡ c.rest = ap (λ (m : NumberRead). m.rest) same in record {
@@ -47,8 +50,8 @@ count_found c text h =
       some = subst (λ (v : ℕ). 1 ≤ v) value n.some;
     }
 
--- A unit that was read, or no unit.
-record Measured (value : ℕ) (s : NumberRead) (text : List ℕ) : Type 0 where
+-- A unit, or no unit, precedes the rest, and multiplies the value by its bytes.
+record UnitSpelled (value : ℕ) (s : NumberRead) (text : List ℕ) : Type 0 where
   times : ℕ
   unit : List ℕ
   text_is : text ≡ unit ++ s.rest
@@ -56,20 +59,28 @@ record Measured (value : ℕ) (s : NumberRead) (text : List ℕ) : Type 0 where
   value_is : s.value ≡ times * value
   some : 1 ≤ times
 
-measured_by : (value b : ℕ) (bs : List ℕ) (t : Bool) → eqb (unit_bytes b) 0 ≡ t →
-    Measured value (cond t (record { value = value; rest = b ∷ bs }) (record { value = unit_bytes b * value; rest = bs })) (b ∷ bs)
-measured_by value b bs true e = record { times = 1; unit = []; text_is = refl; unit_is = refl; value_is = omega arith; some = omega arith }
-measured_by value b bs false e =
+unit_spelled_by_test : (value b : ℕ) (bs : List ℕ) (t : Bool) → eqb (unit_bytes b) 0 ≡ t →
+    UnitSpelled value (cond t (record { value = value; rest = b ∷ bs }) (record { value = unit_bytes b * value; rest = bs })) (b ∷ bs)
+unit_spelled_by_test value b bs true e = record {
+  times = 1;
+  unit = [];
+  text_is = refl;
+  unit_is = refl;
+  value_is = omega arith;
+  some =
+      omega arith;
+}
+unit_spelled_by_test value b bs false e =
     let other : unit_bytes b ≢ 0 = λ z. let yes = eq-eqb (unit_bytes b) 0 z in cc in
     record { times = unit_bytes b; unit = b ∷ []; text_is = refl; unit_is = (refl, other); value_is = refl; some = omega (arith, other) }
 
-unit_found : (value : ℕ) (text : List ℕ) → Measured value (unit_at value text) text
+read_unit_is_spelled : (value : ℕ) (text : List ℕ) → UnitSpelled value (unit_at value text) text
 unfolding unit_at
-unit_found value [] = record { times = 1; unit = []; text_is = refl; unit_is = refl; value_is = omega arith; some = omega arith }
-unit_found value (b ∷ bs) = measured_by value b bs (eqb (unit_bytes b) 0) refl
+read_unit_is_spelled value [] = record { times = 1; unit = []; text_is = refl; unit_is = refl; value_is = omega arith; some = omega arith }
+read_unit_is_spelled value (b ∷ bs) = unit_spelled_by_test value b bs (eqb (unit_bytes b) 0) refl
 
--- A size that was read.
-record Sized (s : NumberRead) (text : List ℕ) : Type 0 where
+-- The text spells a size: digits, a unit, and the rest.
+record SizeSpelled (s : NumberRead) (text : List ℕ) : Type 0 where
   digits : List ℕ
   unit : List ℕ
   number : ℕ
@@ -80,17 +91,18 @@ record Sized (s : NumberRead) (text : List ℕ) : Type 0 where
   value_is : s.value ≡ times * number
   some : 1 ≤ s.value
 
-some_product : (a b : ℕ) → 1 ≤ a → 1 ≤ b → 1 ≤ a * b
-some_product a b h k = grind arith
+product_of_positives_positive : (a b : ℕ) → 1 ≤ a → 1 ≤ b → 1 ≤ a * b
+product_of_positives_positive a b h k = grind arith
 
-size_found : (s : NumberRead) (text : List ℕ) → size_at text ≡ Ok s → Sized s text
+read_size_is_spelled : (s : NumberRead) (text : List ℕ) → size_at text ≡ Ok s → SizeSpelled s text
 unfolding size_at
-size_found s text h =
-    let t = then_ok (or BadSize (map_number_at 10 5 text) >>= counting BadSize) (λ (n : NumberRead). Ok (unit_at n.value n.rest)) s h in
+read_size_is_spelled s text h =
+    let t = both_steps_ok (map_value_or BadSize (map_number_at 10 5 text) >>= nonzero_count BadSize)
+    (λ (n : NumberRead). Ok (unit_at n.value n.rest)) s h in
     let n = number BadSize text t.0 t.1 in
     let same : unit_at (t.0).value (t.0).rest ≡ s = cc in
-    let u : Measured (t.0).value s (t.0).rest = subst (λ (m : NumberRead). Measured (t.0).value m (t.0).rest) same
-    (unit_found (t.0).value (t.0).rest) in record {
+    let u : UnitSpelled (t.0).value s (t.0).rest = subst (λ (m : NumberRead). UnitSpelled (t.0).value m (t.0).rest) same
+    (read_unit_is_spelled (t.0).value (t.0).rest) in record {
       digits = n.spelled.digits;
       unit = u.unit;
       number = (t.0).value;
@@ -99,21 +111,21 @@ size_found s text h =
       number_is = n.spelled.number_is;
       unit_is = u.unit_is;
       value_is = u.value_is;
-      some = omega (arith, u.value_is, some_product u.times (t.0).value u.some n.some);
+      some = omega (arith, u.value_is, product_of_positives_positive u.times (t.0).value u.some n.some);
     }
 
--- A letter that was read.
-record Lettered (a : LetterRead) (text : List ℕ) : Type 0 where
+-- The text begins with a letter from a to g, which says the access to pages.
+record AccessLetterSpelled (a : LetterRead) (text : List ℕ) : Type 0 where
   letter : ℕ
   text_is : text ≡ letter ∷ a.rest
   from_a : 97 ≤ letter
   to_g : letter ≤ 103
   access_is : a.access ≡ access_of letter
 
-lettered_by : (b : ℕ) (bs : List ℕ) (a : LetterRead) (t : Bool) → (leb 97 b && leb b 103) ≡ t →
+access_letter_by_test : (b : ℕ) (bs : List ℕ) (a : LetterRead) (t : Bool) → (leb 97 b && leb b 103) ≡ t →
     ◌≡◌ {A = Result LetterRead MapFault} (cond t (Ok (record { access = access_of b; rest = bs })) (Err BadType)) (Ok a) →
-    Lettered a (b ∷ bs)
-lettered_by b bs a true e h =
+    AccessLetterSpelled a (b ∷ bs)
+access_letter_by_test b bs a true e h =
     let both = and_parts (leb 97 b) (leb b 103) e in
     let same : ◌≡◌ {A = LetterRead} (record { access = access_of b; rest = bs }) a = cc in record {
       letter = b;
@@ -122,42 +134,43 @@ lettered_by b bs a true e h =
       to_g = leb-true b 103 both.1;
       access_is = sym (ap (λ (m : LetterRead). m.access) same);
     }
-lettered_by b bs a false e h = cc
+access_letter_by_test b bs a false e h = cc
 
-access_found : (a : LetterRead) (text : List ℕ) → access_at text ≡ Ok a → Lettered a text
+read_access_is_spelled : (a : LetterRead) (text : List ℕ) → access_at text ≡ Ok a → AccessLetterSpelled a text
 unfolding access_at
-access_found a [] h = cc
-access_found a (b ∷ bs) h = lettered_by b bs a (leb 97 b && leb b 103) refl h
+read_access_is_spelled a [] h = cc
+read_access_is_spelled a (b ∷ bs) h = access_letter_by_test b bs a (leb 97 b && leb b 103) refl h
 
-ranged_by : (start count size : ℕ) (a : LetterRead) (g : Grouped) (t : Bool) → ltb (2 ^ 32) (start + count * size) ≡ t →
+page_range_by_end_test : (start count size : ℕ) (a : LetterRead) (g : Grouped) (t : Bool) → ltb (2 ^ 32) (start + count * size) ≡ t →
     ◌≡◌ {A = Result Grouped MapFault} (cond t (Err PastTheEnd)
     (Ok (record { pages = record { start = start; size = size; count = count; access = a.access }; rest = a.rest }))) (Ok g) →
     (start + count * size ≤ 2 ^ 32) × ◌≡◌ {A = Grouped} (record { pages = record { start = start; size = size; count = count; access = a.access }; rest = a.rest }) g
-ranged_by start count size a g true e h = cc
-ranged_by start count size a g false e h = (ltb-false (2 ^ 32) (start + count * size) e, cc)
+page_range_by_end_test start count size a g true e h = cc
+page_range_by_end_test start count size a g false e h = (ltb-false (2 ^ 32) (start + count * size) e, cc)
 
-ranged_found : (start count size : ℕ) (a : LetterRead) (g : Grouped) → ranged start count size a ≡ Ok g →
+checked_page_range_fits : (start count size : ℕ) (a : LetterRead) (g : Grouped) → range_of_pages start count size a ≡ Ok g →
     (start + count * size ≤ 2 ^ 32) × ◌≡◌ {A = Grouped} (record { pages = record { start = start; size = size; count = count; access = a.access }; rest = a.rest }) g
-ranged_found start count size a g h = ranged_by start count size a g (ltb (2 ^ 32) (start + count * size)) refl h
+checked_page_range_fits start count size a g h = page_range_by_end_test start count size a g (ltb (2 ^ 32) (start + count * size)) refl h
 
--- A range that was read was spelled by this text.
+-- The text begins with the text of a group of pages, before the rest.
 pub record GroupSpelled (start : ℕ) (g : Grouped) (text : List ℕ) : Type 0 where
   pub group : List ℕ
   pub text_is : text ≡ group ++ g.rest
   pub group_is : IsGroup start g.pages group
 
--- The parts of a range make its text.
-parts : (cs ss us : List ℕ) (letter : ℕ) (rest : List ℕ) →
+-- A count, `*`, a size, a unit and a letter together are the text of a group.
+group_parts_are_text : (cs ss us : List ℕ) (letter : ℕ) (rest : List ℕ) →
     cs ++ 42 ∷ (ss ++ (us ++ letter ∷ rest)) ≡ (cs ++ 42 ∷ (ss ++ (us ++ letter ∷ []))) ++ rest
-parts cs ss us letter rest = sym (simp append_assoc)
+group_parts_are_text cs ss us letter rest = sym (simp append_assoc)
 
-spelled_group : (start : ℕ) (text : List ℕ) (c s : NumberRead) (a : LetterRead) → Counted c text → Sized s c.rest → Lettered a s.rest →
+group_of_spelled_parts : (start : ℕ) (text : List ℕ) (c s : NumberRead) (a : LetterRead) → CountSpelled c text → SizeSpelled s c.rest →
+    AccessLetterSpelled a s.rest →
     start + c.value * s.value ≤ 2 ^ 32 →
     GroupSpelled start (record { pages = record { start = start; size = s.value; count = c.value; access = a.access }; rest = a.rest }) text
-spelled_group start text c s a cs ss ls ends = record {
+group_of_spelled_parts start text c s a cs ss ls ends = record {
   group = cs.digits ++ 42 ∷ (ss.digits ++ (ss.unit ++ ls.letter ∷ []));
   text_is = cs.text_is ∙ (ap (λ (xs : List ℕ). cs.digits ++ 42 ∷ xs) (ss.text_is ∙ ap (λ (xs : List ℕ). ss.digits ++ (ss.unit ++ xs)) ls.text_is)
-      ∙ parts cs.digits ss.digits ss.unit ls.letter a.rest);
+      ∙ group_parts_are_text cs.digits ss.digits ss.unit ls.letter a.rest);
   group_is = record {
     count_digits = cs.digits;
     size_digits = ss.digits;
@@ -178,13 +191,15 @@ spelled_group start text c s a cs ss ls ends = record {
   };
 }
 
-pub group_found : (start : ℕ) (g : Grouped) (text : List ℕ) → group_at start text ≡ Ok g → GroupSpelled start g text
+pub read_group_is_spelled : (start : ℕ) (g : Grouped) (text : List ℕ) → group_at start text ≡ Ok g → GroupSpelled start g text
 unfolding group_at
-group_found start g text h =
-    let c = then_ok (count_at text) (λ (n : NumberRead). size_at n.rest >>= λ (s : NumberRead). access_at s.rest >>= ranged start n.value
+read_group_is_spelled start g text h =
+    let c = both_steps_ok (count_at text) (λ (n : NumberRead). size_at n.rest >>= λ (s : NumberRead). access_at s.rest >>=
+    range_of_pages start n.value
     s.value) g h in
-    let s = then_ok (size_at (c.0).rest) (λ (s : NumberRead). access_at s.rest >>= ranged start (c.0).value s.value) g c.2 in
-    let a = then_ok (access_at (s.0).rest) (ranged start (c.0).value (s.0).value) g s.2 in
-    let r = ranged_found start (c.0).value (s.0).value a.0 g a.2 in
+    let s = both_steps_ok (size_at (c.0).rest) (λ (s : NumberRead). access_at s.rest >>= range_of_pages start (c.0).value s.value) g c.2 in
+    let a = both_steps_ok (access_at (s.0).rest) (range_of_pages start (c.0).value (s.0).value) g s.2 in
+    let r = checked_page_range_fits start (c.0).value (s.0).value a.0 g a.2 in
     subst (λ (g : Grouped). GroupSpelled start g text) r.1
-    (spelled_group start text c.0 s.0 a.0 (count_found c.0 text c.1) (size_found s.0 (c.0).rest s.1) (access_found a.0 (s.0).rest a.1) r.0)
+    (group_of_spelled_parts start text c.0 s.0 a.0 (read_count_is_spelled c.0 text c.1) (read_size_is_spelled s.0 (c.0).rest s.1)
+    (read_access_is_spelled a.0 (s.0).rest a.1) r.0)

@@ -1,74 +1,86 @@
--- A text is its first line, and the lines after it.
+-- Lines of a text: the first one, and the lines after it.
 use Rattle.std.proofs.Common.{◌≡◌, ℕ, zero, suc, ◌+◌, ◌<◌, ◌≤◌, Bool, true, false, cond, eqb, ltb, List, [], ◌∷◌, length, take, drop, refl, sym, ap, ◌∙◌, arith, Option, Some, None, MatchOption}
 use Rattle.std.proofs.lemmas.Bool.{ltb-true, ltb-false}
 use Rattle.std.specs.List.{position, position_or_len}
 use Rattle.std.proofs.lemmas.Option.{cond_some}
-use Rattle.dfu_formats.specs.images.Lines.{lines, before_lines, is_feed}
+use Rattle.dfu_formats.specs.images.Lines.{lines, byte_before_lines, is_line_feed}
 
-lines_none : lines [] ≡ [] ∷ []
+lines_of_no_bytes : lines [] ≡ [] ∷ []
 unfolding lines
-lines_none = refl
+lines_of_no_bytes = refl
 
--- A line feed ends a line.
-pub lines_feed : (b : ℕ) (bs : List ℕ) → eqb b 10 ≡ true → lines (b ∷ bs) ≡ [] ∷ lines bs
+-- A line feed ends a line, and the other lines follow it.
+pub line_feed_ends_line : (b : ℕ) (bs : List ℕ) → eqb b 10 ≡ true → lines (b ∷ bs) ≡ [] ∷ lines bs
 unfolding lines
-lines_feed b bs e = rw e refl
+line_feed_ends_line b bs e = rw e refl
 
--- Any other byte belongs to it.
-pub lines_other : (b : ℕ) (bs : List ℕ) → eqb b 10 ≡ false → lines (b ∷ bs) ≡ before_lines b (lines bs)
+-- A byte other than a line feed belongs to the first line.
+pub other_byte_joins_line : (b : ℕ) (bs : List ℕ) → eqb b 10 ≡ false → lines (b ∷ bs) ≡ byte_before_lines b (lines bs)
 unfolding lines
-lines_other b bs e = rw e refl
+other_byte_joins_line b bs e = rw e refl
 
-place_feed : (b : ℕ) (bs : List ℕ) → eqb b 10 ≡ true → position_or_len is_feed (b ∷ bs) ≡ 0
-place_feed b bs e = rw e refl
+line_feed_place_is_first : (b : ℕ) (bs : List ℕ) → eqb b 10 ≡ true → position_or_len is_line_feed (b ∷ bs) ≡ 0
+line_feed_place_is_first b bs e = rw e refl
 
-place_other : (b : ℕ) (bs : List ℕ) → eqb b 10 ≡ false → position_or_len is_feed (b ∷ bs) ≡ 1 + position_or_len is_feed bs
-place_other b bs e = rw e refl
+line_feed_place_after_byte : (b : ℕ) (bs : List ℕ) → eqb b 10 ≡ false → position_or_len is_line_feed (b ∷ bs)
+    ≡ 1 + position_or_len is_line_feed bs
+line_feed_place_after_byte b bs e = rw e refl
 
--- The first line ends at the first feed.
-first_line : (text : List ℕ) (n : ℕ) → position_or_len is_feed text ≡ n → n < length text → lines text ≡ take n text ∷ lines (drop (suc n) text)
-first_line [] n e h = absurd (omega (arith, h))
-first_line (b ∷ bs) zero e h =
+-- The first line ends at the first line feed, and the text behind that has the other lines.
+first_line_up_to_feed : (text : List ℕ) (n : ℕ) → position_or_len is_line_feed text ≡ n → n < length text
+    → lines text ≡ take n text ∷ lines (drop (suc n) text)
+first_line_up_to_feed [] n e h = absurd (omega (arith, h))
+first_line_up_to_feed (b ∷ bs) zero e h =
     let by : (t : Bool) → eqb b 10 ≡ t → lines (b ∷ bs) ≡ [] ∷ lines bs =
     λ t. elim t as (λ t. eqb b 10 ≡ t → lines (b ∷ bs) ≡ [] ∷ lines bs) [
-      | true ↦ λ q. lines_feed b bs q
-      | false ↦ λ q. absurd (omega (arith, place_other b bs q, e))
+      | true ↦ λ q. line_feed_ends_line b bs q
+      | false ↦ λ q. absurd (omega (arith, line_feed_place_after_byte b bs q, e))
     ] in by (eqb b 10) refl
-first_line (b ∷ bs) (suc n) e h =
+first_line_up_to_feed (b ∷ bs) (suc n) e h =
     let by : (t : Bool) → eqb b 10 ≡ t → lines (b ∷ bs) ≡ (b ∷ take n bs) ∷ lines (drop (suc n) bs) =
     λ t. elim t as (λ t. eqb b 10 ≡ t → lines (b ∷ bs) ≡ (b ∷ take n bs) ∷ lines (drop (suc n) bs)) [
-      | true ↦ λ q. absurd (omega (arith, place_feed b bs q, e))
-      | false ↦ λ q. lines_other b bs q ∙ ap (before_lines b) (first_line bs n (omega (arith, place_other b bs q, e)) (omega (arith, h)))
+      | true ↦ λ q. absurd (omega (arith, line_feed_place_is_first b bs q, e))
+      | false ↦ λ q. other_byte_joins_line b bs q ∙ ap (byte_before_lines b) (first_line_up_to_feed bs n (omega (
+        arith,
+        line_feed_place_after_byte b bs q,
+        e,
+      )) (omega (arith, h)))
     ] in by (eqb b 10) refl
 
--- A text without a feed is one line.
-only_line : (text : List ℕ) → length text ≤ position_or_len is_feed text → lines text ≡ text ∷ []
-only_line [] h = lines_none
-only_line (b ∷ bs) h =
+-- A text without a line feed is one line.
+text_without_feed_is_line : (text : List ℕ) → length text ≤ position_or_len is_line_feed text → lines text ≡ text ∷ []
+text_without_feed_is_line [] h = lines_of_no_bytes
+text_without_feed_is_line (b ∷ bs) h =
     let by : (t : Bool) → eqb b 10 ≡ t → lines (b ∷ bs) ≡ (b ∷ bs) ∷ [] =
     λ t. elim t as (λ t. eqb b 10 ≡ t → lines (b ∷ bs) ≡ (b ∷ bs) ∷ []) [
-      | true ↦ λ q. absurd (omega (arith, place_feed b bs q, h))
-      | false ↦ λ q. lines_other b bs q ∙ ap (before_lines b) (only_line bs (omega (arith, place_other b bs q, h)))
+      | true ↦ λ q. absurd (omega (arith, line_feed_place_is_first b bs q, h))
+      | false ↦ λ q. other_byte_joins_line b bs q ∙ ap (byte_before_lines b) (text_without_feed_is_line bs (omega (
+        arith,
+        line_feed_place_after_byte b bs q,
+        h,
+      )))
     ] in by (eqb b 10) refl
 
-none_by : (t : Bool) (k : ℕ) → cond t (Some k) None ≡ None → t ≡ false
-none_by true k h = cc
-none_by false k h = refl
+none_means_test_false : (t : Bool) (k : ℕ) → cond t (Some k) None ≡ None → t ≡ false
+none_means_test_false true k h = cc
+none_means_test_false false k h = refl
 
--- The first line, and those after its feed.
-pub lines_at : (text : List ℕ) (n j : ℕ) → j ≡ suc n → position is_feed text ≡ Some n → lines text ≡ take n text ∷ lines (drop j text)
-lines_at text n j e h =
-    let s = cond_some (ltb (position_or_len is_feed text) (length text)) (position_or_len is_feed text) n h in
-    let within = ltb-true (position_or_len is_feed text) (length text) s.0 in
-    first_line text n s.1 (omega (arith, within, s.1)) ∙ ap (λ (k : ℕ). take n text ∷ lines (drop k text)) (sym e)
+-- The text up to its first line feed is the first line, and the text behind that has the other lines.
+pub lines_at_first_feed : (text : List ℕ) (n j : ℕ) → j ≡ suc n → position is_line_feed text ≡ Some n → lines text
+    ≡ take n text ∷ lines (drop j text)
+lines_at_first_feed text n j e h =
+    let s = cond_some (ltb (position_or_len is_line_feed text) (length text)) (position_or_len is_line_feed text) n h in
+    let within = ltb-true (position_or_len is_line_feed text) (length text) s.0 in
+    first_line_up_to_feed text n s.1 (omega (arith, within, s.1)) ∙ ap (λ (k : ℕ). take n text ∷ lines (drop k text)) (sym e)
 
--- The last line.
-pub lines_last : (text : List ℕ) → position is_feed text ≡ None → lines text ≡ text ∷ []
-lines_last text h =
-    only_line text (ltb-false (position_or_len is_feed text) (length text) (none_by (ltb (position_or_len is_feed text) (length text)) (position_or_len is_feed text) h))
+-- A text that has no line feed is the last line.
+pub lines_of_last_line : (text : List ℕ) → position is_line_feed text ≡ None → lines text ≡ text ∷ []
+lines_of_last_line text h =
+    text_without_feed_is_line text (ltb-false (position_or_len is_line_feed text) (length text)
+    (none_means_test_false (ltb (position_or_len is_line_feed text) (length text)) (position_or_len is_line_feed text) h))
 
--- There is always a first line.
-pub some_first : {A : Type 0} (o : Option A) (f : A → List (List ℕ)) (all : List (List ℕ)) (line : List ℕ) →
+-- A text has a first line.
+pub lines_have_first_line : {A : Type 0} (o : Option A) (f : A → List (List ℕ)) (all : List (List ℕ)) (line : List ℕ) →
     MatchOption o (all ≡ line ∷ []) (λ rest. all ≡ line ∷ f rest) → (more : List (List ℕ)) × (all ≡ line ∷ more)
-some_first None f all line h = ([], h)
-some_first (Some rest) f all line h = (f rest, h)
+lines_have_first_line None f all line h = ([], h)
+lines_have_first_line (Some rest) f all line h = (f rest, h)

@@ -1,79 +1,94 @@
--- Digits, pair by pair.
+-- Bytes that pairs of hexadecimal digits spell.
 use Rattle.std.proofs.Common.{◌≡◌, ℕ, suc, ◌+◌, ◌*◌, ◌<◌, ◌≤◌, ltb, List, [], ◌∷◌, ◌++◌, length, drop, get_or, refl, sym, ap, ◌∙◌, arith, Option, Some, None, append_assoc, drop-cons}
 use Rattle.std.proofs.lemmas.List.{append-nil, drop_all}
 use Rattle.std.proofs.lemmas.Bool.{lt-ltb, le-ltb, and_from, and_left, and_right}
-use Rattle.dfu_formats.specs.images.Digits.{hex_value, before, pairs}
+use Rattle.dfu_formats.specs.images.Digits.{hex_value, byte_before_pairs, bytes_of_pairs}
 
--- Bytes before those that digits spell.
-abbrev pub joined : List ℕ → Option (List ℕ) → Option (List ℕ)
-joined front None = None
-joined front (Some bytes) = Some (front ++ bytes)
+-- Bytes before the bytes that digits spell, if the digits spell any.
+abbrev pub bytes_before_spelled : List ℕ → Option (List ℕ) → Option (List ℕ)
+bytes_before_spelled front None = None
+bytes_before_spelled front (Some bytes) = Some (front ++ bytes)
 
-pub joined_none : (spelled : Option (List ℕ)) → joined [] spelled ≡ spelled
-joined_none None = refl
-joined_none (Some bytes) = refl
+pub nothing_before_spelled : (spelled : Option (List ℕ)) → bytes_before_spelled [] spelled ≡ spelled
+nothing_before_spelled None = refl
+nothing_before_spelled (Some bytes) = refl
 
-pairs_nil : pairs [] ≡ Some []
-unfolding pairs
-pairs_nil = refl
+no_digits_spell_no_bytes : bytes_of_pairs [] ≡ Some []
+unfolding bytes_of_pairs
+no_digits_spell_no_bytes = refl
 
-pairs_one : (a : ℕ) → pairs (a ∷ []) ≡ None
-unfolding pairs
-pairs_one a = refl
+one_digit_is_no_byte : (a : ℕ) → bytes_of_pairs (a ∷ []) ≡ None
+unfolding bytes_of_pairs
+one_digit_is_no_byte a = refl
 
--- Two digits are a byte.
-pub pairs_two : (a b : ℕ) (bs : List ℕ) → hex_value a < 16 → hex_value b < 16 →
-    pairs (a ∷ b ∷ bs) ≡ before (16 * hex_value a + hex_value b) (pairs bs)
-unfolding pairs
-pairs_two a b bs h k = rw (and_from (ltb (hex_value a) 16) (ltb (hex_value b) 16) (lt-ltb (hex_value a) 16 h) (lt-ltb (hex_value b) 16 k)) refl
+-- Two hexadecimal digits spell a byte before the bytes of the other pairs.
+pub two_digits_spell_byte : (a b : ℕ) (bs : List ℕ) → hex_value a < 16 → hex_value b < 16 →
+    bytes_of_pairs (a ∷ b ∷ bs) ≡ byte_before_pairs (16 * hex_value a + hex_value b) (bytes_of_pairs bs)
+unfolding bytes_of_pairs
+two_digits_spell_byte a b bs h k = rw (and_from (ltb (hex_value a) 16) (ltb (hex_value b) 16) (lt-ltb (hex_value a) 16 h) (lt-ltb
+    (hex_value b) 16 k)) refl
 
--- Anything else is not a pair.
-pairs_high : (a b : ℕ) (bs : List ℕ) → 16 ≤ hex_value a → pairs (a ∷ b ∷ bs) ≡ None
-unfolding pairs
-pairs_high a b bs h = rw (and_left (ltb (hex_value a) 16) (ltb (hex_value b) 16) (le-ltb (hex_value a) 16 h)) refl
+-- A pair with a byte that is no hexadecimal digit spells nothing.
+pair_needs_high_digit : (a b : ℕ) (bs : List ℕ) → 16 ≤ hex_value a → bytes_of_pairs (a ∷ b ∷ bs) ≡ None
+unfolding bytes_of_pairs
+pair_needs_high_digit a b bs h = rw (and_left (ltb (hex_value a) 16) (ltb (hex_value b) 16) (le-ltb (hex_value a) 16 h)) refl
 
-pairs_low : (a b : ℕ) (bs : List ℕ) → 16 ≤ hex_value b → pairs (a ∷ b ∷ bs) ≡ None
-unfolding pairs
-pairs_low a b bs h = rw (and_right (ltb (hex_value a) 16) (ltb (hex_value b) 16) (le-ltb (hex_value b) 16 h)) refl
+pair_needs_low_digit : (a b : ℕ) (bs : List ℕ) → 16 ≤ hex_value b → bytes_of_pairs (a ∷ b ∷ bs) ≡ None
+unfolding bytes_of_pairs
+pair_needs_low_digit a b bs h = rw (and_right (ltb (hex_value a) 16) (ltb (hex_value b) 16) (le-ltb (hex_value b) 16 h)) refl
 
-drop_one : (xs : List ℕ) (i : ℕ) → i + 1 ≡ length xs → drop i xs ≡ get_or xs i 0 ∷ []
-drop_one xs i h = drop-cons xs i 0 (omega (arith, h)) ∙ ap (λ (ys : List ℕ). get_or xs i 0 ∷ ys) (drop_all (suc i) xs (omega (arith, h)))
+drop_before_last_byte : (xs : List ℕ) (i : ℕ) → i + 1 ≡ length xs → drop i xs ≡ get_or xs i 0 ∷ []
+drop_before_last_byte xs i h = drop-cons xs i 0 (omega (arith, h))
+    ∙ ap (λ (ys : List ℕ). get_or xs i 0 ∷ ys) (drop_all (suc i) xs (omega (arith, h)))
 
-drop_two : (xs : List ℕ) (i j k : ℕ) → j ≡ suc i → k ≡ suc j → j < length xs → drop i xs ≡ get_or xs i 0 ∷ get_or xs j 0 ∷ drop k xs
-drop_two xs i j k e f h =
+drop_before_next_pair : (xs : List ℕ) (i j k : ℕ) → j ≡ suc i → k ≡ suc j → j < length xs → drop i xs
+    ≡ get_or xs i 0 ∷ get_or xs j 0 ∷ drop k xs
+drop_before_next_pair xs i j k e f h =
     drop-cons xs i 0 (omega (arith, e, h)) ∙ ap (λ (ys : List ℕ). get_or xs i 0 ∷ ys)
     (ap (λ (n : ℕ). drop n xs) (sym e) ∙ drop-cons xs j 0 h ∙ ap (λ (n : ℕ). get_or xs j 0 ∷ drop n xs) (sym f))
 
--- All digits are read.
-pub spelled_all : (xs front : List ℕ) (i : ℕ) → length xs ≤ i → joined front (pairs (drop i xs)) ≡ pairs xs → pairs xs ≡ Some front
-spelled_all xs front i h so_far =
-    sym so_far ∙ ap (joined front) (ap pairs (drop_all i xs h) ∙ pairs_nil) ∙ ap Some (append-nil front)
+-- Once all digits are read, the bytes so far are all bytes.
+pub pairs_read_to_end : (xs front : List ℕ) (i : ℕ) → length xs ≤ i → bytes_before_spelled front (bytes_of_pairs (drop i xs))
+    ≡ bytes_of_pairs xs
+    → bytes_of_pairs xs ≡ Some front
+pairs_read_to_end xs front i h so_far =
+    sym so_far ∙ ap (bytes_before_spelled front) (ap bytes_of_pairs (drop_all i xs h) ∙ no_digits_spell_no_bytes)
+    ∙ ap Some (append-nil front)
 
--- Only one digit is left.
-pub spelled_odd : (xs front : List ℕ) (i : ℕ) → i + 1 ≡ length xs → joined front (pairs (drop i xs)) ≡ pairs xs → pairs xs ≡ None
-spelled_odd xs front i h so_far =
-    sym so_far ∙ ap (joined front) (ap pairs (drop_one xs i h) ∙ pairs_one (get_or xs i 0))
+-- If one digit is left over, the digits spell no bytes.
+pub odd_digit_left_over : (xs front : List ℕ) (i : ℕ) → i + 1 ≡ length xs → bytes_before_spelled front (bytes_of_pairs (drop i xs))
+    ≡ bytes_of_pairs xs
+    → bytes_of_pairs xs ≡ None
+odd_digit_left_over xs front i h so_far =
+    sym so_far ∙ ap (bytes_before_spelled front) (ap bytes_of_pairs (drop_before_last_byte xs i h) ∙ one_digit_is_no_byte (get_or xs i 0))
 
--- One of two is no digit.
-pub spelled_high : (xs front : List ℕ) (i j k : ℕ) → j ≡ suc i → k ≡ suc j → j < length xs → 16 ≤ hex_value (get_or xs i 0) →
-    joined front (pairs (drop i xs)) ≡ pairs xs → pairs xs ≡ None
-spelled_high xs front i j k e f h d so_far =
-    sym so_far ∙ ap (joined front) (ap pairs (drop_two xs i j k e f h) ∙ pairs_high (get_or xs i 0) (get_or xs j 0) (drop k xs) d)
+-- If a byte of the next pair is no hexadecimal digit, the digits spell no bytes.
+pub high_digit_missing : (xs front : List ℕ) (i j k : ℕ) → j ≡ suc i → k ≡ suc j → j < length xs → 16 ≤ hex_value (get_or xs i 0) →
+    bytes_before_spelled front (bytes_of_pairs (drop i xs)) ≡ bytes_of_pairs xs → bytes_of_pairs xs ≡ None
+high_digit_missing xs front i j k e f h d so_far =
+    sym so_far ∙ ap (bytes_before_spelled front) (ap bytes_of_pairs (drop_before_next_pair xs i j k e f h)
+    ∙ pair_needs_high_digit (get_or xs i 0) (get_or xs j 0) (drop k xs) d)
 
-pub spelled_low : (xs front : List ℕ) (i j k : ℕ) → j ≡ suc i → k ≡ suc j → j < length xs → 16 ≤ hex_value (get_or xs j 0) →
-    joined front (pairs (drop i xs)) ≡ pairs xs → pairs xs ≡ None
-spelled_low xs front i j k e f h d so_far =
-    sym so_far ∙ ap (joined front) (ap pairs (drop_two xs i j k e f h) ∙ pairs_low (get_or xs i 0) (get_or xs j 0) (drop k xs) d)
+pub low_digit_missing : (xs front : List ℕ) (i j k : ℕ) → j ≡ suc i → k ≡ suc j → j < length xs → 16 ≤ hex_value (get_or xs j 0) →
+    bytes_before_spelled front (bytes_of_pairs (drop i xs)) ≡ bytes_of_pairs xs → bytes_of_pairs xs ≡ None
+low_digit_missing xs front i j k e f h d so_far =
+    sym so_far ∙ ap (bytes_before_spelled front) (ap bytes_of_pairs (drop_before_next_pair xs i j k e f h)
+    ∙ pair_needs_low_digit (get_or xs i 0) (get_or xs j 0) (drop k xs) d)
 
-joined_more : (front : List ℕ) (b : ℕ) (spelled : Option (List ℕ)) → joined front (before b spelled) ≡ joined (front ++ b ∷ []) spelled
-joined_more front b None = refl
-joined_more front b (Some bytes) = ap Some (sym (append_assoc front (b ∷ []) bytes))
+byte_moves_to_front : (front : List ℕ) (b : ℕ) (spelled : Option (List ℕ)) → bytes_before_spelled front (byte_before_pairs b spelled)
+    ≡ bytes_before_spelled (front ++ b ∷ []) spelled
+byte_moves_to_front front b None = refl
+byte_moves_to_front front b (Some bytes) = ap Some (sym (append_assoc front (b ∷ []) bytes))
 
--- One byte more.
-pub spelled_more : (xs front : List ℕ) (i j k b : ℕ) → j ≡ suc i → k ≡ suc j → j < length xs → hex_value (get_or xs i 0) < 16 →
+-- The next pair of digits adds its byte to the bytes so far.
+pub pair_adds_byte : (xs front : List ℕ) (i j k b : ℕ) → j ≡ suc i → k ≡ suc j → j < length xs → hex_value (get_or xs i 0) < 16 →
     hex_value (get_or xs j 0) < 16 →
-    b ≡ 16 * hex_value (get_or xs i 0) + hex_value (get_or xs j 0) → joined front (pairs (drop i xs)) ≡ pairs xs →
-    joined (front ++ b ∷ []) (pairs (drop k xs)) ≡ pairs xs
-spelled_more xs front i j k b e f h d g v so_far =
-    let two = ap pairs (drop_two xs i j k e f h) ∙ pairs_two (get_or xs i 0) (get_or xs j 0) (drop k xs) d g in
-    sym (joined_more front b (pairs (drop k xs))) ∙ (ap (λ (n : ℕ). joined front (before n (pairs (drop k xs)))) v ∙ (sym (ap (joined front) two) ∙ so_far))
+    b ≡ 16 * hex_value (get_or xs i 0) + hex_value (get_or xs j 0) → bytes_before_spelled front (bytes_of_pairs (drop i xs))
+    ≡ bytes_of_pairs xs →
+    bytes_before_spelled (front ++ b ∷ []) (bytes_of_pairs (drop k xs)) ≡ bytes_of_pairs xs
+pair_adds_byte xs front i j k b e f h d g v so_far =
+    let two = ap bytes_of_pairs (drop_before_next_pair xs i j k e f h)
+    ∙ two_digits_spell_byte (get_or xs i 0) (get_or xs j 0) (drop k xs) d g in
+    sym (byte_moves_to_front front b (bytes_of_pairs (drop k xs))) ∙
+    (ap (λ (n : ℕ). bytes_before_spelled front (byte_before_pairs n (bytes_of_pairs (drop k xs)))) v
+    ∙ (sym (ap (bytes_before_spelled front) two) ∙ so_far))

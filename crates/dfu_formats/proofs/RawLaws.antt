@@ -1,17 +1,18 @@
--- What precedes a suffix.
+-- Bytes before a suffix, by the fault that is found.
 use Rattle.std.proofs.Common.{◌≡◌, ◌-◌, ℕ, List, length, take, get_or, Option, Some, None, Ok, ap, ◌∙◌}
 use Rattle.dfu_suffix.specs.Grammar.{tail_of}
 use Rattle.dfu_suffix.specs.declared.fault.SuffixFault.{SuffixFault}
 use Rattle.dfu_formats.specs.declared.dfuse.raw.RawFault.{RawFault}
-use Rattle.dfu_formats.specs.dfuse.Raw.{raw_refusal, whole_or, payload_by}
+use Rattle.dfu_formats.specs.dfuse.Raw.{raw_refusal, whole_file_or, payload_by}
 
--- By a fault.
-pub by_fault : (o : Option SuffixFault) (f : SuffixFault) (r : Option RawFault) (b : List ℕ) → o ≡ Some f → raw_refusal f ≡ r →
-    payload_by o b ≡ whole_or b r
+-- If dfu_suffix finds a fault, the payload is the whole file, or its refusal.
+pub payload_by_some_fault : (o : Option SuffixFault) (f : SuffixFault) (r : Option RawFault) (b : List ℕ) → o ≡ Some f → raw_refusal f ≡ r →
+    payload_by o b ≡ whole_file_or b r
 unfolding payload_by
-by_fault o f r b e h = ap (λ (p : Option SuffixFault). payload_by p b) e ∙ ap (whole_or b) h
+payload_by_some_fault o f r b e h = ap (λ (p : Option SuffixFault). payload_by p b) e ∙ ap (whole_file_or b) h
 
--- By no fault.
-pub by_none : (o : Option SuffixFault) (b payload : List ℕ) → o ≡ None → take (length b - get_or (tail_of b) 11 0) b ≡ payload → payload_by o b ≡ Ok payload
+-- If dfu_suffix finds no fault, the payload is the file without its suffix.
+pub payload_without_fault : (o : Option SuffixFault) (b payload : List ℕ) → o ≡ None → take (length b - get_or (tail_of b) 11 0) b ≡ payload
+    → payload_by o b ≡ Ok payload
 unfolding payload_by
-by_none o b payload e h = ap (λ (p : Option SuffixFault). payload_by p b) e ∙ ap Ok h
+payload_without_fault o b payload e h = ap (λ (p : Option SuffixFault). payload_by p b) e ∙ ap Ok h

@@ -6,27 +6,28 @@ use Rattle.byteorder.specs.Endian.{little_number}
 use Rattle.dfu_suffix.specs.Grammar.{Content, tail_of, has_fault, fault_order}
 use Rattle.dfu_suffix.specs.declared.fault.SuffixFault.{SuffixFault}
 use Rattle.dfu_suffix.specs.declared.fault.SuffixFault.TheVariants as suffix
-use Rattle.dfu_suffix.proofs.OneReading.{reads}
+use Rattle.dfu_suffix.proofs.OneReading.{parts_are_read}
 use Rattle.dfu_formats.specs.declared.dfuse.fault.FileFault.TheVariants.{BadCrc}
 use Rattle.dfu_formats.specs.dfuse.Reading.{Suffixed, suffixed_by, suffix_by, suffix_at}
 use Rattle.dfu_formats.specs.dfuse.Grammar.{SuffixedFile}
 
-by_dfuse : (o : Option SuffixFault) (b : List ℕ) (x : Suffixed) → o ≡ Some suffix.DfuSe → has_fault b suffix.BadCrc ≡ false → suffixed_by b ≡ x →
+dfuse_fault_reads_suffix : (o : Option SuffixFault) (b : List ℕ) (x : Suffixed) → o ≡ Some suffix.DfuSe → has_fault b suffix.BadCrc
+    ≡ false → suffixed_by b ≡ x →
     suffix_by o b ≡ Ok x
 unfolding suffix_by
-by_dfuse o b x e crc is =
+dfuse_fault_reads_suffix o b x e crc is =
     ap (λ (p : Option SuffixFault). suffix_by p b) e ∙ (cond-false (has_fault b suffix.BadCrc) (Err BadCrc) (Ok (suffixed_by b)) crc ∙ ap Ok is)
 
-abbrev suffixed : Content → Suffixed
-suffixed c = record { payload = c.payload; ids = c.ids }
+abbrev suffixed_of_content : Content → Suffixed
+suffixed_of_content c = record { payload = c.payload; ids = c.ids }
 
--- Each suffix in which a file may end is read.
-pub suffix_read : (b : List ℕ) (x : Suffixed) → SuffixedFile b x → suffix_at b ≡ Ok x
-suffix_read b x h =
-    let r = reads x.payload x.ids 0x011A h.extra b h.spelled h.device_fits h.product_fits h.vendor_fits (omega arith) h.small in
+-- Each suffix of a DfuSe file is read.
+pub spelled_suffix_is_read : (b : List ℕ) (x : Suffixed) → SuffixedFile b x → suffix_at b ≡ Ok x
+spelled_suffix_is_read b x h =
+    let r = parts_are_read x.payload x.ids 0x011A h.extra b h.spelled h.device_fits h.product_fits h.vendor_fits (omega arith) h.small in
     let other : has_fault b suffix.DfuSe ≡ true = eq-eqb (little_number 2 (drop 6 (tail_of b))) 0x011A r.version in
     let first : find (has_fault b) fault_order ≡ Some suffix.DfuSe =
     cond-false (has_fault b suffix.TooLarge) _ _ r.small ∙ (cond-false (has_fault b suffix.TooShort) _ _ r.long
     ∙ (cond-false (has_fault b suffix.NoSignature) _ _ r.signed ∙ (cond-false (has_fault b suffix.BadLength) _ _ r.within
     ∙ cond-true (has_fault b suffix.DfuSe) (Some suffix.DfuSe) _ other))) in
-    by_dfuse (find (has_fault b) fault_order) b x first r.intact (ap suffixed r.content)
+    dfuse_fault_reads_suffix (find (has_fault b) fault_order) b x first r.intact (ap suffixed_of_content r.content)

@@ -1,4 +1,4 @@
--- What reading targets has to do with the grammar.
+-- Targets of a DfuSe file: those that are read are spelled, and those that are spelled are read.
 use Rattle.std.proofs.Common.{◌≡◌, ℕ, zero, suc, ◌^◌, ◌<◌, ◌≤◌, ◌&&◌, true, not, eqb, ltb, List, [], ◌∷◌, ◌++◌, length, take, drop, get_or, Result, Ok, refl, sym, ap, ◌∙◌, subst, arith, length-append, length-take, length-drop}
 use Rattle.std.proofs.lemmas.Bool.{eqb-true, ltb-false, not-false, and_parts, le-ltb}
 use Rattle.std.proofs.lemmas.List.{take-append-drop, take_at, drop_at, drop-drop}
@@ -8,19 +8,20 @@ use Rattle.dfu_suffix.specs.Laws.{AreBytes}
 use Rattle.dfu_formats.specs.images.Elements.{Piece}
 use Rattle.dfu_formats.specs.declared.dfuse.fault.FileFault.{FileFault}
 use Rattle.dfu_formats.specs.declared.dfuse.fault.FileFault.TheVariants.{NoTarget, BadTargetSize}
-use Rattle.dfu_formats.specs.dfuse.Reading.{Target, Heading, ◌>>=◌, number_at, elements_at, is_target, heading_at, target_of, before_targets, targets_at}
-use Rattle.dfu_formats.specs.dfuse.Grammar.{four, spelled_elements, ElementsInRange, target_letters, spelled_targets, TargetsInRange}
-use Rattle.dfu_formats.proofs.FileSteps.{bound, passed, skip, same_ok}
-use Rattle.dfu_formats.proofs.FileFields.{cut, letters_are, number_fits, number_is, six_cut}
-use Rattle.dfu_formats.proofs.ElementLaws.{AreAll, none_of, elements_found, elements_read}
+use Rattle.dfu_formats.specs.dfuse.Reading.{Target, Heading, ◌>>=◌, number_at, elements_at, is_target, heading_at, target_with_elements, target_before_others, targets_at}
+use Rattle.dfu_formats.specs.dfuse.Grammar.{four_bytes_of, spelled_elements, ElementsInRange, target_letters, spelled_targets, TargetsInRange}
+use Rattle.dfu_formats.proofs.FileSteps.{bound_result_of_both_steps, passed_condition_is_false, false_condition_is_skipped, ok_values_equal}
+use Rattle.dfu_formats.proofs.FileFields.{number_bytes_at_place, four_letters_compared_equal, number_at_fits_32_bits, number_at_of_four_bytes, first_six_bytes_apart}
+use Rattle.dfu_formats.proofs.ElementLaws.{IsSpelledList, no_bytes_spell_no_items, read_elements_are_spelled, spelled_elements_are_read}
 
--- A target is spelled so, with what follows it.
+-- Bytes of a target from its letters on, and of what follows it.
 abbrev spelled_heading : Heading → List ℕ
 spelled_heading h =
-    target_letters ++ (h.setting ∷ (four h.named ++ (h.name ++ (four (length h.content) ++ (four h.count ++ (h.content ++ h.rest))))))
+    target_letters ++ (h.setting ∷ (four_bytes_of h.named ++
+    (h.name ++ (four_bytes_of (length h.content) ++ (four_bytes_of h.count ++ (h.content ++ h.rest))))))
 
--- The bytes begin with a target.
-record Heads (b : List ℕ) (h : Heading) : Type 0 where
+-- `b` is the spelled heading `h`, whose fields fit.
+record BeginsWithTarget (b : List ℕ) (h : Heading) : Type 0 where
   pub spelled : b ≡ spelled_heading h
   pub setting_fits : h.setting < 256
   pub named_fits : h.named < 2 ^ 32
@@ -30,24 +31,24 @@ record Heads (b : List ℕ) (h : Heading) : Type 0 where
   pub content_bytes : AreBytes h.content
   pub rest_bytes : AreBytes h.rest
 
--- Letters that are compared one by one are Target.
-target_is : (b : List ℕ) → 6 ≤ length b → is_target b ≡ true → b ≡ target_letters ++ drop 6 b
-target_is b long h =
-    let (e0, e1, e2, e3, more) = letters_are b 84 97 114 103 (eqb (get_or b 4 0) 101 && eqb (get_or b 5 0) 116) h in
+-- Bytes that pass `is_target` begin with the letters Target.
+target_test_finds_letters : (b : List ℕ) → 6 ≤ length b → is_target b ≡ true → b ≡ target_letters ++ drop 6 b
+target_test_finds_letters b long h =
+    let (e0, e1, e2, e3, more) = four_letters_compared_equal b 84 97 114 103 (eqb (get_or b 4 0) 101 && eqb (get_or b 5 0) 116) h in
     let last = and_parts (eqb (get_or b 4 0) 101) (eqb (get_or b 5 0) 116) more in
     let e4 = eqb-true (get_or b 4 0) 101 last.0 in
     let e5 = eqb-true (get_or b 5 0) 116 last.1 in
-    let cells = six_cut b long in
+    let cells = first_six_bytes_apart b long in
     cc
 
--- What is taken off was there.
-heading_found : (b : List ℕ) (h : Heading) → AreBytes b → heading_at b ≡ Ok h → Heads b h
+-- A heading that was read of bytes is spelled by the bytes.
+read_heading_is_spelled : (b : List ℕ) (h : Heading) → AreBytes b → heading_at b ≡ Ok h → BeginsWithTarget b h
 unfolding heading_at
-heading_found b h f e =
+read_heading_is_spelled b h f e =
     let n = number_at 266 b in
-    let p0 = passed (ltb (length b) 274) NoTarget _ h e in
-    let p1 = passed (not (is_target b)) NoTarget _ h p0.1 in
-    let p2 = passed (ltb (length (drop 274 b)) n) BadTargetSize _ h p1.1 in
+    let p0 = passed_condition_is_false (ltb (length b) 274) NoTarget _ h e in
+    let p1 = passed_condition_is_false (not (is_target b)) NoTarget _ h p0.1 in
+    let p2 = passed_condition_is_false (ltb (length (drop 274 b)) n) BadTargetSize _ h p1.1 in
     let long : 274 ≤ length b = ltb-false (length b) 274 p0.0 in
     let room : n ≤ length (drop 274 b) = ltb-false (length (drop 274 b)) n p2.0 in
     let content = take n (drop 274 b) in
@@ -55,84 +56,90 @@ heading_found b h f e =
     let name = take 255 (drop 11 b) in
     let has : length content ≡ n = length-take n (drop 274 b) ∙ omega (arith, room) in
     let d274 : drop 274 b ≡ content ++ rest = sym (take-append-drop n (drop 274 b)) in
-    let d270 : drop 270 b ≡ four (number_at 270 b) ++ drop 274 b = cut 270 274 b f refl long in
-    let d266 : drop 266 b ≡ four (length content) ++ drop 270 b =
-    cut 266 270 b f refl (omega (arith, long)) ∙ ap (λ (k : ℕ). four k ++ drop 270 b) (sym has) in
+    let d270 : drop 270 b ≡ four_bytes_of (number_at 270 b) ++ drop 274 b = number_bytes_at_place 270 274 b f refl long in
+    let d266 : drop 266 b ≡ four_bytes_of (length content) ++ drop 270 b =
+    number_bytes_at_place 266 270 b f refl (omega (arith, long)) ∙ ap (λ (k : ℕ). four_bytes_of k ++ drop 270 b) (sym has) in
     let d11 : drop 11 b ≡ name ++ drop 266 b =
     sym (take-append-drop 255 (drop 11 b)) ∙ ap (λ (z : List ℕ). name ++ z) (drop-drop 255 11 b) in
-    let d7 : drop 7 b ≡ four (number_at 7 b) ++ drop 11 b = cut 7 11 b f refl (omega (arith, long)) in
+    let d7 : drop 7 b ≡ four_bytes_of (number_at 7 b) ++ drop 11 b = number_bytes_at_place 7 11 b f refl (omega (arith, long)) in
     let d6 : drop 6 b ≡ get_or b 6 0 ∷ drop 7 b = drop-cons b 6 0 (omega (arith, long)) in
-    let d0 : b ≡ target_letters ++ drop 6 b = target_is b (omega (arith, long)) (not-false (is_target b) p1.0) in
-    let w270 = d270 ∙ ap (λ (z : List ℕ). four (number_at 270 b) ++ z) d274 in
-    let w266 = d266 ∙ ap (λ (z : List ℕ). four (length content) ++ z) w270 in
+    let d0 : b ≡ target_letters ++ drop 6 b = target_test_finds_letters b (omega (arith, long)) (not-false (is_target b) p1.0) in
+    let w270 = d270 ∙ ap (λ (z : List ℕ). four_bytes_of (number_at 270 b) ++ z) d274 in
+    let w266 = d266 ∙ ap (λ (z : List ℕ). four_bytes_of (length content) ++ z) w270 in
     let w11 = d11 ∙ ap (λ (z : List ℕ). name ++ z) w266 in
-    let w7 = d7 ∙ ap (λ (z : List ℕ). four (number_at 7 b) ++ z) w11 in
+    let w7 = d7 ∙ ap (λ (z : List ℕ). four_bytes_of (number_at 7 b) ++ z) w11 in
     let w6 = d6 ∙ ap (λ (z : List ℕ). get_or b 6 0 ∷ z) w7 in
-    subst (λ (t : Heading). Heads b t) (same_ok _ h p2.1) (record {
+    subst (λ (t : Heading). BeginsWithTarget b t) (ok_values_equal _ h p2.1) (record {
       spelled = d0 ∙ ap (λ (z : List ℕ). target_letters ++ z) w6;
       setting_fits = f 6;
-      named_fits = number_fits 7 b f;
+      named_fits = number_at_fits_32_bits 7 b f;
       name_fits = length-take 255 (drop 11 b) ∙ omega (arith, long, length-drop 11 b);
-      size_fits = omega (arith, has, number_fits 266 b f);
-      count_fits = number_fits 270 b f;
+      size_fits = omega (arith, has, number_at_fits_32_bits 266 b f);
+      count_fits = number_at_fits_32_bits 270 b f;
       content_bytes = AreBytes-take n (drop 274 b) (AreBytes-drop b 274 f);
       rest_bytes = AreBytes-drop (drop 274 b) n (AreBytes-drop b 274 f);
     })
 
-heading_same : (a a' n n' k k' : ℕ) (m m' e e' r r' : List ℕ) → a ≡ a' → n ≡ n' → m ≡ m' → k ≡ k' → e ≡ e' → r ≡ r' →
+headings_equal : (a a' n n' k k' : ℕ) (m m' e e' r r' : List ℕ) → a ≡ a' → n ≡ n' → m ≡ m' → k ≡ k' → e ≡ e' → r ≡ r' →
     ◌≡◌ {A = Heading} (record { setting = a; named = n; name = m; count = k; content = e; rest = r })
     (record { setting = a'; named = n'; name = m'; count = k'; content = e'; rest = r' })
-heading_same a a' n n' k k' m m' e e' r r' h0 h1 h2 h3 h4 h5 = cc
+headings_equal a a' n n' k k' m m' e e' r r' h0 h1 h2 h3 h4 h5 = cc
 
--- A target whose parts fit is taken off.
+-- The fields of a heading fit their bytes.
 record HeadingFits (h : Heading) : Type 0 where
   pub named_fits : h.named < 2 ^ 32
   pub name_fits : length h.name ≡ 255
   pub size_fits : length h.content < 2 ^ 32
   pub count_fits : h.count < 2 ^ 32
 
-heading_read : (h : Heading) → HeadingFits h → heading_at (spelled_heading h) ≡ Ok h
+spelled_heading_is_read : (h : Heading) → HeadingFits h → heading_at (spelled_heading h) ≡ Ok h
 unfolding heading_at
-heading_read h fits =
+spelled_heading_is_read h fits =
     let b = spelled_heading h in
     let n = length h.content in
     let end = h.content ++ h.rest in
-    let counted = four h.count ++ end in
-    let sized = four n ++ counted in
-    let d7 : drop 7 b ≡ four h.named ++ (h.name ++ sized) = refl in
+    let counted = four_bytes_of h.count ++ end in
+    let sized = four_bytes_of n ++ counted in
+    let d7 : drop 7 b ≡ four_bytes_of h.named ++ (h.name ++ sized) = refl in
     let d11 : drop 11 b ≡ h.name ++ sized = refl in
     let d266 : drop 266 b ≡ sized = sym (drop-drop 255 11 b) ∙ drop_at h.name sized 255 fits.name_fits in
     let d270 : drop 270 b ≡ counted = sym (drop-drop 4 266 b) ∙ ap (drop 4) d266 in
     let d274 : drop 274 b ≡ end = sym (drop-drop 4 270 b) ∙ ap (drop 4) d270 in
-    let named : number_at 7 b ≡ h.named = number_is h.named 7 b (h.name ++ sized) fits.named_fits d7 in
-    let size : number_at 266 b ≡ n = number_is n 266 b counted fits.size_fits d266 in
-    let count : number_at 270 b ≡ h.count = number_is h.count 270 b end fits.count_fits d270 in
+    let named : number_at 7 b ≡ h.named = number_at_of_four_bytes h.named 7 b (h.name ++ sized) fits.named_fits d7 in
+    let size : number_at 266 b ≡ n = number_at_of_four_bytes n 266 b counted fits.size_fits d266 in
+    let count : number_at 270 b ≡ h.count = number_at_of_four_bytes h.count 270 b end fits.count_fits d270 in
     let name : take 255 (drop 11 b) ≡ h.name = take_at h.name sized 255 fits.name_fits in
     let content : take (number_at 266 b) (drop 274 b) ≡ h.content = ap (take (number_at 266 b)) d274
     ∙ take_at h.content h.rest (number_at 266 b) (sym size) in
     let rest : drop (number_at 266 b) (drop 274 b) ≡ h.rest = ap (drop (number_at 266 b)) d274
     ∙ drop_at h.content h.rest (number_at 266 b) (sym size) in
-    skip (ltb (length b) 274) NoTarget _ _ (le-ltb (length b) 274 (omega (arith, length-append h.name sized, fits.name_fits)))
-    (skip (not (is_target b)) NoTarget _ _ refl
-    (skip (ltb (length (drop 274 b)) (number_at 266 b)) BadTargetSize _ _
+    false_condition_is_skipped (ltb (length b) 274) NoTarget _ _ (le-ltb (length b) 274 (omega (
+      arith,
+      length-append h.name sized,
+      fits.name_fits,
+    )))
+    (false_condition_is_skipped (not (is_target b)) NoTarget _ _ refl
+    (false_condition_is_skipped (ltb (length (drop 274 b)) (number_at 266 b)) BadTargetSize _ _
     (le-ltb (length (drop 274 b)) (number_at 266 b) (omega (arith, ap length d274, length-append h.content h.rest, size)))
-    (ap Ok (heading_same _ _ _ _ _ _ _ _ _ _ _ _ refl named name count content rest))))
+    (ap Ok (headings_equal _ _ _ _ _ _ _ _ _ _ _ _ refl named name count content rest))))
 
--- The bytes are these targets, so many, and nothing else.
-abbrev pub AreTargets : ℕ → List ℕ → List Target → Type 0
-AreTargets count b ts = AreAll spelled_targets TargetsInRange count b ts
+-- `b` spells these targets, `count` of them, and nothing else.
+abbrev pub AreSpelledTargets : ℕ → List ℕ → List Target → Type 0
+AreSpelledTargets count b ts = IsSpelledList spelled_targets TargetsInRange count b ts
 
--- A target with its elements is spelled as its heading is.
-one_spelled : (h : Heading) (es : List Piece) (ts : List Target) → h.content ≡ spelled_elements es → length es ≡ h.count → h.rest ≡ spelled_targets ts →
-    spelled_heading h ≡ spelled_targets (target_of h es ∷ ts)
+-- A heading whose content spells its elements spells a target before the others.
+heading_spells_target : (h : Heading) (es : List Piece) (ts : List Target) → h.content ≡ spelled_elements es → length es ≡ h.count →
+    h.rest ≡ spelled_targets ts →
+    spelled_heading h ≡ spelled_targets (target_with_elements h es ∷ ts)
 unfolding spelled_targets
-one_spelled h es ts content count rest = cc
+heading_spells_target h es ts content count rest = cc
 
-one_more : (n : ℕ) (b : List ℕ) (h : Heading) (es : List Piece) (ts : List Target) → Heads b h → h.content ≡ spelled_elements es →
-    length es ≡ h.count → ElementsInRange es → AreTargets n h.rest ts → AreTargets (suc n) b (target_of h es ∷ ts)
+target_before_spelled_targets : (n : ℕ) (b : List ℕ) (h : Heading) (es : List Piece) (ts : List Target) → BeginsWithTarget b h →
+    h.content ≡ spelled_elements es →
+    length es ≡ h.count → ElementsInRange es → AreSpelledTargets n h.rest ts → AreSpelledTargets (suc n) b (target_with_elements h es ∷ ts)
 unfolding TargetsInRange
-one_more n b h es ts heads content count fit r = record {
-  spelled = heads.spelled ∙ one_spelled h es ts content count r.spelled;
+target_before_spelled_targets n b h es ts heads content count fit r = record {
+  spelled = heads.spelled ∙ heading_spells_target h es ts content count r.spelled;
   number = omega (arith, r.number);
   fit = (
     record {
@@ -147,25 +154,26 @@ one_more n b h es ts heads content count fit r = record {
   );
 }
 
--- What was read was there.
-pub targets_found : (count : ℕ) (b : List ℕ) (ts : List Target) → AreBytes b → targets_at count b ≡ Ok ts → AreTargets count b ts
+-- Targets that were read of bytes are spelled by the bytes.
+pub read_targets_are_spelled : (count : ℕ) (b : List ℕ) (ts : List Target) → AreBytes b → targets_at count b ≡ Ok ts →
+    AreSpelledTargets count b ts
 unfolding targets_at spelled_targets TargetsInRange
-targets_found zero [] ts f h = none_of spelled_targets TargetsInRange ts refl tt h
-targets_found zero (x ∷ b) ts f h = cc
-targets_found (suc n) b ts f e =
-    let p = bound (heading_at b) _ ts e in
+read_targets_are_spelled zero [] ts f h = no_bytes_spell_no_items spelled_targets TargetsInRange ts refl tt h
+read_targets_are_spelled zero (x ∷ b) ts f h = cc
+read_targets_are_spelled (suc n) b ts f e =
+    let p = bound_result_of_both_steps (heading_at b) _ ts e in
     let h = p.0 in
-    let heads = heading_found b h f p.1 in
-    let q = bound (elements_at h.count h.content) _ ts p.2 in
-    let elements = elements_found h.count h.content q.0 heads.content_bytes q.1 in
-    let r = bound (targets_at n h.rest) _ ts q.2 in
-    let more = targets_found n h.rest r.0 heads.rest_bytes r.1 in
-    subst (λ (z : List Target). AreTargets (suc n) b z) (same_ok _ ts r.2)
-    (one_more n b h q.0 r.0 heads elements.spelled elements.number elements.fit more)
+    let heads = read_heading_is_spelled b h f p.1 in
+    let q = bound_result_of_both_steps (elements_at h.count h.content) _ ts p.2 in
+    let elements = read_elements_are_spelled h.count h.content q.0 heads.content_bytes q.1 in
+    let r = bound_result_of_both_steps (targets_at n h.rest) _ ts q.2 in
+    let more = read_targets_are_spelled n h.rest r.0 heads.rest_bytes r.1 in
+    subst (λ (z : List Target). AreSpelledTargets (suc n) b z) (ok_values_equal _ ts r.2)
+    (target_before_spelled_targets n b h q.0 r.0 heads elements.spelled elements.number elements.fit more)
 
--- The heading of a target with others after it.
-abbrev heading_of : Target → List ℕ → Heading
-heading_of t rest = record {
+-- The heading of a target, with the bytes after the target.
+abbrev heading_of_target : Target → List ℕ → Heading
+heading_of_target t rest = record {
   setting = t.setting;
   named = t.named;
   name = t.name;
@@ -174,21 +182,23 @@ heading_of t rest = record {
   rest = rest;
 }
 
--- Targets are read.
-pub targets_read : (ts : List Target) → TargetsInRange ts → targets_at (length ts) (spelled_targets ts) ≡ Ok ts
+-- Targets that are spelled one after the other are read.
+pub spelled_targets_are_read : (ts : List Target) → TargetsInRange ts → targets_at (length ts) (spelled_targets ts) ≡ Ok ts
 unfolding targets_at spelled_targets TargetsInRange
-targets_read [] h = refl
-targets_read (t ∷ ts) h =
-    let k = heading_of t (spelled_targets ts) in
+spelled_targets_are_read [] h = refl
+spelled_targets_are_read (t ∷ ts) h =
+    let k = heading_of_target t (spelled_targets ts) in
     let fits = h.0 in
-    let heading = heading_read k (record {
+    let heading = spelled_heading_is_read k (record {
       named_fits = fits.named_fits;
       name_fits = fits.name_fits;
       size_fits = fits.size_fits;
       count_fits = fits.count_fits;
     }) in
-    ap (λ (r : Result Heading FileFault). r >>= λ h. elements_at h.count h.content >>= λ es. before_targets (target_of h es) (targets_at (length ts) h.rest))
+    ap (λ (r : Result Heading FileFault). r >>= λ h. elements_at h.count h.content >>= λ es. target_before_others (target_with_elements h
+    es) (targets_at (length ts) h.rest))
     heading
-    ∙ (ap (λ (r : Result (List Piece) FileFault). r >>= λ es. before_targets (target_of k es) (targets_at (length ts) (spelled_targets ts)))
-    (elements_read t.elements fits.elements_fit)
-    ∙ ap (before_targets t) (targets_read ts h.1))
+    ∙ (ap (λ (r : Result (List Piece) FileFault). r >>= λ es. target_before_others (target_with_elements k es) (targets_at (length ts)
+    (spelled_targets ts)))
+    (spelled_elements_are_read t.elements fits.elements_fit)
+    ∙ ap (target_before_others t) (spelled_targets_are_read ts h.1))

@@ -1,7 +1,8 @@
 //! DfuSe files (ST's UM0391): what goes where in a device's memory, as elements of an address and bytes.
 //!
 //! `read` takes a whole file apart. `File::image` lists the elements of one alternate setting by their addresses, as `dfuse_host` wants
-//! them; `read_raw` makes one of a file without addresses, and `list` takes those that `dfu_formats::images` reads. It takes no memory.
+//! them; `read_raw` makes an element of a file without addresses, and `list` takes the elements that `dfu_formats::images` reads. No call
+//! takes memory.
 
 mod element;
 mod elements;

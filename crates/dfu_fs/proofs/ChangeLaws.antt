@@ -8,25 +8,25 @@ use Rattle.dfu_suffix.specs.declared.fault.SuffixFault.{SuffixFault}
 use Rattle.dfu_suffix.specs.declared.fault.SuffixFault.TheVariants as fault
 use Rattle.dfu_wire.specs.declared.ids.Ids.{Ids}
 use Rattle.dfu_fs.specs.declared.changing.Change.{Change}
-use Rattle.dfu_fs.specs.Changing.{ChangesFile, IsChanged, changed, with_register, fields}
+use Rattle.dfu_fs.specs.Changing.{ChangesFile, IsChanged, changed_ids, with_register, suffix_fields}
 
--- The first fault of the bytes is what comes of them.
-pub refuses : (change : Change) (old : List ℕ) (fault : SuffixFault) → First fault old → ChangesFile change old (Err fault)
-refuses change old fault.TooShort h = h
-refuses change old fault.NoSignature h = h
-refuses change old fault.BadLength h = h
-refuses change old fault.DfuSe h = h
-refuses change old fault.BadCrc h = h
-refuses change old fault.AlreadySuffixed h = h
-refuses change old fault.TooLarge h = h
-refuses change old fault.NoMemory h = tt
-refuses change old fault.Read h = h
-refuses change old fault.Write h = h
+-- If the bytes have a first fault, changing them is refused by the fault.
+pub change_refused_by_fault : (change : Change) (old : List ℕ) (fault : SuffixFault) → First fault old → ChangesFile change old (Err fault)
+change_refused_by_fault change old fault.TooShort h = h
+change_refused_by_fault change old fault.NoSignature h = h
+change_refused_by_fault change old fault.BadLength h = h
+change_refused_by_fault change old fault.DfuSe h = h
+change_refused_by_fault change old fault.BadCrc h = h
+change_refused_by_fault change old fault.AlreadySuffixed h = h
+change_refused_by_fault change old fault.TooLarge h = h
+change_refused_by_fault change old fault.NoMemory h = tt
+change_refused_by_fault change old fault.Read h = h
+change_refused_by_fault change old fault.Write h = h
 
 -- All but the last 16 bytes of a file are its payload and its extra bytes.
-front_is : (payload : List ℕ) (ids : Ids) (dfu : ℕ) (extra old : List ℕ) → IsFile payload ids dfu extra old →
+front_is_payload_and_extra : (payload : List ℕ) (ids : Ids) (dfu : ℕ) (extra old : List ℕ) → IsFile payload ids dfu extra old →
     (take (length old - 16) old ≡ payload ++ extra) × (length old ≡ length (payload ++ extra) + 16)
-front_is payload ids dfu extra old h =
+front_is_payload_and_extra payload ids dfu extra old h =
     let f = fields_before_crc ids dfu extra in
     let c = to_le_bytes w32 (register (before_crc payload ids dfu extra)) in
     let whole : old ≡ (payload ++ extra) ++ (f ++ c) =
@@ -35,18 +35,19 @@ front_is payload ids dfu extra old h =
     let same : length (payload ++ extra) ≡ length old - 16 = omega (arith, len) in
     (ap (take (length old - 16)) whole ∙ take_at (payload ++ extra) (f ++ c) (length old - 16) same, len)
 
--- The bytes before the last 16 of a file, with fields of other identifiers and the register over all that, are the changed file.
-pub is_changed : (change : Change) (payload extra old new front : List ℕ) (ids now : Ids) (dfu suffix : ℕ) →
-    IsFile payload ids dfu extra old → suffix ≡ 16 + length extra → front ≡ take (length old - 16) old → now ≡ changed change ids →
-    now.device < 2 ^ 16 → now.product < 2 ^ 16 → now.vendor < 2 ^ 16 → new ≡ with_register (front ++ fields now dfu suffix) →
+-- If the fields and the register of a file are rewritten with other identifiers, the file is changed.
+pub rewritten_file_is_changed : (change : Change) (payload extra old new front : List ℕ) (ids now : Ids) (dfu suffix : ℕ) →
+    IsFile payload ids dfu extra old → suffix ≡ 16 + length extra → front ≡ take (length old - 16) old → now ≡ changed_ids change ids →
+    now.device < 2 ^ 16 → now.product < 2 ^ 16 → now.vendor < 2 ^ 16 → new ≡ with_register (front ++ suffix_fields now dfu suffix) →
     IsChanged change old new
-is_changed change payload extra old new front ids now dfu suffix h is_suffix is_front is_now device product vendor is_new =
-    let at = front_is payload ids dfu extra old h in
+rewritten_file_is_changed change payload extra old new front ids now dfu suffix h is_suffix is_front is_now device product vendor is_new =
+    let at = front_is_payload_and_extra payload ids dfu extra old h in
     let f = fields_before_crc now dfu extra in
-    let same : fields now dfu suffix ≡ f = ap (fields now dfu) is_suffix in
+    let same : suffix_fields now dfu suffix ≡ f = ap (suffix_fields now dfu) is_suffix in
     let front_at : front ≡ payload ++ extra = is_front ∙ at.0 in
-    let before : front ++ fields now dfu suffix ≡ before_crc payload now dfu extra =
-    ap (λ (x : List ℕ). x ++ fields now dfu suffix) front_at ∙ ap (λ (x : List ℕ). (payload ++ extra) ++ x) same ∙ append_assoc payload extra f in
+    let before : front ++ suffix_fields now dfu suffix ≡ before_crc payload now dfu extra =
+    ap (λ (x : List ℕ). x ++ suffix_fields now dfu suffix) front_at ∙ ap (λ (x : List ℕ). (payload ++ extra) ++ x) same
+    ∙ append_assoc payload extra f in
     let spelled : new ≡ with_register (before_crc payload now dfu extra) = is_new ∙ ap with_register before in
     let c = to_le_bytes w32 (register (before_crc payload now dfu extra)) in
     let whole : new ≡ (payload ++ extra) ++ (f ++ c) =

@@ -10,28 +10,28 @@ use Rattle.dfu_wire.specs.declared.ids.Ids.{Ids}
 use Rattle.dfu_fs.specs.declared.changing.Change.{Change}
 
 -- Identifiers change if another one is given.
-abbrev pub changed : Change → Ids → Ids
-changed change ids = record {
+abbrev pub changed_ids : Change → Ids → Ids
+changed_ids change ids = record {
   device = unwrap_or change.device ids.device;
   product = unwrap_or change.product ids.product;
   vendor = unwrap_or change.vendor ids.vendor;
 }
 
 -- The fields before dwCRC, of a suffix with this bLength.
-abbrev pub fields : Ids → (dfu suffix : ℕ) → List ℕ
-fields ids dfu suffix = to_le_bytes w16 ids.device ++ (to_le_bytes w16 ids.product ++ (to_le_bytes w16 ids.vendor
+abbrev pub suffix_fields : Ids → (dfu suffix : ℕ) → List ℕ
+suffix_fields ids dfu suffix = to_le_bytes w16 ids.device ++ (to_le_bytes w16 ids.product ++ (to_le_bytes w16 ids.vendor
     ++ (to_le_bytes w16 dfu ++ (0x55 ∷ 0x46 ∷ 0x44 ∷ suffix ∷ []))))
 
 -- Bytes, and the register over them.
 abbrev pub with_register : List ℕ → List ℕ
 with_register bytes = bytes ++ to_le_bytes w32 (register bytes)
 
--- The new file has the payload, bcdDFU and the extra bytes of the old one, and its identifiers but for those that change.
+-- The new file has the payload, bcdDFU and the extra bytes of the old one, and its identifiers with the change.
 abbrev pub IsChanged : Change → (old new : List ℕ) → Type 0
 IsChanged change old new = (payload : List ℕ) × (ids : Ids) × (dfu : ℕ) × (extra : List ℕ) × IsFile payload ids dfu extra old
-    × IsFile payload (changed change ids) dfu extra new
+    × IsFile payload (changed_ids change ids) dfu extra new
 
--- Result of a change of a file: the changed one, or its first fault, unless memory ran out.
+-- Result of changing a file: the changed file, or its first fault, unless memory ran out.
 abbrev pub ChangesFile : Change → List ℕ → Result (Vec ℕ Global) SuffixFault → Type 0
 ChangesFile change old (Ok new) = IsChanged change old new.items
 ChangesFile change old (Err NoMemory) = Unit {0}

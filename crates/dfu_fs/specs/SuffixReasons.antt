@@ -1,12 +1,12 @@
 -- Reasons for which a suffix is wrong, in words.
 use Rattle.std.specs.Prelude.{ℕ, List, ◌++◌, codes}
 use Rattle.std.specs.Fmt.{decimal}
-use Rattle.dfu_output.specs.AnswerLines.{hex}
+use Rattle.dfu_output.specs.AnswerLines.{hex_padded}
 
 -- Reason for which a check sum is wrong: both sums, in eight hexadecimal digits.
 unfoldable pub sums_why : ℕ → ℕ → List ℕ
 sums_why written found =
-    codes "the check sum in the suffix is " ++ hex 8 written ++ (codes ", and that of the bytes before it " ++ hex 8 found)
+    codes "the check sum in the suffix is " ++ hex_padded 8 written ++ (codes ", and that of the bytes before it " ++ hex_padded 8 found)
 
 -- Reason for which the length of a suffix is wrong: the length that it says, and the bytes of the file.
 unfoldable pub length_why : ℕ → ℕ → List ℕ

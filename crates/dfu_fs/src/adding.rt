@@ -1,4 +1,4 @@
-//! `dfu add`.
+//! `dfu add`: a suffix for a file.
 
 use crate::gathering::{MAX_FILE, gather_fault, refused, refused_bytes, unread};
 use crate::given::{Given, Held, RecordingReader, open};
@@ -25,7 +25,7 @@ pub struct AddOptions {
     pub fill: Option<u8>,
 }
 
-/// The names and the identifiers.
+/// Names of FILE and OUT, and the identifiers.
 #[derive(Clone, Copy)]
 struct Added<'w> {
     file: &'w str,
@@ -33,7 +33,7 @@ struct Added<'w> {
     ids: Ids,
 }
 
-/// Returns a hint about a file that looks like one of a format, by its first bytes.
+/// Returns a hint about `file` if it looks like one of a format, by `head`, its first bytes; else None.
 fn hint(alloc: Global, file: &str, head: &[u8]) -> Option<String> {
     let Looks::Of(format) = look_at(head, b"").looks else {
         return None;
@@ -44,8 +44,8 @@ fn hint(alloc: Global, file: &str, head: &[u8]) -> Option<String> {
     }
 }
 
-/// Adds a suffix to what a reader gives, and makes OUT only if that succeeded; then this text follows the line. The outcome has the
-/// reason of a fault.
+/// Adds a suffix to the bytes of a reader, and makes OUT only if that succeeded; then `behind` follows the line. The outcome has the reason
+/// of a fault.
 fn add_read<'w, R: Files + Print + AllocGlobal, S: Read + Drop>(
     rt: &'w R,
     added: Added<'w>,
@@ -80,7 +80,7 @@ where
     }
 }
 
-/// A file that is refused with this line and for this reason.
+/// Writes `line`, by which `file` is refused, and returns the outcome, with the reason `why`.
 fn refuse_with<R: Print + AllocGlobal>(
     rt: &R,
     file: &str,
@@ -100,7 +100,7 @@ fn refuse_with<R: Print + AllocGlobal>(
     }
 }
 
-/// A file of a format that makes no image.
+/// Writes the line of `fault`, for which `file` of `format` makes no image, and returns the outcome, with its reason.
 fn refuse_image<R: Print + AllocGlobal>(
     rt: &R,
     file: &str,
@@ -116,7 +116,7 @@ fn refuse_image<R: Print + AllocGlobal>(
     refuse_with(rt, file, refused_line(alloc, fault), why(alloc, fault, bad))
 }
 
-/// Adds a suffix to bytes that were read.
+/// Adds a suffix to bytes that were read before.
 fn add_bytes<R: Files + Input + Print + AllocGlobal>(
     rt: &R,
     added: Added<'_>,
@@ -130,7 +130,7 @@ where
     add_read(rt, added, &mut RecordingReader::new(given), behind)
 }
 
-/// Adds a suffix to the image in bytes of a format.
+/// Adds a suffix to the image of bytes in a format.
 fn add_of<R: Files + Input + Print + AllocGlobal>(
     rt: &R,
     added: Added<'_>,
@@ -151,13 +151,13 @@ where
     }
 }
 
-/// Returns whether bytes end with a suffix of DFU or of DfuSe.
+/// Returns true if `bytes` end with a suffix of DFU or of DfuSe.
 fn has_suffix(bytes: &[u8]) -> bool {
     matches!(read(bytes), Ok(_) | Err(SuffixFault::DfuSe))
 }
 
-/// Adds a suffix to the image of a file, of the format that is asked for or that it looks like; to the file as it is if nothing is known
-/// against that. A file that has a suffix already is refused for that.
+/// Adds a suffix to the image of a file, of the format that is asked for or that the file looks like; or to the file as it is, if nothing
+/// speaks against a raw image. A file that has a suffix already is refused.
 fn add_image<R: Files + Input + Print + AllocGlobal>(
     rt: &R,
     added: Added<'_>,
@@ -188,9 +188,9 @@ where
     }
 }
 
-/// Adds a suffix to a file, or to standard input if its name is `-`, and makes the other file only if that succeeded. For an image a
-/// second line says its format and the address of its first byte. The outcome has the reason of a fault, or that a file looks like
-/// one of a format if nothing said how to take it.
+/// Adds a suffix to a file, or to standard input if its name is `-`, and makes the other file only if that succeeded. For an image a second
+/// line gives its format and the address of its first byte. The outcome has the reason of a fault, or that a file looks like one of a
+/// format if no option said how to take it.
 pub fn add_file<R: Files + Input + Print + AllocGlobal>(
     rt: &R,
     file: &str,

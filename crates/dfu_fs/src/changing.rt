@@ -1,13 +1,13 @@
 //! Other identifiers for a file.
 
 ghost use Rattle.std.specs.Prelude.{◌≡◌, ◌++◌, ◌-◌, IfOk, length, take};
-ghost use Rattle.dfu_fs.specs.Changing.{ChangesFile, changed, with_register, fields};
+ghost use Rattle.dfu_fs.specs.Changing.{ChangesFile, changed_ids, with_register, suffix_fields};
 
 use dfu_suffix::{Crc, SuffixFault, read};
 use dfu_wire::Ids;
 use std::alloc::{AllocError, Global};
 
-/// The identifiers that change, each with what it becomes.
+/// Changes of the identifiers, each of them a new number or none.
 #[derive(Clone, Copy)]
 pub struct Change {
     /// idVendor.
@@ -19,7 +19,7 @@ pub struct Change {
 }
 
 fn changed(change: &Change, ids: Ids) -> Ids
-    ensures { result ≡ changed change.now ids }
+    ensures { result ≡ changed_ids change.now ids }
 {
     Ids {
         device: change.device.unwrap_or(ids.device),
@@ -28,7 +28,7 @@ fn changed(change: &Change, ids: Ids) -> Ids
     }
 }
 
-/// The bytes before the last 16, or none if there are fewer.
+/// Returns the bytes before the last 16, or none if there are fewer.
 fn front_of(bytes: &[u8]) -> &[u8]
     ensures { result.now ≡ take (length bytes.now - 16) bytes.now }
 {
@@ -36,7 +36,7 @@ fn front_of(bytes: &[u8]) -> &[u8]
     front
 }
 
-/// Bytes with the fields of a suffix after them, and the check sum of all that.
+/// Returns `front`, the fields of a suffix with `ids`, bcdDFU `dfu` and bLength `suffix` behind it, and then the check sum of both.
 #[tactic(auto, using(std::proofs::lemmas::List::append_assoc))]
 fn rewritten(
     alloc: Global,
@@ -45,7 +45,7 @@ fn rewritten(
     dfu: u16,
     suffix: u8,
 ) -> Result<Vec<u8>, AllocError>
-    ensures { IfOk result (λ v. v.items ≡ with_register (front.now ++ fields ids dfu suffix)) }
+    ensures { IfOk result (λ v. v.items ≡ with_register (front.now ++ suffix_fields ids dfu suffix)) }
 {
     let mut text = Vec::with_capacity(alloc, front.len().saturating_add(16))?;
     text.extend_from_slice(front)?;
@@ -60,7 +60,7 @@ fn rewritten(
     Ok(text)
 }
 
-/// A file with other identifiers, and the check sum for them; the payload, bcdDFU and the extra bytes stay.
+/// Returns the file `bytes` with the identifiers of `change` and the check sum that fits. The payload, bcdDFU and the extra bytes stay.
 ///
 /// # Errors
 ///

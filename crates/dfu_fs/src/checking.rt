@@ -1,4 +1,4 @@
-//! `dfu check`.
+//! `dfu check`: a check of files.
 
 use crate::JsonLines;
 use crate::given::RecordingReader;
@@ -9,8 +9,8 @@ use std::fs;
 use std::io::{self, Read};
 use std::rt::Files;
 
-/// Checks what a reader gives, of the file with this name, and says why it is refused if that is wanted. The line is an object if
-/// `json` says so.
+/// Checks the bytes that `reader` gives, those of `file`, and says why they are refused if `explain` is set. The line is a JSON object if
+/// `json` is set.
 fn check_given<R: Print + AllocGlobal, S: Read + Drop>(
     rt: &R,
     file: &str,
@@ -30,8 +30,8 @@ fn check_given<R: Print + AllocGlobal, S: Read + Drop>(
     Outcome { exit, reason }
 }
 
-/// Checks a file, or standard input if the name is `-`. The two are two types, because a value of both has the 8,192 bytes of standard
-/// input's buffer, which are cleared and moved for a file too.
+/// Checks a file, or standard input if the name is `-`. The two have a type each, because a value of both has the 8,192 bytes of standard
+/// input's buffer, which would be cleared and moved for a file too.
 fn check_file<R: Files + Input + Print + AllocGlobal>(
     rt: &R,
     file: &str,
@@ -54,7 +54,7 @@ fn check_file<R: Files + Input + Print + AllocGlobal>(
     }
 }
 
-/// Checks one of several files, with its name before the line.
+/// Checks `file`, one of several, and prints its name before the line.
 fn check_named<R: Files + Input + Print + AllocGlobal>(
     rt: &R,
     file: &str,
@@ -71,7 +71,8 @@ fn check_named<R: Files + Input + Print + AllocGlobal>(
 }
 
 /// Checks files, or standard input if a name is `-`, and says why each is refused if that is wanted. If there is more than one file, each
-/// line begins with its name. If `json` says so, each line is a JSON object with the name as its member `file`. The end is the worst one.
+/// line begins with its name. If `json` is set, each line is a JSON object with the name as its member `file`. The exit is the worst of the
+/// files.
 pub fn check_files<R: Files + Input + Print + AllocGlobal>(
     rt: &R,
     files: &[String],

@@ -1,4 +1,4 @@
-//! Destination to which OUT leads: the file that is to be made or replaced.
+//! Place to which OUT leads: the file that is to be made or replaced.
 
 use dfu_suffix::check;
 use std::alloc::{AllocError, Global};
@@ -7,13 +7,13 @@ use std::io::{self, ErrorKind};
 use std::os::unix::fs::MetadataExt;
 use std::rt::Files;
 
-/// Symbolic links that are followed, as by Linux.
+/// Largest number of symbolic links that are followed, as by Linux.
 const MAX_LINKS: u32 = 40;
 
-/// Looks at OUT that are made while somebody else replaces it.
+/// Largest number of looks at OUT while somebody else replaces it.
 const MAX_LOOKS: u32 = 10;
 
-/// The name of a file, which is no link, and what is there.
+/// The name of a file, which is no link, and what stands there.
 #[derive(Drop)]
 pub(crate) struct Destination {
     pub name: String,
@@ -21,7 +21,7 @@ pub(crate) struct Destination {
     pub file: Option<Metadata>,
 }
 
-/// The name of another file in the folder of the one with this name.
+/// Returns the name of file `other` in the folder of file `name`.
 pub(crate) fn beside(alloc: Global, name: &str, other: &str) -> Result<String, AllocError> {
     let mut text = String::new(alloc);
     if let Some((folder, _)) = name.rsplit_once('/') {
@@ -32,7 +32,7 @@ pub(crate) fn beside(alloc: Global, name: &str, other: &str) -> Result<String, A
     Ok(text)
 }
 
-/// Returns the result of a look; nothing is no fault.
+/// Returns the file that `look` found; None if nothing is there, which is no fault.
 fn found(look: io::Result<Metadata>) -> io::Result<Option<Metadata>> {
     match look {
         Ok(file) => Ok(Some(file)),
@@ -53,7 +53,7 @@ fn is_link(file: &Option<Metadata>) -> bool {
     }
 }
 
-/// The name that the link with this name leads to.
+/// Returns the name to which `link` leads.
 fn next_name<R: Files + AllocGlobal>(rt: &R, link: &str) -> io::Result<String> {
     let text = fs::read_link(rt, link)?;
     let next = text.as_path().as_str();
@@ -63,7 +63,11 @@ fn next_name<R: Files + AllocGlobal>(rt: &R, link: &str) -> io::Result<String> {
     Ok(beside(rt.alloc(), link, next)?)
 }
 
-/// The place at the end of the links, if OUT is one.
+/// Returns the place to which `out` leads: the end of the links, if it is a link.
+///
+/// # Errors
+///
+/// FilesystemLoop if there are too many links, or the error of a look.
 fn followed<R: Files + AllocGlobal>(rt: &R, out: &str) -> io::Result<Destination> {
     let mut name = String::from_str(rt.alloc(), out)?;
     for _ in 0..=MAX_LINKS {
@@ -76,7 +80,7 @@ fn followed<R: Files + AllocGlobal>(rt: &R, out: &str) -> io::Result<Destination
     Err(io::Error::from(ErrorKind::FilesystemLoop))
 }
 
-/// Returns whether the file that a look found can be OUT's place.
+/// Returns true if `file`, which a look found, can be OUT's place.
 fn may_be(file: &Option<Metadata>) -> bool {
     match file {
         Some(file) => file.is_file(),
@@ -84,7 +88,7 @@ fn may_be(file: &Option<Metadata>) -> bool {
     }
 }
 
-/// Returns whether both looks found nothing, or both the same file.
+/// Returns true if `look` and `other` both found nothing, or both the same file.
 fn is_same(look: &Option<Metadata>, other: &Option<Metadata>) -> bool {
     match (look, other) {
         (None, None) => true,
@@ -93,16 +97,14 @@ fn is_same(look: &Option<Metadata>, other: &Option<Metadata>) -> bool {
     }
 }
 
-/// The place that OUT leads to.
+/// Returns the place to which `out` leads.
 ///
 /// # Errors
 ///
-/// It is no regular file, the links go round, or a look fails; or somebody else replaces it again
-/// and again.
+/// `out` is no regular file, the links go round, or a look fails; or somebody else replaces `out` again and again.
 pub(crate) fn place_of<R: Files + AllocGlobal>(rt: &R, out: &str) -> io::Result<Destination> {
-    // The system's own look comes first, since it may refuse to follow a link that someone else
-    // made; the place has to be what that look found. If it isn't, OUT may have been replaced
-    // between the two, and is looked at anew.
+    // The system's own look comes first, because the system may refuse to follow a link that someone else made; the place has to be what
+    // that look found. If the place is another one, OUT may have been replaced between the two looks, and is looked at anew.
     for _ in 0..MAX_LOOKS {
         let seen = found(fs::metadata(rt, out))?;
         let place = followed(rt, out)?;
@@ -118,8 +120,8 @@ pub(crate) fn place_of<R: Files + AllocGlobal>(rt: &R, out: &str) -> io::Result<
     Err(io::Error::new(ErrorKind::InvalidInput, why))
 }
 
-/// Returns whether the file at OUT's place may go, so that no input is lost that was typed for OUT: it is FILE itself, it has no bytes, or
-/// it is a DFU file, as each that `dfu add` makes. If nothing is there, it may.
+/// Returns whether the file at OUT's place may go, so that no input is lost that was typed for OUT: the file is FILE itself, it is empty,
+/// or it is a DFU file, as each one that `dfu add` makes. If nothing is there, it may.
 fn may_go<R: Files>(rt: &R, file: &str, place: &Destination) -> io::Result<bool> {
     let Some(old) = &place.file else {
         return Ok(true);
@@ -134,11 +136,11 @@ fn may_go<R: Files>(rt: &R, file: &str, place: &Destination) -> io::Result<bool>
     Ok(check(fs::open(rt, place.name.as_str())?).is_ok())
 }
 
-/// The place that OUT of `dfu add` leads to.
+/// Returns the place to which `out`, OUT of `dfu add`, leads.
 ///
 /// # Errors
 ///
-/// Those of `place_of`; or what is there may not go, or can't be looked at.
+/// Those of `place_of`; or the file there must stay, or can't be looked at.
 pub(crate) fn place_for<R: Files + AllocGlobal>(
     rt: &R,
     file: &str,

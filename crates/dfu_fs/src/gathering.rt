@@ -1,4 +1,4 @@
-//! A file that is read whole, and the outcome if it can't be read or is refused.
+//! A file that is read whole, and the outcome if that fails or the file is refused.
 
 use crate::given::{Given, RecordingReader, open};
 use crate::reasons::{error_reason, found_reason, given_reason};
@@ -7,13 +7,13 @@ use dfu_suffix::{Findings, GatherFault, SuffixFault, check_with, gather};
 use std::io;
 use std::rt::Files;
 
-/// The most bytes of a file.
+/// Largest number of bytes of a file.
 pub(crate) const MAX_FILE: usize = 16_777_216;
 
-/// The bytes of a file, or of standard input if its name is `-`, and the reader that noted what a reason is made of.
+/// The bytes of a file, or of standard input if its name is `-`, and the reader, which noted what a reason needs.
 pub(crate) type Gathered<F, I> = (Vec<u8>, RecordingReader<Given<F, I>>);
 
-/// Reads a file whole, or standard input if its name is `-`. If it can't, the outcome of the command.
+/// Reads a file whole, or standard input if its name is `-`. If that fails, the outcome of the command is returned.
 pub(crate) fn gathered<R: Files + Input + Print + AllocGlobal>(
     rt: &R,
     file: &str,
@@ -29,7 +29,7 @@ pub(crate) fn gathered<R: Files + Input + Print + AllocGlobal>(
     }
 }
 
-/// The outcome if a file can't be opened for reading.
+/// Writes the line for `file`, which can't be opened for reading, and returns the outcome.
 pub(crate) fn unread<R: Print + AllocGlobal>(rt: &R, file: &str, error: &io::Error) -> Outcome {
     Outcome {
         exit: fault_text(SuffixFault::Read, &mut io::writer(rt)),
@@ -37,7 +37,7 @@ pub(crate) fn unread<R: Print + AllocGlobal>(rt: &R, file: &str, error: &io::Err
     }
 }
 
-/// The outcome if a file isn't read whole, or there is no memory for what is made of it.
+/// Writes the line for `file`, which isn't read whole, or for what is made of which memory runs out, and returns the outcome.
 pub(crate) fn refused<R: Print + AllocGlobal, S>(
     rt: &R,
     file: &str,
@@ -50,7 +50,8 @@ pub(crate) fn refused<R: Print + AllocGlobal, S>(
     }
 }
 
-/// The outcome if the bytes of a file are refused. They are checked once more if the reason is wanted.
+/// Writes the line for `file`, whose `bytes` are refused for `fault`, and returns the outcome. The bytes are checked once more if
+/// `explain` wants the reason.
 pub(crate) fn refused_bytes<R: Print + AllocGlobal>(
     rt: &R,
     file: &str,
@@ -68,7 +69,7 @@ pub(crate) fn refused_bytes<R: Print + AllocGlobal>(
     }
 }
 
-/// The fault of a file that wasn't read whole.
+/// Returns the fault of a file that wasn't read whole because of `fault`.
 pub fn gather_fault(fault: GatherFault) -> SuffixFault {
     match fault {
         GatherFault::TooLarge => SuffixFault::TooLarge,

@@ -1,10 +1,10 @@
-//! Input that is read: a file, standard input, or bytes that were read; and the notes of it for a reason.
+//! Input of a command: a file, standard input, or bytes that were read; and notes about the input for a reason.
 
 use std::fs;
 use std::io::{self, IsTerminal, Read};
 use std::rt::Files;
 
-/// Bytes that were read, for a reader.
+/// A reader of bytes that were read before.
 #[derive(Drop)]
 pub struct Held {
     bytes: Vec<u8>,
@@ -12,7 +12,7 @@ pub struct Held {
 }
 
 impl Held {
-    /// All of these bytes.
+    /// Returns a reader of all of `bytes`.
     pub(crate) fn new(bytes: Vec<u8>) -> Held {
         Held { bytes, from: 0 }
     }
@@ -28,8 +28,8 @@ impl Read for Held {
     }
 }
 
-/// A file that was opened, standard input, or bytes that were read. One type for all, so that what reads them is
-/// compiled once.
+/// A file that was opened, standard input, or bytes that were read. One type has all three, because the code that reads is then compiled
+/// once.
 #[derive(Drop)]
 pub enum Given<F, I> {
     /// The file.
@@ -60,7 +60,7 @@ impl<F: IsTerminal, I: IsTerminal> IsTerminal for Given<F, I> {
     }
 }
 
-/// A reader, the first bytes that it gave, and the error at which it failed.
+/// A reader, its first bytes, and the error at which it failed.
 #[derive(Drop)]
 pub(crate) struct RecordingReader<R> {
     reader: R,
@@ -70,7 +70,7 @@ pub(crate) struct RecordingReader<R> {
 }
 
 impl<R> RecordingReader<R> {
-    /// A reader from which nothing was read yet.
+    /// Returns a recording reader before the first byte is read from `reader`.
     pub(crate) fn new(reader: R) -> RecordingReader<R> {
         RecordingReader {
             reader,
@@ -80,12 +80,12 @@ impl<R> RecordingReader<R> {
         }
     }
 
-    /// The first 64 bytes, or fewer if it gave fewer.
+    /// Returns the first 64 bytes that the reader gave, or all if it gave fewer.
     pub(crate) fn head(&self) -> &[u8] {
         self.head.get(..self.held).unwrap_or(&[])
     }
 
-    /// Keeps the first bytes.
+    /// Notes the first of `bytes`, as far as there is room for them.
     fn keep(&mut self, bytes: &[u8]) {
         for byte in bytes {
             match self.head.get_mut(self.held) {

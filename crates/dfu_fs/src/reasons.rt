@@ -11,7 +11,7 @@ use dfu_suffix::{Findings, SuffixFault};
 use std::alloc::{AllocError, Global};
 use std::io;
 
-/// Returns the words for a file in a reason: its name, but standard input for the name `-`.
+/// Returns the words for a file in a reason: its name, or standard input for the name `-`.
 fn called(name: &str) -> &str
     ensures input { name.now ≡ codes "-" → result.now ≡ codes "standard input" }
     ensures file { name.now ≢ codes "-" → result.now ≡ name.now }
@@ -19,7 +19,7 @@ fn called(name: &str) -> &str
     if name == "-" { "standard input" } else { name }
 }
 
-/// The line that says why a file is refused, standard input if its name is `-`; none if there is no memory for it.
+/// Returns the line that says `why` file `name` is refused, or standard input if `name` is `-`; None if memory ran out for the line.
 pub fn file_reason(alloc: Global, name: &str, why: &str) -> Option<String>
     ensures input { name.now ≡ codes "-" → IfSome result (λ t. string_bytes t ≡ reason_line [] (codes "standard input") why.now) }
     ensures file { name.now ≢ codes "-" → IfSome result (λ t. string_bytes t ≡ reason_line [] name.now why.now) }
@@ -49,7 +49,7 @@ fn made_reason(alloc: Global, name: &str, why: Result<String, AllocError>) -> Op
     }
 }
 
-/// Returns the reason for which a check sum is wrong: that in the suffix, and that of the bytes before it.
+/// Returns the reason for a wrong check sum: the sum in the suffix, and that of the bytes before it.
 #[tactic(auto, unfolding(crate::specs::SuffixReasons::sums_why))]
 fn sums_why(alloc: Global, written: u32, found: u32) -> Result<String, AllocError>
     ensures { IfOk result (λ t. string_bytes t ≡ sums_why written found) }
@@ -59,7 +59,7 @@ fn sums_why(alloc: Global, written: u32, found: u32) -> Result<String, AllocErro
     )
 }
 
-/// Returns the reason for which the length of a suffix is wrong: the length that it says, in a file of this many bytes.
+/// Returns the reason for a wrong length of a suffix: the length in the suffix, and the number of bytes of the file.
 #[tactic(auto, unfolding(crate::specs::SuffixReasons::length_why))]
 fn length_why(alloc: Global, said: u8, count: u32) -> Result<String, AllocError>
     ensures { IfOk result (λ t. string_bytes t ≡ length_why said count) }
@@ -69,7 +69,7 @@ fn length_why(alloc: Global, said: u8, count: u32) -> Result<String, AllocError>
     )
 }
 
-/// Returns the fault of the bytes of a reader, in words, and what to do.
+/// Returns the fault of the bytes of a reader, in words, and what a user can do.
 fn fault_why(fault: SuffixFault) -> Option<&'static str> {
     match fault {
         SuffixFault::TooShort => {
@@ -94,7 +94,7 @@ fn fault_why(fault: SuffixFault) -> Option<&'static str> {
     }
 }
 
-/// Returns the reason for which the bytes of a file are refused, by what was found of them.
+/// Returns the reason for which the bytes of a file are refused, by the findings of their check.
 pub(crate) fn found_reason(
     alloc: Global,
     name: &str,

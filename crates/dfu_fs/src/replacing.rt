@@ -1,4 +1,4 @@
-//! A file that takes the place of another, whole.
+//! A file that takes the place of another one whole.
 
 ghost use Rattle.std.specs.Prelude.{◌≤◌, length, IfOk};
 
@@ -9,17 +9,17 @@ use dfu_suffix::{SuffixFault, write_whole};
 use std::io::{self, ErrorKind, Write};
 use std::rt::Files;
 
-/// File that is to take the place of OUT, or of what OUT leads to, whole: bytes are written beside it, and then take its name, so that a
-/// cut of the machine leaves the old file or the new one. Until then what was there is unchanged. The part is made at the first write, so
-/// that if nothing is written OUT isn't looked at.
+/// File that is to take the place of OUT, or of the file to which OUT leads, whole: bytes are written beside it, into a part that then
+/// takes its name, so that a cut of power leaves the old file or the new one. Until then the old file is unchanged. The part is made at the
+/// first write, so that OUT isn't looked at if nothing is written.
 #[derive(Drop)]
 pub(crate) struct Replacement<'a, R: Files> {
     rt: &'a R,
-    // FILE of `dfu add`, whose OUT has to be one that may go.
+    // FILE of `dfu add`: the file at OUT's place must be one that may go.
     file: Option<&'a str>,
     out: &'a str,
     part: Option<TempFile<R::File>>,
-    /// At what making or writing the part failed.
+    /// Step at which making or writing the part failed.
     pub error: Option<io::Error>,
 }
 
@@ -34,7 +34,7 @@ impl<'a, R: Files> Replacement<'a, R> {
         }
     }
 
-    /// Replaces OUT by what was written. If it fails, what was there is as it was.
+    /// Replaces OUT by what was written. If that fails, the file there is as it was.
     pub(crate) fn finish(self) -> io::Result<()> {
         let Some(part) = &self.part else {
             return Err(io::Error::from(ErrorKind::NotFound));
@@ -46,7 +46,7 @@ impl<'a, R: Files> Replacement<'a, R> {
         placed
     }
 
-    /// Leaves OUT as it was.
+    /// Removes the part, if there is one, and leaves OUT as it was.
     pub(crate) fn abandon(self) {
         if let Some(part) = &self.part {
             remove(self.rt, part);
@@ -66,7 +66,7 @@ where
         Ok(())
     }
 
-    /// Makes the part, also if nothing is to be written.
+    /// Makes the part, also if no byte is to be written.
     fn is_made(&mut self) -> bool {
         match self.make() {
             Ok(()) => true,
@@ -108,7 +108,7 @@ where
     }
 }
 
-/// Puts what was made in OUT's place, and writes the line for it.
+/// Puts the part in OUT's place, and writes the line for it.
 pub(crate) fn finish<R: Files + Print + AllocGlobal>(
     rt: &R,
     to: &str,
@@ -128,7 +128,7 @@ pub(crate) fn finish<R: Files + Print + AllocGlobal>(
     }
 }
 
-/// Makes OUT of this text, and writes the line for it.
+/// Makes OUT of a text, and writes the line for it.
 pub(crate) fn replace<'a, R: Files + Print + AllocGlobal>(
     rt: &'a R,
     to: &'a str,

@@ -1,4 +1,4 @@
-//! `dfu extract` and `dfu set`: what is made of a DFU file.
+//! `dfu extract` and `dfu set`: the payload of a DFU file, and its identifiers.
 
 use crate::changing::{Change, with_ids};
 use crate::gathering::{gathered, refused, refused_bytes};
@@ -8,8 +8,8 @@ use dfu_output::{Exit, Outcome, check_text, wrote_line};
 use dfu_suffix::{SuffixFault, read};
 use std::rt::Files;
 
-/// Makes a file of the payload of another one, or of standard input if its name is `-`, only if that is a DFU file. The outcome has
-/// the reason of a fault.
+/// Makes a file of the payload of another one, or of standard input if its name is `-`, only if the other one is a DFU file. The outcome
+/// has the reason of a fault.
 pub fn extract_file<R: Files + Input + Print + AllocGlobal>(
     rt: &R,
     file: &str,
@@ -35,8 +35,8 @@ where
     }
 }
 
-/// Changes the identifiers of a file, which is replaced whole, and prints what checking the new one prints. The outcome has the
-/// reason of a fault.
+/// Changes the identifiers of a file, which is replaced whole, and prints the line of a check of the new file. The outcome has the reason
+/// of a fault.
 pub fn set_file<R: Files + Input + Print + AllocGlobal>(
     rt: &R,
     file: &str,

@@ -1,4 +1,4 @@
-//! A new file beside the one that it is to replace.
+//! A new file beside the file that it is to replace.
 
 ghost use Rattle.std.specs.Prelude.{◌≡◌, ◌*◌, true, false, bit_and, bit_or};
 
@@ -9,12 +9,12 @@ use std::io::{self, ErrorKind};
 use std::os::unix::fs::{MetadataExt, OpenOptionsExt, PermissionsExt, fchown};
 use std::rt::Files;
 
-/// Names that are tried for the part.
+/// Largest number of names that are tried for the part.
 const MAX_PARTS: u32 = 1000;
 
 /// An open file whose owner can be set.
 pub trait Owned {
-    /// Gives the file to this user and this group.
+    /// Sets the owner of the file to `user` and `group`.
     fn set_owner(&self, user: u32, group: u32) -> io::Result<()>;
 }
 
@@ -24,7 +24,7 @@ impl Owned for File {
     }
 }
 
-/// A new file beside the one that it is to replace.
+/// A new file beside the file that it is to replace.
 #[derive(Drop)]
 pub(crate) struct TempFile<F> {
     name: String,
@@ -32,8 +32,8 @@ pub(crate) struct TempFile<F> {
     pub file: F,
 }
 
-/// The rights of a new file before the system's mask. If it replaces a file, only its own user
-/// has any until it gets the rights of that file.
+/// Returns the rights of a new file for `place`, before the system's mask. If the new file replaces another one, only its own user has any
+/// right until it gets the rights of the other one.
 fn first_rights(place: &Destination) -> u32 {
     match place.file {
         Some(_) => 0o600,
@@ -41,14 +41,14 @@ fn first_rights(place: &Destination) -> u32 {
     }
 }
 
-/// The name of a part for the file with this name.
+/// Returns the name of part number `number` for file `name`.
 fn part_name(alloc: Global, name: &str, number: u32) -> Result<String, AllocError> {
     let mut part = beside(alloc, name, ".dfu-part-")?;
     part.push_str(&number.to_string(alloc)?)?;
     Ok(part)
 }
 
-/// Makes a file that wasn't there.
+/// Makes a file that wasn't there before.
 fn new_part<R: Files + AllocGlobal>(rt: &R, place: Destination) -> io::Result<TempFile<R::File>> {
     let mut how = OpenOptions::new();
     how.write(true).create_new(true).mode(first_rights(&place));
@@ -67,9 +67,9 @@ fn new_part<R: Files + AllocGlobal>(rt: &R, place: Destination) -> io::Result<Te
     Err(io::Error::new(ErrorKind::AlreadyExists, why))
 }
 
-/// The rights that a file has in place of one with this mode, without setuid, setgid and sticky. If
-/// the owner and the group are kept, they are the same; else the group has those of all others. In
-/// octal, the masks of the clauses are 777, 707 and 7.
+/// Returns the rights of a file that replaces one with `mode`, without setuid, setgid and sticky. If `is_kept` is set, the owner and the
+/// group are kept, and the rights are the same; else the group has the rights of all others. In octal, the masks of the clauses are 777,
+/// 707 and 7.
 pub fn rights_after(mode: u32, is_kept: bool) -> u32
     ensures kept { is_kept ≡ true → result ≡ bit_and mode 511 }
     ensures given { is_kept ≡ false → result ≡ bit_or (bit_and mode 455) (bit_and mode 7 * 8) }
@@ -89,12 +89,12 @@ fn take_rights<F: OpenFile + Owned>(file: &F, old: &Metadata) -> io::Result<()> 
     file.set_permissions(Permissions::from_mode(rights))
 }
 
-/// Takes a part away, as far as the system lets it.
+/// Removes `part`, as far as the system lets it.
 pub(crate) fn remove<R: Files>(rt: &R, part: &TempFile<R::File>) {
     let _ = fs::remove_file(rt, part.name.as_str());
 }
 
-/// Makes the part for OUT, which has its rights before it has any byte; for OUT of `dfu add` if `file` is its FILE.
+/// Makes the part for OUT, which gets its rights before it has any byte; for OUT of `dfu add`, `file` is its FILE.
 pub(crate) fn begin<R: Files + AllocGlobal>(
     rt: &R,
     file: Option<&str>,

@@ -1,24 +1,24 @@
--- Operation that is asked for.
+-- Operations for which a copy asks.
 use Rattle.std.proofs.Common.{◌≡◌, inr, Bool, false, not, IsTrue, arith}
 use Rattle.std.proofs.lemmas.Grind.{common_steps}
 use Rattle.dfu_slots.specs.Medium.{MediumState}
 use Rattle.dfu_home.specs.declared.due.Due.{Due}
 use Rattle.dfu_home.specs.declared.due.Due.TheVariants.{Refuse, Home, Erase, Program}
 use Rattle.dfu_home.specs.declared.due.Progress.{Progress}
-use Rattle.dfu_home.specs.Places.{IsAway}
-use Rattle.dfu_home.specs.Next.{IsCopying, HasRoomForOperation, IsCopyDue, IsNextDue}
+use Rattle.dfu_home.specs.Places.{IsActiveAway}
+use Rattle.dfu_home.specs.Next.{IsCopying, HasOperationLeft, IsCopyDue, IsNextDue}
 
 -- The image is in the second slot if it was not found in the first.
-pub found_away : (m : MediumState) (home : Bool) → home ≡ false → (IsTrue (not home) → IsAway m) → IsAway m
-found_away m home is away = away (there home is)
+pub image_found_away : (m : MediumState) (home : Bool) → home ≡ false → (IsTrue (not home) → IsActiveAway m) → IsActiveAway m
+image_found_away m home is away = away (there home is)
   where
     there : (b : Bool) → b ≡ false → IsTrue (not b)
     there b e = grind (arith, common_steps)
 
--- An operation that is due of a copy is due.
-pub copy_does : (m : MediumState) (p : Progress) (due : Due) → HasRoomForOperation m p → IsCopying m → IsCopyDue m p.last due
+-- An operation that is due of a copy is the next one that is due.
+pub copy_due_is_next_due : (m : MediumState) (p : Progress) (due : Due) → HasOperationLeft m p → IsCopying m → IsCopyDue m p.last due
     → IsNextDue m p due
-copy_does m p (Refuse refusal) may c due = absurd due
-copy_does m p Home may c due = absurd due
-copy_does m p (Erase at) may c due = (may, inr (c, due))
-copy_does m p (Program at len) may c due = (may, c, due)
+copy_due_is_next_due m p (Refuse refusal) may c due = absurd due
+copy_due_is_next_due m p Home may c due = absurd due
+copy_due_is_next_due m p (Erase at) may c due = (may, inr (c, due))
+copy_due_is_next_due m p (Program at len) may c due = (may, c, due)

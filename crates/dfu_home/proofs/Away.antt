@@ -1,70 +1,72 @@
--- The image is in the second slot while the gate of the first one is closed.
+-- Images in the second slot, while the gate of the first slot is closed.
 use Rattle.std.proofs.Common.{◌≡◌, ⊎_elim, ℕ, ◌≤◌, ◌<◌, List, length, take, sym, ◌∙◌, ap, subst, arith}
 use Rattle.dfu_slots.specs.Medium.{MediumState}
-use Rattle.dfu_slots.specs.Layout.{slot_size, IsOpen, header_length}
+use Rattle.dfu_slots.specs.Layout.{slot_size, HasOpenGate, header_length}
 use Rattle.dfu_slots.specs.Image.{gate_of, slot_of, capacity_of, Active, HasImage, active_at}
-use Rattle.dfu_slots.proofs.Stands.{ActiveAt, standing}
-use Rattle.dfu_slots.proofs.Counting.{header_length_is}
-use Rattle.dfu_slots.proofs.Newest.{places_are, tested_places, place_end}
+use Rattle.dfu_slots.proofs.Stands.{ActiveAt, active_image_at_its_place}
+use Rattle.dfu_slots.proofs.Counting.{length_in_formed_header}
+use Rattle.dfu_slots.proofs.Newest.{places_of_active_image, tested_places_are_slots, slot_place_ends_within}
 use Rattle.dfu_slots.proofs.Parts.{data_length}
-use Rattle.dfu_home.specs.Places.{first_of, second_of, away_image, IsHome, IsAway}
+use Rattle.dfu_home.specs.Places.{first_of, second_of, away_image, IsActiveAway}
 use Rattle.dfu_home.specs.Laws.{SecondIsSpare}
 
 module _ (m : MediumState) (image : List ℕ) (a : Active m image) where
   -- The active image stands in the second slot.
-  abbrev pub StandsAway : Type 0
-  StandsAway = ActiveAt (gate_of m) m.bytes (slot_size m.bytes) 0 image
+  abbrev pub ImageStandsAway : Type 0
+  ImageStandsAway = ActiveAt (gate_of m) m.bytes (slot_size m.bytes) 0 image
 
-  moved : (a.at ≡ slot_size m.bytes) × (a.spare ≡ 0) → StandsAway
+  moved : (a.at ≡ slot_size m.bytes) × (a.spare ≡ 0) → ImageStandsAway
   moved p = subst (λ (q : ℕ). ActiveAt (gate_of m) m.bytes q 0 image) p.0
-      (subst (λ (q : ℕ). ActiveAt (gate_of m) m.bytes a.at q image) p.1 (standing a))
+      (subst (λ (q : ℕ). ActiveAt (gate_of m) m.bytes a.at q image) p.1 (active_image_at_its_place a))
 
-  -- So it does if the first one is closed.
-  pub away_shut : ¬ IsOpen (first_of m) → StandsAway
-  away_shut shut = ⊎_elim
-      (λ p. absurd (shut (subst (λ (q : ℕ). IsOpen (slot_of m q)) p.0 a.newest.counts.is_open)))
+  -- The active image stands in the second slot if the first slot is closed.
+  pub image_away_if_first_closed : ¬ HasOpenGate (first_of m) → ImageStandsAway
+  image_away_if_first_closed shut = ⊎_elim
+      (λ p. absurd (shut (subst (λ (q : ℕ). HasOpenGate (slot_of m q)) p.0 a.newest.counts.is_open)))
       (λ p. moved p) a.places
 
-  -- And if the test finds it there.
-  pub away_found : active_at (gate_of m) m.bytes ≡ slot_size m.bytes → StandsAway
-  away_found found =
-      let at = (places_are (gate_of m) m.bytes a.at a.spare image (standing a)).0 in
+  -- The active image stands in the second slot if the test finds it there.
+  pub image_away_if_found_there : active_at (gate_of m) m.bytes ≡ slot_size m.bytes → ImageStandsAway
+  image_away_if_found_there found =
+      let at = (places_of_active_image (gate_of m) m.bytes a.at a.spare image (active_image_at_its_place a)).0 in
       ⊎_elim (λ p. absurd (omega (arith, p.0, at, found, a.sized.room))) (λ p. moved p) a.places
 
--- Then its length is that of its header, and it is what the header says.
+-- The length of an image in the second slot is that of its header, and the image is the data of that length.
 module _ (m : MediumState) (image : List ℕ) (s : ActiveAt (gate_of m) m.bytes (slot_size m.bytes) 0 image) where
   room : length (second_of m).data_bytes ≡ capacity_of m
-  room = data_length (gate_of m) m.bytes (slot_size m.bytes) (place_end (gate_of m) m.bytes (slot_size m.bytes) 0 s.sized s.places).0
+  room = data_length (gate_of m) m.bytes (slot_size m.bytes) (slot_place_ends_within (gate_of m) m.bytes (slot_size m.bytes) 0 s.sized
+      s.places).0
       (omega (arith, s.sized.room))
 
-  pub away_length : header_length (second_of m) ≡ length image
-  away_length = header_length_is (second_of m) (length image) s.header_is (omega (arith, s.header_is.fits, room, s.sized.bound))
+  pub away_header_has_image_length : header_length (second_of m) ≡ length image
+  away_header_has_image_length = length_in_formed_header (second_of m) (length image) s.header_is (omega (
+    arith,
+    s.header_is.fits,
+    room,
+    s.sized.bound,
+  ))
 
-  pub away_fits : length image ≤ capacity_of m
-  away_fits = omega (arith, s.header_is.fits, room)
+  pub away_image_fits_capacity : length image ≤ capacity_of m
+  away_image_fits_capacity = omega (arith, s.header_is.fits, room)
 
-  pub away_is : image ≡ away_image m
-  away_is = s.image_is ∙ ap (λ (n : ℕ). take n (second_of m).data_bytes) (sym away_length)
+  pub active_image_is_away_image : image ≡ away_image m
+  active_image_is_away_image = s.image_is ∙ ap (λ (n : ℕ). take n (second_of m).data_bytes) (sym away_header_has_image_length)
 
--- The first slot is not active if the test finds the second, and the other way round.
+-- As long as the first slot is active, a download writes the second slot.
 pub second_is_spare : SecondIsSpare
 second_is_spare m home =
     let room = home.has.active.sized.room in
-    ⊎_elim (λ p. p.1) (λ p. absurd (omega (arith, p.0, home.first, room))) (tested_places (gate_of m) m.bytes)
+    ⊎_elim (λ p. p.1) (λ p. absurd (omega (arith, p.0, home.first, room))) (tested_places_are_slots (gate_of m) m.bytes)
 
--- The image is not in both.
-pub not_both : (m : MediumState) → IsAway m → ¬ IsHome m
-not_both m away home = omega (arith, home.first, away.second, away.has.active.sized.room)
-
--- The test finds it in the second if not in the first.
-pub is_away : (m : MediumState) (at : ℕ) → HasImage m → at ≡ active_at (gate_of m) m.bytes → ¬ (at ≡ 0) → IsAway m
-is_away m at has is off = record {
+-- The test finds the active image in the second slot if it does not find it in the first.
+pub test_finds_away : (m : MediumState) (at : ℕ) → HasImage m → at ≡ active_at (gate_of m) m.bytes → ¬ (at ≡ 0) → IsActiveAway m
+test_finds_away m at has is off = record {
   has = has;
-  second = ⊎_elim (λ p. absurd (off (is ∙ p.0))) (λ p. p.0) (tested_places (gate_of m) m.bytes);
+  second = ⊎_elim (λ p. absurd (off (is ∙ p.0))) (λ p. p.0) (tested_places_are_slots (gate_of m) m.bytes);
 }
 
--- There is no image if the first slot is closed, and the second one has no image that fits.
-pub none_fits : (m : MediumState) → ¬ IsOpen (first_of m) → capacity_of m < header_length (second_of m) → ¬ HasImage m
-none_fits m shut past has =
-    let s = away_shut m has.image has.active shut in
-    omega (arith, past, away_length m has.image s, away_fits m has.image s)
+-- There is no active image if the first slot is closed, and the image in the second slot does not fit.
+pub no_image_fits : (m : MediumState) → ¬ HasOpenGate (first_of m) → capacity_of m < header_length (second_of m) → ¬ HasImage m
+no_image_fits m shut past has =
+    let s = image_away_if_first_closed m has.image has.active shut in
+    omega (arith, past, away_header_has_image_length m has.image s, away_image_fits_capacity m has.image s)

@@ -1,22 +1,22 @@
--- The active image stays, whatever becomes of what is due.
+-- The active image, which stays whatever becomes of the operation that is due.
 use Rattle.std.proofs.Common.{◌≡◌, inl, inr, ⊎_elim, ℕ, ◌≤◌, ◌<◌, List, length, take, slice_index, refl, sym, ◌∙◌, ap, subst, arith}
 use Rattle.std.proofs.lemmas.Bool.{cases_eq}
 use Rattle.dfu_suffix.specs.Register.{register}
 use Rattle.dfu_slots.specs.Units.{IsWhole}
 use Rattle.dfu_slots.specs.Medium.{MediumState, FrameOutside}
-use Rattle.dfu_slots.specs.Layout.{Slot, slot, slot_size, IsOpen, OPEN, generation, next_generation, header, header_length, HasHeader}
-use Rattle.dfu_slots.specs.Image.{gate_of, capacity_of, Counts, IsNewest, Active}
+use Rattle.dfu_slots.specs.Layout.{Slot, slot, slot_size, HasOpenGate, OPEN, generation, next_generation, header, header_length, HasHeader}
+use Rattle.dfu_slots.specs.Image.{gate_of, capacity_of, SlotCounts, IsNewest, Active}
 use Rattle.dfu_slots.proofs.Stands.{ActiveAt}
-use Rattle.dfu_slots.proofs.Sectors.{gate_wide}
-use Rattle.dfu_slots.proofs.Parts.{header_outside, data_outside, size_kept, sized_kept, data_length}
-use Rattle.dfu_slots.proofs.Counting.{header_length_is, header_two}
-use Rattle.dfu_slots.proofs.Kept.{mine_kept, active_kept, gate_change, closed_change}
+use Rattle.dfu_slots.proofs.Sectors.{gate_room_at_least_16}
+use Rattle.dfu_slots.proofs.Parts.{header_kept_outside_change, data_kept_outside_change, slot_size_kept_by_change, two_slots_of_same_length, data_length}
+use Rattle.dfu_slots.proofs.Counting.{length_in_formed_header, version_two_header_formed}
+use Rattle.dfu_slots.proofs.Kept.{active_slot_kept, active_image_kept, open_gate_change_keeps_image, closed_slot_change_keeps_image}
 use Rattle.dfu_slots.proofs.Series.{SameSize}
-use Rattle.dfu_slots.proofs.Seeing.{active_on}
+use Rattle.dfu_slots.proofs.Seeing.{active_on_same_size}
 use Rattle.dfu_home.specs.Places.{first_of, second_of, away_image, HasBytes, HasCopyHeader, copy_header}
-use Rattle.dfu_home.proofs.Away.{away_length, away_is, away_fits}
+use Rattle.dfu_home.proofs.Away.{away_header_has_image_length, active_image_is_away_image, away_image_fits_capacity}
 
--- A range of the first slot is changed while the image is in the second.
+-- Changes in the first slot while the image is in the second.
 module _ (m now : MediumState) (image : List ℕ) (from to : ℕ) (a : ActiveAt (gate_of m) m.bytes (slot_size m.bytes) 0 image)
     (whole : IsWhole m.grain (capacity_of m)) (keeps : FrameOutside from to m.bytes now.bytes) (grain : now.grain ≡ m.grain)
     (below : to ≤ slot_size m.bytes) where
@@ -27,72 +27,81 @@ module _ (m now : MediumState) (image : List ℕ) (from to : ℕ) (a : ActiveAt 
   half = slot_size m.bytes
 
   wide : 16 ≤ g
-  wide = gate_wide m.grain
+  wide = gate_room_at_least_16 m.grain
 
   same : SameSize m now
   same = record { grain = grain; size = keeps.size }
 
   on : ActiveAt g now.bytes half 0 image → Active now image
-  on stands = active_on half 0 image same whole stands
+  on stands = active_on_same_size half 0 image same whole stands
 
-  -- It stays if only the gate of the first slot is changed, which was open.
-  pub closing_stays : IsOpen (first_of m) → to ≤ g → Active now image
-  closing_stays was_open gate = on
-      (gate_change g wide m.bytes now.bytes half 0 image from to a keeps was_open (omega arith) (omega (arith, gate)))
+  -- The image stays if only the open gate of the first slot changes.
+  pub image_stays_as_gate_closes : HasOpenGate (first_of m) → to ≤ g → Active now image
+  image_stays_as_gate_closes was_open gate = on
+      (open_gate_change_keeps_image g wide m.bytes now.bytes half 0 image from to a keeps was_open (omega arith) (omega (arith, gate)))
 
-  -- And if what is behind its closed gate is.
-  pub filling_stays : ¬ IsOpen (first_of m) → 0 < from → Active now image
-  filling_stays shut above = on
-      (closed_change g wide m.bytes now.bytes half 0 image from to a keeps shut above (omega (arith, below)))
+  -- The image stays if only bytes behind the closed gate of the first slot change.
+  pub image_stays_as_data_fills : ¬ HasOpenGate (first_of m) → 0 < from → Active now image
+  image_stays_as_data_fills shut above = on
+      (closed_slot_change_keeps_image g wide m.bytes now.bytes half 0 image from to a keeps shut above (omega (arith, below)))
 
-  -- The gate of a whole copy is changed: the first slot does not count, or it is one generation on, with the same image.
+  -- Changes of the gate of a whole copy: the first slot does not count, or it is one generation on, with the same image.
   module _ (gate : to ≤ g) (bytes : HasBytes m) (head : HasCopyHeader m) where
     abbrev s : Slot
     s = slot g now.bytes 0
 
     is : image ≡ away_image m
-    is = away_is m image a
+    is = active_image_is_away_image m image a
 
-    head_is : s.header ≡ copy_header m
-    head_is = header_outside g from to m.bytes now.bytes 0 keeps (inr (omega (arith, gate))) ∙ head
+    header_now_is_copy_header : s.header ≡ copy_header m
+    header_now_is_copy_header = header_kept_outside_change g from to m.bytes now.bytes 0 keeps (inr (omega (arith, gate))) ∙ head
 
-    body_is : s.data_bytes ≡ (first_of m).data_bytes
-    body_is = data_outside g from to m.bytes now.bytes 0 keeps (inr (omega (arith, gate)))
+    data_now_is_data_before : s.data_bytes ≡ (first_of m).data_bytes
+    data_now_is_data_before = data_kept_outside_change g from to m.bytes now.bytes 0 keeps (inr (omega (arith, gate)))
 
     copied : take (length image) s.data_bytes ≡ image
-    copied = ap (λ (d : List ℕ). take (length image) d) body_is ∙ ap (λ (n : ℕ). take n (first_of m).data_bytes) (ap length is)
+    copied = ap (λ (d : List ℕ). take (length image) d) data_now_is_data_before
+        ∙ ap (λ (n : ℕ). take n (first_of m).data_bytes) (ap length is)
         ∙ bytes ∙ sym is
 
     long : length s.data_bytes ≡ capacity_of m
-    long = ap length body_is
+    long = ap length data_now_is_data_before
         ∙ data_length g m.bytes 0 (omega (arith, a.sized.even)) (omega (arith, a.sized.room))
 
-    head_for : s.header ≡ header 2 (next_generation (generation (second_of m))) (length image) (register (take (length image) s.data_bytes))
-    head_for = head_is ∙ (λ i. header 2 (next_generation (generation (second_of m))) (away_length m image a i) (register ((sym is ∙ sym copied) i)))
+    header_now_is_of_image : s.header ≡ header 2 (next_generation (generation (second_of m))) (length image) (register (take (length image)
+        s.data_bytes))
+    header_now_is_of_image = header_now_is_copy_header ∙ (λ i. header 2 (next_generation (generation (second_of m)))
+        (away_header_has_image_length m image a i) (register ((sym is ∙ sym copied) i)))
 
-    has_head : HasHeader s (length image)
-    has_head = header_two s (next_generation (generation (second_of m))) (length image) head_for (omega (arith, long, away_fits m image a))
+    slot_now_has_header : HasHeader s (length image)
+    slot_now_has_header = version_two_header_formed s (next_generation (generation (second_of m))) (length image) header_now_is_of_image
+        (omega (arith, long, away_image_fits_capacity m image a))
 
-    long_is : header_length s ≡ length image
-    long_is = header_length_is s (length image) has_head (omega (arith, away_fits m image a, a.sized.bound))
+    header_now_has_image_length : header_length s ≡ length image
+    header_now_has_image_length = length_in_formed_header s (length image) slot_now_has_header (omega (
+      arith,
+      away_image_fits_capacity m
+          image a,
+      a.sized.bound,
+    ))
 
-    second_kept : slot g now.bytes half ≡ slot g m.bytes half
-    second_kept = mine_kept g wide m.bytes now.bytes half 0 image from to a keeps (omega arith) (omega (arith, below))
+    second_slot_stays : slot g now.bytes half ≡ slot g m.bytes half
+    second_slot_stays = active_slot_kept g wide m.bytes now.bytes half 0 image from to a keeps (omega arith) (omega (arith, below))
 
-    opened : IsOpen s → Active now image
-    opened is_open = active_on 0 half image same whole (record {
-      sized = sized_kept g m.bytes now.bytes keeps.size a.sized;
-      places = inl (refl, sym (size_kept from to m.bytes now.bytes keeps));
+    opened : HasOpenGate s → Active now image
+    opened is_open = active_on_same_size 0 half image same whole (record {
+      sized = two_slots_of_same_length g m.bytes now.bytes keeps.size a.sized;
+      places = inl (refl, sym (slot_size_kept_by_change from to m.bytes now.bytes keeps));
       newest = record {
-        counts = record { is_open = is_open; intact = λ two. subst (HasHeader s) (sym long_is) has_head };
-        newer = inr (ap (λ (h : List ℕ). slice_index h 0) head_is
-            ∙ sym (ap (λ (x : Slot). next_generation (generation x)) second_kept));
+        counts = record { is_open = is_open; intact = λ two. subst (HasHeader s) (sym header_now_has_image_length) slot_now_has_header };
+        other_is_older = inr (ap (λ (h : List ℕ). slice_index h 0) header_now_is_copy_header
+            ∙ sym (ap (λ (x : Slot). next_generation (generation x)) second_slot_stays));
       };
-      header_is = has_head;
+      header_is = slot_now_has_header;
       image_is = sym copied;
     })
 
-    pub opening_stays : Active now image
-    opening_stays = ⊎_elim opened
-        (λ off. on (active_kept g wide m.bytes now.bytes half 0 image from to a keeps (omega arith) (omega (arith, below))
+    pub image_stays_as_gate_opens : Active now image
+    image_stays_as_gate_opens = ⊎_elim opened
+        (λ off. on (active_image_kept g wide m.bytes now.bytes half 0 image from to a keeps (omega arith) (omega (arith, below))
         (inl (λ c. off c.is_open)))) (cases_eq s.gate OPEN)

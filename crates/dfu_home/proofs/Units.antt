@@ -1,4 +1,4 @@
--- Bytes that a copy programs, and the operation that is due of it.
+-- Bytes that a copy programs, and operations that are due of it.
 use Rattle.std.proofs.Common.{◌≡◌, inl, inr, ℕ, ◌+◌, ◌-◌, ◌*◌, ◌≤◌, ◌==◌, List, [], ◌∷◌, ◌++◌, length, take, drop, replicate, Option, if◌then◌else◌, refl, sym, ◌∙◌, ap, subst, arith}
 use Rattle.std.proofs.lemmas.List.{drop-replicate, take-replicate, take_all}
 use Rattle.std.proofs.lemmas.Bool.{cond-false, ne_eqb}
@@ -8,24 +8,25 @@ use Rattle.dfu_slots.specs.Units.{gate_size}
 use Rattle.dfu_slots.specs.Medium.{MediumState}
 use Rattle.dfu_slots.specs.Layout.{OPEN, generation, next_generation, header_length, gate_unit, header_unit}
 use Rattle.dfu_slots.specs.Image.{gate_of}
-use Rattle.dfu_slots.proofs.Sectors.{gate_wide}
+use Rattle.dfu_slots.proofs.Sectors.{gate_room_at_least_16}
 use Rattle.dfu_boot.specs.install.Area.{program_piece}
 use Rattle.dfu_boot.specs.install.Next.{IsNextDue as Fills}
 use Rattle.dfu_boot.specs.declared.install.due.Due.{Due as FillDue}
 use Rattle.dfu_home.specs.declared.due.Due.{Due}
 use Rattle.dfu_home.specs.declared.due.Due.TheVariants.{Refuse, Home, Erase, Program}
 use Rattle.dfu_home.specs.Places.{first_of, second_of, away_image, HasBytes, last_in_data}
-use Rattle.dfu_home.specs.Next.{CopiesBytes, IsHeadDue, IsCopyDue, program_bytes}
+use Rattle.dfu_home.specs.Next.{CopiesBytes, IsHeaderOrGateDue, IsCopyDue, program_bytes}
 
--- A buffer of zeros, to whose front bytes were copied.
-pub filled_up : (bytes copied : List ℕ) → copied ≡ bytes
+-- If bytes are copied to the front of a buffer of 256 zeros, the buffer is these bytes and then zeros.
+pub unit_buffer_filled : (bytes copied : List ℕ) → copied ≡ bytes
     → copied ++ drop (length bytes) (replicate 256 0) ≡ bytes ++ replicate (256 - length bytes) 0
-filled_up bytes copied is = λ i. is i ++ drop-replicate (length bytes) 256 0 i
+unit_buffer_filled bytes copied is = λ i. is i ++ drop-replicate (length bytes) 256 0 i
 
--- The front of such a buffer.
-pub unit_front : (front after : List ℕ) (len : ℕ) → after ≡ front ++ replicate (256 - length front) 0 → length front ≤ len → len ≤ 256
+-- The first len bytes of a buffer that a front and zeros fill are the front and zeros.
+pub front_of_unit_buffer : (front after : List ℕ) (len : ℕ) → after ≡ front ++ replicate (256 - length front) 0 → length front ≤ len →
+    len ≤ 256
     → take len after ≡ front ++ replicate (len - length front) 0
-unit_front front after len is low high =
+front_of_unit_buffer front after len is low high =
     let zeros : List ℕ = replicate (256 - length front) 0 in
     let e : len ≡ length front + (len - length front) = omega (arith, low) in
     ap (λ (l : List ℕ). take len l) is ∙ ap (λ (k : ℕ). take k (front ++ zeros)) e ∙ take-append-add front zeros (len - length front)
@@ -38,21 +39,21 @@ module _ (m : MediumState) where
   abbrev size : ℕ
   size = gate_size m.grain.unit
 
-  abbrev at_header : List ℕ
-  at_header = header_unit size (next_generation (generation (second_of m))) (header_length (second_of m)) (register (away_image m))
+  abbrev bytes_at_header : List ℕ
+  bytes_at_header = header_unit size (next_generation (generation (second_of m))) (header_length (second_of m)) (register (away_image m))
 
-  -- The bytes of a piece are those at its place.
-  data_bytes_is : (d : ℕ) → program_piece (away_image m) d ≡ program_bytes m (2 * g + d)
-  data_bytes_is d =
+  -- The bytes of a piece are the bytes that a program at its place has.
+  piece_is_program_bytes : (d : ℕ) → program_piece (away_image m) d ≡ program_bytes m (2 * g + d)
+  piece_is_program_bytes d =
       let at = 2 * g + d in
-      let wide = gate_wide m.grain in
+      let wide = gate_room_at_least_16 m.grain in
       let e : at - 2 * g ≡ d = omega arith in
-      sym (cond-false (at == 0) (gate_unit size OPEN) (if at == g then at_header else program_piece (away_image m) (at - 2 * g))
+      sym (cond-false (at == 0) (gate_unit size OPEN) (if at == g then bytes_at_header else program_piece (away_image m) (at - 2 * g))
       (ne_eqb at 0 (λ none. omega (arith, none, wide)))
-      ∙ cond-false (at == g) at_header (program_piece (away_image m) (at - 2 * g)) (ne_eqb at g (λ is. omega (arith, is, wide)))
+      ∙ cond-false (at == g) bytes_at_header (program_piece (away_image m) (at - 2 * g)) (ne_eqb at g (λ is. omega (arith, is, wide)))
       ∙ ap (λ (k : ℕ). program_piece (away_image m) k) e)
 
-  -- An operation that would be due of a run area is due of the data.
+  -- An operation that would be due of a run area is due of the data of the first slot.
   pub copies : (image run : List ℕ) (sector : ℕ) (last shown : Option ℕ) (due : FillDue) → image ≡ away_image m
       → run ≡ (first_of m).data_bytes → sector ≡ m.grain.sector → shown ≡ last_in_data (2 * g) last → Fills image run sector shown due
       → CopiesBytes m last due
@@ -62,25 +63,26 @@ module _ (m : MediumState) where
       (subst (λ (n : ℕ). Fills image run n (last_in_data (2 * g) last) due) sector_is
       (subst (λ (o : Option ℕ). Fills image run sector o due) shown_is does)))
 
-  -- The bytes that are programmed are those of the image.
-  pub piece_gives : (image after : List ℕ) (d : ℕ) → image ≡ away_image m → after ≡ program_piece image d → length after ≡ 256
+  -- A piece that is filled with zeros has the bytes that a program at its place has.
+  pub filled_piece_is_program_bytes : (image after : List ℕ) (d : ℕ) → image ≡ away_image m → after ≡ program_piece image d →
+      length after ≡ 256
       → take 256 after ≡ program_bytes m (2 * g + d)
-  piece_gives image after d is made long =
-      ap (λ (k : ℕ). take k after) (sym long) ∙ whole after ∙ made ∙ ap (λ (l : List ℕ). program_piece l d) is ∙ data_bytes_is d
+  filled_piece_is_program_bytes image after d is made long =
+      ap (λ (k : ℕ). take k after) (sym long) ∙ whole after ∙ made ∙ ap (λ (l : List ℕ). program_piece l d) is ∙ piece_is_program_bytes d
     where
       whole : (l : List ℕ) → take (length l) l ≡ l
       whole l = take_all (length l) l (omega arith)
 
-  -- Once the bytes are there, what is due then is due of the copy.
-  pub head_due : (last : Option ℕ) (due : Due) → HasBytes m → IsHeadDue m last due → IsCopyDue m last due
-  head_due last (Refuse refusal) bytes head = head
-  head_due last Home bytes head = head
-  head_due last (Erase at) bytes (inl head) = inr (inl ((bytes, head.0), head.1, head.2))
-  head_due last (Erase at) bytes (inr head) = inr (inr ((bytes, head.0), head.1, head.2))
-  head_due last (Program at len) bytes (inl head) = inr (inl ((bytes, head.0), head.1, head.2, head.3))
-  head_due last (Program at len) bytes (inr head) = inr (inr ((bytes, head.0), head.1, head.2, head.3))
+  -- Once the bytes are copied, an operation that is due of the header or the gate is due of the copy.
+  pub header_due_is_copy_due : (last : Option ℕ) (due : Due) → HasBytes m → IsHeaderOrGateDue m last due → IsCopyDue m last due
+  header_due_is_copy_due last (Refuse refusal) bytes head = head
+  header_due_is_copy_due last Home bytes head = head
+  header_due_is_copy_due last (Erase at) bytes (inl head) = inr (inl ((bytes, head.0), head.1, head.2))
+  header_due_is_copy_due last (Erase at) bytes (inr head) = inr (inr ((bytes, head.0), head.1, head.2))
+  header_due_is_copy_due last (Program at len) bytes (inl head) = inr (inl ((bytes, head.0), head.1, head.2, head.3))
+  header_due_is_copy_due last (Program at len) bytes (inr head) = inr (inr ((bytes, head.0), head.1, head.2, head.3))
 
-  -- An image of no bytes is there.
+  -- The bytes of an image of no bytes are copied.
   pub no_bytes : length (away_image m) ≡ 0 → HasBytes m
   no_bytes none = empty (away_image m) none
     where

@@ -1,20 +1,22 @@
 //! Bytes that are compared, and those of a unit.
 ghost use Rattle.std.specs.Prelude.{◌≡◌, ◌↔◌, ◌≤◌, ◌-◌, ◌++◌, length, replicate, IsTrue};
 
-/// Returns whether two slices of one length have the same bytes. (A loop is less code than `==`.)
+use dfu_slots::flash_byte_at;
+
+/// Returns whether bytes of flash are those of a slice of the same length. (A loop is less code than `==`.)
 pub(crate) fn are_same(one: &[u8], other: &[u8]) -> bool
     requires { length one.now ≡ length other.now }
     ensures { IsTrue result ↔ (one.now ≡ other.now) }
 {
     for i in 0..one.len() {
-        if one[i] != other[i] {
+        if flash_byte_at(one, i) != other[i] {
             return false;
         }
     }
     true
 }
 
-/// Makes `out` these bytes, and zeros after them.
+/// Writes `front` to the front of `out`, and zeros after it.
 pub(crate) fn fill_up(front: &[u8], out: &mut [u8; 256])
     requires { length front.now ≤ 256 }
     ensures { out.new ≡ front.now ++ replicate (256 - length front.now) 0 }

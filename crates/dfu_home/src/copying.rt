@@ -5,13 +5,14 @@ ghost use Rattle.dfu_suffix.specs.Register.{register};
 ghost use Rattle.dfu_slots.specs.Units.{gate_size};
 ghost use Rattle.dfu_slots.specs.Layout.{next_generation, header};
 ghost use Rattle.dfu_home.specs.Places.{first_of, away_image, last_in_data};
-ghost use Rattle.dfu_home.specs.Next.{IsCopying, IsCopyDue, IsHeadDue, IsUnitDue, ProgramUnit, ProgramBytes};
+ghost use Rattle.dfu_home.specs.Next.{IsCopying, IsCopyDue, IsHeaderOrGateDue, IsGateUnitDue, BufferOfUnitProgram, BufferOfProgram};
 
 use crate::Due;
 use crate::bytes::{are_same, fill_up};
 use dfu_boot::install::{self, are_blank};
-use dfu_slots::{Medium, OPEN_GATE, VERSION, gate_of, header_of, length_in, make_header};
-use dfu_suffix::Crc;
+use dfu_slots::{
+    Medium, OPEN_GATE, VERSION, crc_of_flash, gate_of, header_of, length_in, make_header,
+};
 
 // Returns the place of the last operation in the data of the first slot, if it went there.
 fn last_in_data(gates: u32, last: Option<u32>) -> Option<u32>
@@ -27,13 +28,11 @@ fn last_in_data(gates: u32, last: Option<u32>) -> Option<u32>
 fn copy_header(found: &[u8; 16], image: &[u8]) -> [u8; 16]
     ensures { result ≡ header 2 (next_generation (slice_index found.now 0)) (from_le_bytes w32 (take 4 (drop 4 found.now))) (register image.now) }
 {
-    let mut crc = Crc::new();
-    crc.update_small(image);
     make_header(
         VERSION,
         found[0].wrapping_add(1),
         length_in(found),
-        crc.value(),
+        crc_of_flash(image).value(),
     )
 }
 
@@ -83,8 +82,8 @@ fn unit_due<M: Medium>(
     requires within { at + 256 ≤ length flash.now }
     requires bound { length flash.now < 2 ^ 32 }
     requires few { length front.now ≤ 16 }
-    ensures due { IsUnitDue (M.state medium.now) last at result }
-    ensures bytes { ProgramUnit front.now result out.old out.new }
+    ensures due { IsGateUnitDue (M.state medium.now) last at result }
+    ensures bytes { BufferOfUnitProgram front.now result out.old out.new }
 {
     let len = gate_size(medium);
     if last != Some(at) {
@@ -95,6 +94,16 @@ fn unit_due<M: Medium>(
     }
     fill_up(front, out);
     Due::Program { at, len }
+}
+
+// Returns whether the first slot has this header.
+fn has_header<M: Medium>(medium: &M, flash: &[u8], header: &[u8; 16]) -> bool
+    requires mapped { flash.now ≡ (M.state medium.now).bytes }
+    requires copying { IsCopying (M.state medium.now) }
+    ensures { IsTrue result ↔ ((first_of (M.state medium.now)).header ≡ header.now) }
+{
+    let at = gate_of(medium) as usize;
+    are_same(&flash[at..at + 16], header)
 }
 
 // Returns the operation that is due once the bytes are there: the header, or behind it the gate.
@@ -108,11 +117,11 @@ fn head<M: Medium>(
     requires mapped { flash.now ≡ (M.state medium.now).bytes }
     requires copying { IsCopying (M.state medium.now) }
     requires image { image.now ≡ away_image (M.state medium.now) }
-    ensures due { IsHeadDue (M.state medium.now) last result }
-    ensures bytes { ProgramBytes (M.state medium.now) result out.old out.new }
+    ensures due { IsHeaderOrGateDue (M.state medium.now) last result }
+    ensures bytes { BufferOfProgram (M.state medium.now) result out.old out.new }
 {
     let header = copy_header(&header_of(medium, medium.len() / 2), image);
-    if are_same(&header_of(medium, 0), &header) {
+    if has_header(medium, flash, &header) {
         return unit_due(medium, flash, 0, last, &[OPEN_GATE], out);
     }
     unit_due(medium, flash, gate_of(medium), last, &header, out)
@@ -128,7 +137,7 @@ pub(crate) fn copy<M: Medium>(
     requires mapped { flash.now ≡ (M.state medium.now).bytes }
     requires copying { IsCopying (M.state medium.now) }
     ensures due { IsCopyDue (M.state medium.now) last result }
-    ensures bytes { ProgramBytes (M.state medium.now) result out.old out.new }
+    ensures bytes { BufferOfProgram (M.state medium.now) result out.old out.new }
 {
     let gates = 2 * gate_of(medium);
     let run = first_data(medium, flash);

@@ -1,9 +1,9 @@
-//! Operation that is due next.
+//! The choice of the operation that is due next.
 ghost use Rattle.std.specs.Prelude.{◌≡◌, ◌<◌, not, ℕ, List, IsTrue};
-ghost use Rattle.dfu_slots.specs.Layout.{IsOpen};
-ghost use Rattle.dfu_slots.specs.Image.{IsSized, HasImage};
+ghost use Rattle.dfu_slots.specs.Layout.{HasOpenGate};
+ghost use Rattle.dfu_slots.specs.Image.{IsSizedMedium, HasImage};
 ghost use Rattle.dfu_home.specs.Places.{first_of, most_operations};
-ghost use Rattle.dfu_home.specs.Next.{IsNextDue, IsCopying, ProgramBytes};
+ghost use Rattle.dfu_home.specs.Next.{IsNextDue, IsCopying, BufferOfProgram};
 
 use crate::asking::is_home;
 use crate::copying::copy;
@@ -19,9 +19,9 @@ fn most_operations<M: Medium>(medium: &M) -> u32
 
 // Returns whether the second slot, of which alone the image can be, is open, and its image fits.
 fn is_copying<M: Medium>(medium: &M) -> bool
-    requires sized { IsSized (M.state medium.now) }
+    requires sized { IsSizedMedium (M.state medium.now) }
     requires sectors { 0 < (M.state medium.now).grain.sector }
-    requires shut { ¬ IsOpen (first_of (M.state medium.now)) }
+    requires shut { ¬ HasOpenGate (first_of (M.state medium.now)) }
     ensures copying { IsTrue result → IsCopying (M.state medium.now) }
     ensures none { IsTrue (not result) → ¬ HasImage (M.state medium.now) }
 {
@@ -49,9 +49,9 @@ fn is_looked<M: Medium>(medium: &M, count: u32) -> bool
 // Returns the operation that is due while the gate of the first slot is open.
 fn opened<M: Medium>(medium: &M, progress: Progress) -> Due
     requires sectors { 0 < (M.state medium.now).grain.sector }
-    requires open { IsOpen (first_of (M.state medium.now)) }
+    requires open { HasOpenGate (first_of (M.state medium.now)) }
     ensures does { IsNextDue (M.state medium.now) progress result }
-    ensures quiet { (bytes : List ℕ) → ProgramBytes (M.state medium.now) result bytes bytes }
+    ensures quiet { (bytes : List ℕ) → BufferOfProgram (M.state medium.now) result bytes bytes }
 {
     match is_home(medium) {
         None => Due::Refuse(Refusal::NoImage),
@@ -68,11 +68,11 @@ fn opened<M: Medium>(medium: &M, progress: Progress) -> Due
 // Returns the operation that is due while it is closed: the image can only be in the second slot.
 fn shut<M: Medium>(medium: &M, flash: &[u8], progress: Progress, out: &mut [u8; 256]) -> Due
     requires mapped { flash.now ≡ (M.state medium.now).bytes }
-    requires sized { IsSized (M.state medium.now) }
+    requires sized { IsSizedMedium (M.state medium.now) }
     requires sectors { 0 < (M.state medium.now).grain.sector }
-    requires shut { ¬ IsOpen (first_of (M.state medium.now)) }
+    requires shut { ¬ HasOpenGate (first_of (M.state medium.now)) }
     ensures does { IsNextDue (M.state medium.now) progress result }
-    ensures bytes { ProgramBytes (M.state medium.now) result out.old out.new }
+    ensures bytes { BufferOfProgram (M.state medium.now) result out.old out.new }
 {
     if !is_looked(medium, progress.count) {
         return Due::Refuse(Refusal::NoImage);
@@ -97,7 +97,7 @@ fn shut<M: Medium>(medium: &M, flash: &[u8], progress: Progress, out: &mut [u8; 
 pub fn next<M: Medium>(medium: &M, flash: &[u8], progress: Progress, out: &mut [u8; 256]) -> Due
     requires mapped { flash.now ≡ (M.state medium.now).bytes }
     ensures does { IsNextDue (M.state medium.now) progress result }
-    ensures bytes { ProgramBytes (M.state medium.now) result out.old out.new }
+    ensures bytes { BufferOfProgram (M.state medium.now) result out.old out.new }
 {
     if medium.sector() == 0 {
         return Due::Refuse(Refusal::NoSectors);

@@ -37,6 +37,6 @@ pub enum Due {
 pub struct Progress {
     /// Place of the last operation, if it worked.
     pub last: Option<u32>,
-    /// Operations that came since the power came.
+    /// Number of operations that were taken since the last power-on.
     pub count: u32,
 }

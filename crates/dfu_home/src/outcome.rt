@@ -1,6 +1,6 @@
 //! Outcome of an operation.
 ghost use Rattle.std.specs.Prelude.{◌≡◌, ◌+◌, ◌-◌, ◌^◌, ◌<◌, ◌↔◌, min, IsTrue, length};
-ghost use Rattle.dfu_home.specs.OperationReport.{Worked, Noted};
+ghost use Rattle.dfu_home.specs.OperationReport.{HomeDueWorked, NoteOfOperation};
 
 use crate::bytes::are_same;
 use crate::{Due, Progress};
@@ -9,7 +9,7 @@ use dfu_boot::install::are_blank;
 // Returns whether an operation worked, as it reads.
 fn worked(flash: &[u8], sector: u32, due: Due, bytes: &[u8; 256]) -> bool
     requires { length flash.now < 2 ^ 32 }
-    ensures { IsTrue result ↔ Worked flash.now sector due bytes.now }
+    ensures { IsTrue result ↔ HomeDueWorked flash.now sector due bytes.now }
 {
     match due {
         Due::Erase { at } => {
@@ -40,7 +40,7 @@ pub fn took(
     failed: bool,
     progress: Progress,
 ) -> Progress
-    ensures last { Noted flash.now sector due bytes.now failed result.last }
+    ensures last { NoteOfOperation flash.now sector due bytes.now failed result.last }
     ensures count { result.count ≡ min (progress.count + 1) (2 ^ 32 - 1) }
 {
     let worked = !failed && flash.len() <= 0xffff_ffff && worked(flash, sector, due, bytes);

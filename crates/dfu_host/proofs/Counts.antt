@@ -9,78 +9,79 @@ use Rattle.dfu_host.specs.declared.goal.Goal.{Goal}
 use Rattle.dfu_host.specs.declared.goal.Goal.TheVariants as goal
 use Rattle.dfu_host.specs.Goals.{goal_of, payload_of, size_of}
 use Rattle.dfu_host.specs.Table as table
-use Rattle.dfu_host.specs.BlockLaws.{block_at, block_starts, block_counts}
+use Rattle.dfu_host.specs.BlockLaws.{nth_block_is_slice, counted_block_starts_in_payload, started_block_is_counted}
 
--- The blocks of a session's payload are those that its task sends.
-pub pieces_are : (g : Goal) (t : ℕ) → table.blocks_of (goal_of g) t ≡ blocks (payload_of g) t
+-- The blocks of a goal in the table are the blocks of the goal's payload.
+pub blocks_of_goal_payload : (g : Goal) (t : ℕ) → table.blocks_of (goal_of g) t ≡ blocks (payload_of g) t
 unfolding blocks
-pieces_are (goal.Load payload) t = refl
-pieces_are goal.Fetch t = refl
-pieces_are (goal.Verify payload) t = refl
-pieces_are (goal.Compare payload) t = refl
+blocks_of_goal_payload (goal.Load payload) t = refl
+blocks_of_goal_payload goal.Fetch t = refl
+blocks_of_goal_payload (goal.Verify payload) t = refl
+blocks_of_goal_payload (goal.Compare payload) t = refl
 
--- A payload that is sent has a first block.
-pub first_starts : (g : Goal) (t : ℕ) (payload : Bor (List ℕ)) → (g ≡ goal.Load payload) ⊎ (g ≡ goal.Verify payload) → 0 < size_of g
+-- A payload of at least one byte has a first block.
+pub first_block_in_payload : (g : Goal) (t : ℕ) (payload : Bor (List ℕ)) → (g ≡ goal.Load payload) ⊎ (g ≡ goal.Verify payload) →
+    0 < size_of g
     → 0 * t < length (payload_of g)
-first_starts (goal.Load payload) t other e some = omega (arith, some)
-first_starts (goal.Verify payload) t other e some = omega (arith, some)
-first_starts (goal.Compare payload) t other e some = omega (arith, some)
-first_starts goal.Fetch t other (inl e) some = absurd cc
-first_starts goal.Fetch t other (inr e) some = absurd cc
+first_block_in_payload (goal.Load payload) t other e some = omega (arith, some)
+first_block_in_payload (goal.Verify payload) t other e some = omega (arith, some)
+first_block_in_payload (goal.Compare payload) t other e some = omega (arith, some)
+first_block_in_payload goal.Fetch t other (inl e) some = absurd cc
+first_block_in_payload goal.Fetch t other (inr e) some = absurd cc
 
 module _ (p : List ℕ) (t : ℕ) where
-  -- A block as a slice of what is left of the payload, or nothing if nothing is left.
-  pub block_cut : (n start m : ℕ) → 0 < t → start ≡ min (n * t) (length p)
+  -- A block is a slice of the payload's rest, and empty if no rest is left.
+  pub block_is_slice_of_rest : (n start m : ℕ) → 0 < t → start ≡ min (n * t) (length p)
       → m ≡ min t (length (take (length p - start) (drop start p)))
       → take m (take (length p - start) (drop start p)) ≡ slice_index_or (blocks p t) n []
-  block_cut n start m ht begins e =
+  block_is_slice_of_rest n start m ht begins e =
       let rest = take (length p - start) (drop start p) in
       ap (λ z. take z rest) e ∙ take_min t rest ∙ ap (take t) (take_rest p start)
-      ∙ ap (λ z. take t (drop z p)) begins ∙ ap (take t) (drop_min (n * t) p) ∙ sym (block_at p t n ht)
+      ∙ ap (λ z. take t (drop z p)) begins ∙ ap (take t) (drop_min (n * t) p) ∙ sym (nth_block_is_slice p t n ht)
 
-  -- A block is as much of the payload as it has bytes, from its first one on.
-  pub block_begins : (n : ℕ) (block : List ℕ) → 0 < t → block ≡ slice_index_or (blocks p t) n []
+  -- A block is the front of the payload's rest from the block's first byte on.
+  pub block_is_prefix_from_place : (n : ℕ) (block : List ℕ) → 0 < t → block ≡ slice_index_or (blocks p t) n []
       → block ≡ take (length block) (drop (n * t) p)
-  block_begins n block ht is =
+  block_is_prefix_from_place n block ht is =
       let rest = drop (n * t) p in
-      let e : block ≡ take t rest = is ∙ block_at p t n ht in
+      let e : block ≡ take t rest = is ∙ nth_block_is_slice p t n ht in
       e ∙ sym (ap (λ z. take z rest) (ap length e ∙ length-take t rest) ∙ take_min t rest)
 
-  -- A block is the last if what is left fits into it.
-  pub last_test : (n : ℕ) → 0 < t → n * t < length p → nat_le (length p - n * t) t ≡ (suc n == length (blocks p t))
-  last_test n ht h = elim (cases_lt t (length p - n * t)) [
+  -- A block is the last exactly if the payload's rest fits into it.
+  pub last_block_by_rest : (n : ℕ) → 0 < t → n * t < length p → nat_le (length p - n * t) t ≡ (suc n == length (blocks p t))
+  last_block_by_rest n ht h = elim (cases_lt t (length p - n * t)) [
     | inl more ↦
-        let next : suc n < length (blocks p t) = block_counts p t (suc n) ht (omega (arith, suc-mul n t, more)) in
+        let next : suc n < length (blocks p t) = started_block_is_counted p t (suc n) ht (omega (arith, suc-mul n t, more)) in
         let e : nat_le (length p - n * t) t ≡ false = lt-leb _ _ more in
         let f : (suc n == length (blocks p t)) ≡ false = ne_eqb _ _ (λ same. absurd (omega (arith, same, next))) in
         e ∙ sym f
     | inr fits ↦
-        let is : suc n ≡ length (blocks p t) = elim (eq-or-lt_of_le (block_counts p t n ht h)) [
+        let is : suc n ≡ length (blocks p t) = elim (eq-or-lt_of_le (started_block_is_counted p t n ht h)) [
           | inl same ↦ same
-          | inr less ↦ absurd (omega (arith, block_starts p t (suc n) less, suc-mul n t, fits))
+          | inr less ↦ absurd (omega (arith, counted_block_starts_in_payload p t (suc n) less, suc-mul n t, fits))
         ] in
         let e : nat_le (length p - n * t) t ≡ true = le-leb _ _ fits in
         let f : (suc n == length (blocks p t)) ≡ true = eq-eqb _ _ is in
         e ∙ sym f
   ]
 
-  -- Number of blocks.
+  -- Number of a payload's blocks, by its length and the transfer size.
   pub block_count : 0 < t → 0 < length p → (length p - 1) / t + 1 ≡ length (blocks p t)
   block_count ht h =
       let q = (length p - 1) / t in
       let low : q * t ≤ length p - 1 = div-mul-le_self (length p - 1) t in
       let high : length p - 1 < q * t + t = lt-div-mul-add {a = length p - 1} ht in
-      let some : q < length (blocks p t) = block_counts p t q ht (omega (arith, low, h)) in
+      let some : q < length (blocks p t) = started_block_is_counted p t q ht (omega (arith, low, h)) in
       elim (eq-or-lt_of_le some) [
         | inl same ↦ omega (arith, same)
-        | inr less ↦ absurd (omega (arith, block_starts p t (suc q) less, suc-mul q t, high, h))
+        | inr less ↦ absurd (omega (arith, counted_block_starts_in_payload p t (suc q) less, suc-mul q t, high, h))
       ]
 
-  -- Behind a block that is not the last there is another.
+  -- If a block is not the last, another one begins within the payload.
   pub next_starts : (n : ℕ) → 0 < t → n * t < length p → (suc n == length (blocks p t)) ≡ false → (n + 1) * t < length p
   next_starts n ht h e =
-      let some : suc n < length (blocks p t) = elim (eq-or-lt_of_le (block_counts p t n ht h)) [
+      let some : suc n < length (blocks p t) = elim (eq-or-lt_of_le (started_block_is_counted p t n ht h)) [
         | inl same ↦ absurd (eqb-false _ _ e same)
         | inr less ↦ less
       ] in
-      omega (arith, block_starts p t (suc n) some, suc-mul n t)
+      omega (arith, counted_block_starts_in_payload p t (suc n) some, suc-mul n t)

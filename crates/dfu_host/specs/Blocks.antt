@@ -6,27 +6,27 @@ abbrev pub joined : List (List ℕ) → List ℕ
 joined [] = []
 joined (piece ∷ pieces) = piece ++ joined pieces
 
--- Each piece has t bytes, but the last, which has 1 to t.
-abbrev pub AreFull : ℕ → List (List ℕ) → Type 0
-AreFull t [] = Unit {0}
-AreFull t (piece ∷ []) = (0 < length piece) × (length piece ≤ t)
-AreFull t (piece ∷ next ∷ pieces) = (length piece ≡ t) × AreFull t (next ∷ pieces)
+-- Each piece has t bytes, except the last, which has 1 to t.
+abbrev pub AreFullBlocks : ℕ → List (List ℕ) → Type 0
+AreFullBlocks t [] = Unit {0}
+AreFullBlocks t (piece ∷ []) = (0 < length piece) × (length piece ≤ t)
+AreFullBlocks t (piece ∷ next ∷ pieces) = (length piece ≡ t) × AreFullBlocks t (next ∷ pieces)
 
--- The pieces that joined give the payload, each of t bytes but the last, which has 1 to t.
+-- Pieces that joined are the payload, each of t bytes except the last, which has 1 to t.
 pub record Blocks (payload : List ℕ) (t : ℕ) (pieces : List (List ℕ)) : Type 0 where
   pub all : joined pieces ≡ payload
-  pub full : AreFull t pieces
+  pub full : AreFullBlocks t pieces
 
--- The pieces cut from the front, in at most so many turns.
-abbrev pub blocks_in : ℕ → ℕ → List ℕ → List (List ℕ)
-blocks_in zero t payload = []
-blocks_in (suc turns) t [] = []
-blocks_in (suc turns) t (byte ∷ bytes) = take t (byte ∷ bytes) ∷ blocks_in turns t (drop t (byte ∷ bytes))
+-- Pieces of t bytes cut from the front, in at most `turns` cuts.
+abbrev pub blocks_in_turns : ℕ → ℕ → List ℕ → List (List ℕ)
+blocks_in_turns zero t payload = []
+blocks_in_turns (suc turns) t [] = []
+blocks_in_turns (suc turns) t (byte ∷ bytes) = take t (byte ∷ bytes) ∷ blocks_in_turns turns t (drop t (byte ∷ bytes))
 
--- The blocks of a payload as a list that computes: for a t over 0 they are its only `Blocks` (`blocks_are`, `blocks_only`).
+-- The blocks of a payload as a list that computes: for a t over 0 they are its only `Blocks` (`cut_blocks_are_blocks`, `blocks_are_unique`).
 unfoldable pub blocks : List ℕ → ℕ → List (List ℕ)
-blocks payload t = blocks_in (length payload) t payload
+blocks payload t = blocks_in_turns (length payload) t payload
 
 -- The first n blocks joined.
-abbrev pub first : List ℕ → ℕ → ℕ → List ℕ
-first payload t n = joined (take n (blocks payload t))
+abbrev pub first_blocks : List ℕ → ℕ → ℕ → List ℕ
+first_blocks payload t n = joined (take n (blocks payload t))

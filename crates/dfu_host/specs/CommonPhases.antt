@@ -1,4 +1,4 @@
--- The phases that each session has, and what a property of phases has to meet to hold after each of them.
+-- The phases that every session has, and the conditions under which a property of phases holds after each of them.
 use Rattle.std.specs.Prelude.{ℕ}
 use Rattle.dfu_wire.specs.declared.codes.Code.{Code}
 use Rattle.dfu_wire.specs.declared.states.State.TheVariants.{DfuIdle}
@@ -8,10 +8,10 @@ use Rattle.dfu_host.specs.Phases.{Task, Phase, Find, FindAgain, Trouble, Last, O
 use Rattle.dfu_host.specs.PhaseClasses.{Common, Sending, Closing, Manifesting, Fetching, Comparing, Ending, EndingUpload, Ended, EndedUpload, class_of}
 use Rattle.dfu_host.specs.Table.{work_start}
 
--- The phases that each session has: those that look for the device's state and bring it to dfuIDLE or to appIDLE, and the last of a
+-- The phases that every session has: those that find the device's state and bring it to dfuIDLE or to appIDLE, and the last one of a
 -- session that is given up.
-abbrev pub IsCommon : Phase → Type 0
-IsCommon phase = elim (class_of phase) [
+abbrev pub IsCommonPhase : Phase → Type 0
+IsCommonPhase phase = elim (class_of phase) [
   | Common ↦ Unit {0}
   | Sending n ↦ ⊥
   | Closing ↦ ⊥
@@ -24,8 +24,8 @@ IsCommon phase = elim (class_of phase) [
   | EndedUpload kept ↦ ⊥
 ]
 
--- The phases of a download: the common ones, those in which its blocks are sent and installed, and its ends with such reports, before its
--- last reset and after it.
+-- The phases of a download: the common ones, those in which its blocks are sent and installed, and its ends with the reports of `Ends`,
+-- before the last reset, or of `Over_with`, after it.
 abbrev pub IsOfDownload : (Ends Over_with : Report → Type 0) → Phase → Type 0
 IsOfDownload Ends Over_with phase = elim (class_of phase) [
   | Common ↦ Unit {0}
@@ -40,33 +40,33 @@ IsOfDownload Ends Over_with phase = elim (class_of phase) [
   | EndedUpload kept ↦ ⊥
 ]
 
--- The phases of a download up to its last reset: it doesn't end in them.
+-- The phases of a download up to its last reset, none of which is an end.
 abbrev pub IsDownloading : Phase → Type 0
 IsDownloading phase = IsOfDownload (λ report. ⊥) (λ report. ⊥) phase
 
--- The common phases that ask for the status: what follows goes by the state that is heard.
-abbrev pub IsSeeking : Phase → Type 0
-IsSeeking Find = Unit {0}
-IsSeeking FindAgain = Unit {0}
-IsSeeking Trouble = Unit {0}
-IsSeeking phase = ⊥
+-- The common phases that ask for the status, so that the next phase goes by the state that is heard.
+abbrev pub IsSeekingPhase : Phase → Type 0
+IsSeekingPhase Find = Unit {0}
+IsSeekingPhase FindAgain = Unit {0}
+IsSeekingPhase Trouble = Unit {0}
+IsSeekingPhase phase = ⊥
 
--- A property of a session's phases that holds of the common ones, of the one in which the work begins once dfuIDLE is heard, and of the
--- two ends that common phases lead to. Of what is heard something may be known.
+-- A property that holds of the common phases, of the first phase of the work once dfuIDLE is heard, and of the two ends to which common
+-- phases lead. Facts of what is heard may be used.
 pub record CommonInvariant (task : Task) (P : Phase → Type 0) (Known : Heard → Type 0) : Type 0 where
-  pub anywhere : (phase : Phase) → IsCommon phase → P phase
+  pub holds_in_each_phase : (phase : Phase) → IsCommonPhase phase → P phase
   pub begins : (code : Code) (poll : ℕ) → Known (Status code poll DfuIdle) → P (work_start task.goal)
   pub refused : (code : Code) → P (Over (Refused code))
   pub aborted : P (Over Aborted)
 
--- Nothing has to be known of what is heard.
-abbrev pub Any : Heard → Type 0
-Any heard = Unit {0}
+-- Every meaning may be heard.
+abbrev pub AnyMeaning : Heard → Type 0
+AnyMeaning heard = Unit {0}
 
--- A property that holds of a download's phases, of the one in which the work begins, and of the ends that may follow. Of a confirmed
--- install it says nothing.
+-- A property that holds of a download's phases, of the first phase of the work, and of the ends that may follow. For a confirmed install it
+-- says nothing.
 pub record DownloadInvariant (task : Task) (P : Phase → Type 0) : Type 0 where
-  pub anywhere : (phase : Phase) → IsDownloading phase → P phase
+  pub holds_in_each_phase : (phase : Phase) → IsDownloading phase → P phase
   pub begins : P (work_start task.goal)
   pub refused : (code : Code) → P (Over (Refused code))
   pub aborted : P (Over Aborted)

@@ -1,96 +1,109 @@
--- Laws of what an upload keeps: it stays counted, row by row, whatever is heard.
+-- Laws of the bytes that an upload keeps: row by row they stay counted, whatever is heard.
 use Rattle.std.proofs.Common.{◌≡◌, ℕ, suc, ◌*◌, ◌<◌, ◌≤◌, nat_lt, ◌==◌, List, length, refl, arith, length-append}
 use Rattle.std.proofs.Math.Nat.{suc-mul, mul-le-mul_right}
 use Rattle.std.proofs.lemmas.Bool.{eqb-true, eqb-false, ltb-true}
 use Rattle.dfu_host.specs.declared.report.Report.{Report}
 use Rattle.dfu_host.specs.declared.report.Report.TheVariants as report
-use Rattle.dfu_host.specs.Phases.{Goal, ToLoad, ToFetch, ToVerify, ToCompare, Task, Phase, Fetch, LastUploaded, Compare, Last, Over, OverUploaded, Heard, Part}
+use Rattle.dfu_host.specs.Phases.{Goal, LoadGoal, FetchGoal, VerifyGoal, CompareGoal, Task, Phase, Fetch, LastUploaded, Compare, Last, Over, OverUploaded, Heard, Part}
 use Rattle.dfu_host.specs.Table.{work_start, after_last, on_part, host_row, task_after}
 use Rattle.dfu_host.specs.Host.{HostState, after}
 use Rattle.dfu_host.specs.CommonPhases.{IsDownloading, DownloadInvariant}
-use Rattle.dfu_host.specs.RowLaws.{after_choice, after_reset, after_compared, after_download}
-use Rattle.dfu_host.specs.HostLaws.{IsCutShort, RowsPreserve, keeps_after, keeps_rows}
-use Rattle.dfu_host.specs.Counting.{ReportsNoBytes, IsCounted, StaysCounted}
+use Rattle.dfu_host.specs.RowLaws.{property_after_choice, after_reset, property_after_compared_part, property_after_download_phase}
+use Rattle.dfu_host.specs.HostLaws.{IsCutShort, RowsPreserve, heard_result_preserves_property, host_rows_preserve_property}
+use Rattle.dfu_host.specs.Counting.{ReportsNoBytes, KeptBytesAreCounted, KeptBytesStayCounted}
 
-start_counted : (task : Task) (goal : Goal) → task.goal ≡ goal → IsCounted task (work_start goal)
-start_counted task (ToLoad payload) e = tt
-start_counted task ToFetch e = (e, omega arith, omega arith)
-start_counted task (ToVerify payload) e = tt
-start_counted task (ToCompare payload) e = tt
+-- The first phase of the work keeps counted bytes.
+work_start_is_counted : (task : Task) (goal : Goal) → task.goal ≡ goal → KeptBytesAreCounted task (work_start goal)
+work_start_is_counted task (LoadGoal payload) e = tt
+work_start_is_counted task FetchGoal e = (e, omega arith, omega arith)
+work_start_is_counted task (VerifyGoal payload) e = tt
+work_start_is_counted task (CompareGoal payload) e = tt
 
-anywhere_counted : (task : Task) (phase : Phase) → IsDownloading phase → IsCounted task phase
-anywhere_counted task (Fetch k kept) h = elim h [ ]
-anywhere_counted task (LastUploaded kept) h = elim h [ ]
-anywhere_counted task (Last r) h = elim h [ ]
-anywhere_counted task (Over r) h = elim h [ ]
-anywhere_counted task (OverUploaded kept) h = elim h [ ]
-anywhere_counted task phase h = tt
+-- A phase of a download keeps counted bytes.
+download_phase_is_counted : (task : Task) (phase : Phase) → IsDownloading phase → KeptBytesAreCounted task phase
+download_phase_is_counted task (Fetch k kept) h = elim h [ ]
+download_phase_is_counted task (LastUploaded kept) h = elim h [ ]
+download_phase_is_counted task (Last r) h = elim h [ ]
+download_phase_is_counted task (Over r) h = elim h [ ]
+download_phase_is_counted task (OverUploaded kept) h = elim h [ ]
+download_phase_is_counted task phase h = tt
 
-download_counted : (task : Task) → DownloadInvariant task (IsCounted task)
-download_counted task = record {
-  anywhere = anywhere_counted task;
-  begins = start_counted task task.goal refl;
+-- Counted bytes are a property of a download's phases.
+counted_download_invariant : (task : Task) → DownloadInvariant task (KeptBytesAreCounted task)
+counted_download_invariant task = record {
+  holds_in_each_phase = download_phase_is_counted task;
+  begins = work_start_is_counted task task.goal refl;
   refused = λ c. tt;
   aborted = tt;
   unconfirmed = tt;
 }
 
-part_counted : (task : Task) (k : ℕ) (kept : List ℕ) (heard : Heard) → 0 < task.transfer → IsCounted task (Fetch k kept)
-    → IsCounted task (on_part task.transfer k kept heard)
-part_counted task k kept (Part bytes) some c =
+-- The phase after a part keeps counted bytes.
+phase_after_part_is_counted : (task : Task) (k : ℕ) (kept : List ℕ) (heard : Heard) → 0 < task.transfer →
+    KeptBytesAreCounted task (Fetch k kept)
+    → KeptBytesAreCounted task (on_part task.transfer k kept heard)
+phase_after_part_is_counted task k kept (Part bytes) some c =
     let t = task.transfer in
-    after_choice (IsCounted task) (length bytes == t) _ _
-    (λ full. after_choice (IsCounted task) (suc k == 65535) _ _ (λ e. tt) (λ more.
+    property_after_choice (KeptBytesAreCounted task) (length bytes == t) _ _
+    (λ full. property_after_choice (KeptBytesAreCounted task) (suc k == 65535) _ _ (λ e. tt) (λ more.
     let f : length bytes ≡ t = eqb-true _ _ full in
     let n : suc k ≡ 65535 → ⊥ = eqb-false _ _ more in
     let g : suc k < 65535 = omega (arith, c.1, n) in
     (c.0, g, omega (arith, c.2, f, length-append kept bytes, suc-mul k t))))
-    (λ other. after_choice (IsCounted task) (nat_lt (length bytes) t) _ _
+    (λ other. property_after_choice (KeptBytesAreCounted task) (nat_lt (length bytes) t) _ _
     (λ short.
     let f : length bytes < t = ltb-true _ _ short in
     let g : suc k * t ≤ 65535 * t = mul-le-mul_right t (omega (arith, c.1)) in
     (c.0, omega (arith, c.2, f, g, length-append kept bytes, suc-mul k t)))
     (λ long. tt))
-part_counted task k kept heard some c = tt
+phase_after_part_is_counted task k kept heard some c = tt
 
-last_counted : (task : Task) (goal : Goal) (r : Report) → ReportsNoBytes r → IsCounted task (after_last goal r)
-last_counted task (ToVerify payload) r c = tt
-last_counted task goal r c = c
+-- The phase after the last reset keeps counted bytes.
+phase_after_last_is_counted : (task : Task) (goal : Goal) (r : Report) → ReportsNoBytes r → KeptBytesAreCounted task (after_last goal r)
+phase_after_last_is_counted task (VerifyGoal payload) r c = tt
+phase_after_last_is_counted task goal r c = c
 
-row_counted : (task : Task) (phase : Phase) (heard : Heard) → 0 < task.transfer → IsCounted task phase
-    → IsCounted (task_after task phase heard) (host_row task phase heard)
-row_counted task (Fetch k kept) heard some c = part_counted task k kept heard some c
-row_counted task (LastUploaded kept) heard some c = after_reset (IsCounted task) heard (OverUploaded kept) (LastUploaded kept) c c
-row_counted task (Compare k) heard some c = after_compared task (IsCounted task) k heard tt tt tt tt (λ matched. tt)
-row_counted task (Last r) heard some c = let next = task_after task (Last r) heard in
-    after_reset (IsCounted next) heard (after_last task.goal r) (Last r) (last_counted next task.goal r c) c
-row_counted task (Over r) heard some c = c
-row_counted task (OverUploaded kept) heard some c = c
-row_counted task phase heard some c = after_download task (IsCounted task) (download_counted task) phase heard tt (λ confirmed. tt)
+-- The phase after a row keeps counted bytes.
+phase_after_row_is_counted : (task : Task) (phase : Phase) (heard : Heard) → 0 < task.transfer → KeptBytesAreCounted task phase
+    → KeptBytesAreCounted (task_after task phase heard) (host_row task phase heard)
+phase_after_row_is_counted task (Fetch k kept) heard some c = phase_after_part_is_counted task k kept heard some c
+phase_after_row_is_counted task (LastUploaded kept) heard some c = after_reset (KeptBytesAreCounted task) heard (OverUploaded kept)
+    (LastUploaded kept) c c
+phase_after_row_is_counted task (Compare k) heard some c = property_after_compared_part task (KeptBytesAreCounted task) k heard tt tt tt tt
+    (λ matched. tt)
+phase_after_row_is_counted task (Last r) heard some c = let next = task_after task (Last r) heard in
+    after_reset (KeptBytesAreCounted next) heard (after_last task.goal r) (Last r) (phase_after_last_is_counted next task.goal r c) c
+phase_after_row_is_counted task (Over r) heard some c = c
+phase_after_row_is_counted task (OverUploaded kept) heard some c = c
+phase_after_row_is_counted task phase heard some c = property_after_download_phase task (KeptBytesAreCounted task)
+    (counted_download_invariant task) phase heard tt (λ confirmed. tt)
 
-short_counted : (report : Report) → IsCutShort report → ReportsNoBytes report
-short_counted report.GaveUp is = tt
-short_counted report.RestartsSpent is = tt
-short_counted report.Aborted is = tt
-short_counted report is = elim is [ ]
+-- A report by the budget, the restarts or the caller has no bytes.
+cut_short_report_has_no_bytes : (report : Report) → IsCutShort report → ReportsNoBytes report
+cut_short_report_has_no_bytes report.GaveUp is = tt
+cut_short_report_has_no_bytes report.RestartsSpent is = tt
+cut_short_report_has_no_bytes report.Aborted is = tt
+cut_short_report_has_no_bytes report is = elim is [ ]
 
--- It is counted, and there is room for a byte in a part.
-abbrev CountsParts : Task → Phase → Type 0
-CountsParts task phase = (0 < task.transfer) × IsCounted task phase
+-- The kept bytes are counted, and a part has room for a byte.
+abbrev PartsAreCounted : Task → Phase → Type 0
+PartsAreCounted task phase = (0 < task.transfer) × KeptBytesAreCounted task phase
 
-rows_count : RowsPreserve CountsParts
-rows_count = record {
-  next = λ task phase heard c. (c.0, row_counted task phase heard c.0 c.1);
+-- The rows keep the bytes counted.
+rows_preserve_counted_parts : RowsPreserve PartsAreCounted
+rows_preserve_counted_parts = record {
+  next = λ task phase heard c. (c.0, phase_after_row_is_counted task phase heard c.0 c.1);
   anew = λ task phase c. (c.0, tt);
-  short = λ task phase report is c. (c.0, short_counted report is);
+  short = λ task phase report is c. (c.0, cut_short_report_has_no_bytes report is);
   leaves = λ task phase behind c. (c.0, tt);
 }
 
--- The bytes that are kept are counted, whatever is heard.
-pub after_stays : (h : HostState) (heard : Heard) → 0 < h.task.transfer → IsCounted h.task h.phase
-    → IsCounted (after h heard).task (after h heard).phase
-after_stays h heard some c = (keeps_after CountsParts rows_count h heard (some, c)).1
+-- The kept bytes of a host stay counted after anything that is heard.
+pub heard_host_stays_counted : (h : HostState) (heard : Heard) → 0 < h.task.transfer → KeptBytesAreCounted h.task h.phase
+    → KeptBytesAreCounted (after h heard).task (after h heard).phase
+heard_host_stays_counted h heard some c = (heard_result_preserves_property PartsAreCounted rows_preserve_counted_parts h heard (some, c)).1
 
--- The bytes that a host keeps stay counted.
-pub stays_counted : StaysCounted
-stays_counted h h' seens some c rows = (keeps_rows CountsParts rows_count h h' seens rows (some, c)).1
+-- The kept bytes of a host stay counted after any results.
+pub kept_bytes_stay_counted : KeptBytesStayCounted
+kept_bytes_stay_counted h h' seens some c rows = (host_rows_preserve_property PartsAreCounted rows_preserve_counted_parts h h' seens rows
+    (some, c)).1

@@ -1,33 +1,34 @@
--- Effect on a session of a device that left of itself.
+-- A session whose device left of itself.
 use Rattle.std.specs.Prelude.{◌≡◌, ℕ, pred, false, IsTrue, List}
 use Rattle.dfu_host.specs.declared.report.Report.TheVariants as report
 use Rattle.dfu_host.specs.declared.seen.Seen.TheVariants as seen
-use Rattle.dfu_host.specs.Phases.{ToLoad, ToVerify, ToCompare, Find, Over}
+use Rattle.dfu_host.specs.Phases.{LoadGoal, VerifyGoal, CompareGoal, Find, Over}
 use Rattle.dfu_host.specs.BehindClose.{is_behind_close}
-use Rattle.dfu_host.specs.Host.{HostState, HostRow, budgeted}
+use Rattle.dfu_host.specs.Host.{HostState, HostRow, phase_in_budget}
 
--- The close of the session is done.
-abbrev pub IsBehindClose : HostState → Type 0
-IsBehindClose h = IsTrue (is_behind_close h.task.goal h.phase)
+-- The session is in a phase after the close.
+abbrev pub CloseIsDone : HostState → Type 0
+CloseIsDone h = IsTrue (is_behind_close h.task.goal h.phase)
 
--- After the close a download that isn't verified is over: nothing confirms the install, whatever the device said before it left.
+-- After the close a download that isn't verified ends as Unconfirmed, because nothing confirms the install, whatever the device said before
+-- it left.
 abbrev pub NothingConfirmsAfterClose : Type 0
 NothingConfirmsAfterClose =
-    (payload : List ℕ) (h h' : HostState) → h.task.goal ≡ ToLoad payload → IsBehindClose h → HostRow h seen.Left h'
+    (payload : List ℕ) (h h' : HostState) → h.task.goal ≡ LoadGoal payload → CloseIsDone h → HostRow h seen.Left h'
     → h' ≡ record h { phase = Over report.Unconfirmed; actions = pred h.actions }
 
--- Behind the close a download that is verified begins to compare, with the restarts that it had.
+-- After the close a verified download begins to compare, with the restarts that it had.
 abbrev pub CompareFollowsClose : Type 0
 CompareFollowsClose =
-    (payload : List ℕ) (h h' : HostState) → h.task.goal ≡ ToVerify payload → IsBehindClose h → HostRow h seen.Left h'
+    (payload : List ℕ) (h h' : HostState) → h.task.goal ≡ VerifyGoal payload → CloseIsDone h → HostRow h seen.Left h'
     → h' ≡ record {
-      task = record h.task { goal = ToCompare payload };
-      phase = budgeted (pred h.actions) Find;
+      task = record h.task { goal = CompareGoal payload };
+      phase = phase_in_budget (pred h.actions) Find;
       actions = pred h.actions;
       restarts = h.restarts;
     }
 
--- Elsewhere a device that left of itself is one that was restarted.
-abbrev pub IsRestartElsewhere : Type 0
-IsRestartElsewhere =
+-- In each phase before the close is done, a device that left of itself counts as restarted.
+abbrev pub LeavingElsewhereIsRestart : Type 0
+LeavingElsewhereIsRestart =
     (h h' : HostState) → is_behind_close h.task.goal h.phase ≡ false → HostRow h seen.Left h' → HostRow h seen.Restarted h'

@@ -1,16 +1,16 @@
--- Goal of a session of the code.
+-- Goals of sessions in the code.
 use Rattle.std.specs.Prelude.{◌≡◌, ℕ, List, [], length}
 use Rattle.dfu_host.specs.declared.goal.Goal.{Goal}
 use Rattle.dfu_host.specs.declared.goal.Goal.TheVariants as goal
 use Rattle.dfu_host.specs.Table as table
 use Rattle.std.specs.Borrow.{Bor}
 
--- The goal of a session.
+-- The table's goal for a goal of the code.
 abbrev pub goal_of : Goal → table.Goal
-goal_of (goal.Load payload) = table.ToLoad payload.now
-goal_of goal.Fetch = table.ToFetch
-goal_of (goal.Verify payload) = table.ToVerify payload.now
-goal_of (goal.Compare payload) = table.ToCompare payload.now
+goal_of (goal.Load payload) = table.LoadGoal payload.now
+goal_of goal.Fetch = table.FetchGoal
+goal_of (goal.Verify payload) = table.VerifyGoal payload.now
+goal_of (goal.Compare payload) = table.CompareGoal payload.now
 
 -- The payload that a session sends or compares; empty for an upload.
 abbrev pub payload_of : Goal → List ℕ
@@ -19,23 +19,23 @@ payload_of goal.Fetch = []
 payload_of (goal.Verify payload) = payload.now
 payload_of (goal.Compare payload) = payload.now
 
--- The size of what is to be done: the bytes of a payload. An image's is not known, and counts as 1.
+-- Size of the goal in bytes: that of its payload, and 1 for an image, whose size is not known.
 abbrev pub size_of : Goal → ℕ
 size_of (goal.Load payload) = length payload.now
 size_of goal.Fetch = 1
 size_of (goal.Verify payload) = length payload.now
 size_of (goal.Compare payload) = length payload.now
 
--- The session fetches the image.
+-- The goal is to fetch the image.
 abbrev pub IsFetch : Goal → Type 0
 IsFetch (goal.Load payload) = ⊥
 IsFetch goal.Fetch = Unit {0}
 IsFetch (goal.Verify payload) = ⊥
 IsFetch (goal.Compare payload) = ⊥
 
--- If the goal has a payload, it is this slice.
-abbrev pub Carries : Bor (List ℕ) → Goal → Type 0
-Carries payload (goal.Load given) = given ≡ payload
-Carries payload goal.Fetch = Unit {0}
-Carries payload (goal.Verify given) = given ≡ payload
-Carries payload (goal.Compare given) = given ≡ payload
+-- The payload of the goal, if it has one, is the slice.
+abbrev pub CarriesPayload : Bor (List ℕ) → Goal → Type 0
+CarriesPayload payload (goal.Load given) = given ≡ payload
+CarriesPayload payload goal.Fetch = Unit {0}
+CarriesPayload payload (goal.Verify given) = given ≡ payload
+CarriesPayload payload (goal.Compare given) = given ≡ payload

@@ -1,4 +1,4 @@
--- Laws of a host: what the table's rows keep, the budget and the restarts keep too.
+-- Laws of a host: a property that the table's rows keep is kept by the budget and the restarts too.
 use Rattle.std.proofs.Common.{◌≡◌, ℕ, zero, suc, pred, Bool, true, false, IsTrue, List, [], ◌∷◌, refl, sym, subst}
 use Rattle.dfu_host.specs.declared.report.Report.{Report}
 use Rattle.dfu_host.specs.declared.report.Report.TheVariants.{Aborted, GaveUp, RestartsSpent, Unconfirmed}
@@ -6,17 +6,17 @@ use Rattle.dfu_host.specs.declared.seen.Seen.{Seen}
 use Rattle.dfu_host.specs.Phases.{Task, Phase, Find, Last, GiveUp, Over, OverUploaded, Heard, WasReset, Restarted, Left}
 use Rattle.dfu_host.specs.BehindClose.{is_behind_close}
 use Rattle.dfu_host.specs.Table.{host_row, task_after}
-use Rattle.dfu_host.specs.Host.{HostState, HostRows, budgeted, restarted, by_row, host_after_leaving, host_after, after_phase, after, seen_all, sees}
+use Rattle.dfu_host.specs.Host.{HostState, HostRows, phase_in_budget, host_after_restart, host_by_row, host_after_leaving, host_after_result, host_after_phase, after, seen_all, sees}
 
--- The report is one with which a host ends by its budget, by its restarts, or by its caller.
+-- A report with which a host ends by its budget, by its restarts, or by its caller.
 abbrev pub IsCutShort : Report → Type 0
 IsCutShort GaveUp = Unit {0}
 IsCutShort RestartsSpent = Unit {0}
 IsCutShort Aborted = Unit {0}
 IsCutShort report = ⊥
 
--- A property of a host's task and phase that each row keeps. If it held, it holds of the first phase and of an early end; if it held after
--- the close, it holds of the last reset that confirms nothing.
+-- A property of a host's task and phase that each row keeps. If it holds in a phase, it holds in the first phase and in an early end; and
+-- if that phase is after the close, in the last reset that confirms nothing.
 pub record RowsPreserve (Q : Task → Phase → Type 0) : Type 0 where
   pub next : (task : Task) (phase : Phase) (heard : Heard) → Q task phase → Q (task_after task phase heard) (host_row task phase heard)
   pub anew : (task : Task) (phase : Phase) → Q task phase → Q task Find
@@ -24,45 +24,54 @@ pub record RowsPreserve (Q : Task → Phase → Type 0) : Type 0 where
   pub leaves : (task : Task) (phase : Phase) → IsTrue (is_behind_close task.goal phase) → Q task phase → Q task (Last Unconfirmed)
 
 module _ (Q : Task → Phase → Type 0) (keep : RowsPreserve Q) where
-  keeps_budget : (task : Task) (left : ℕ) (phase : Phase) → Q task phase → Q task (budgeted left phase)
-  keeps_budget task left (Over r) q = q
-  keeps_budget task left (OverUploaded kept) q = q
-  keeps_budget task zero phase q = keep.short task phase GaveUp tt q
-  keeps_budget task (suc left) phase q = q
+  -- The property holds after the budget is spent.
+  budget_preserves_property : (task : Task) (left : ℕ) (phase : Phase) → Q task phase → Q task (phase_in_budget left phase)
+  budget_preserves_property task left (Over r) q = q
+  budget_preserves_property task left (OverUploaded kept) q = q
+  budget_preserves_property task zero phase q = keep.short task phase GaveUp tt q
+  budget_preserves_property task (suc left) phase q = q
 
-  keeps_restart : (h : HostState) (phase : Phase) (restarts : ℕ) → Q h.task phase
-      → let g = restarted h phase restarts in Q g.task g.phase
-  keeps_restart h GiveUp restarts q = keep.short h.task GiveUp Aborted tt q
-  keeps_restart h phase zero q = keep.short h.task phase RestartsSpent tt q
-  keeps_restart h phase (suc restarts) q = keeps_budget h.task (pred h.actions) Find (keep.anew h.task phase q)
+  -- The property holds after a restart.
+  restart_preserves_property : (h : HostState) (phase : Phase) (restarts : ℕ) → Q h.task phase
+      → let g = host_after_restart h phase restarts in Q g.task g.phase
+  restart_preserves_property h GiveUp restarts q = keep.short h.task GiveUp Aborted tt q
+  restart_preserves_property h phase zero q = keep.short h.task phase RestartsSpent tt q
+  restart_preserves_property h phase (suc restarts) q = budget_preserves_property h.task (pred h.actions) Find (keep.anew h.task phase q)
 
-  keeps_row : (h : HostState) (phase : Phase) (heard : Heard) → Q h.task phase → let g = by_row h phase heard in Q g.task g.phase
-  keeps_row h phase heard q =
-      keeps_budget (task_after h.task phase heard) (pred h.actions) (host_row h.task phase heard) (keep.next h.task phase heard q)
+  -- The property holds after a row.
+  row_preserves_property : (h : HostState) (phase : Phase) (heard : Heard) → Q h.task phase →
+      let g = host_by_row h phase heard in Q g.task g.phase
+  row_preserves_property h phase heard q =
+      budget_preserves_property (task_after h.task phase heard) (pred h.actions) (host_row h.task phase heard) (keep.next h.task phase
+      heard q)
 
-  keeps_left : (h : HostState) (phase : Phase) (behind : Bool) → is_behind_close h.task.goal phase ≡ behind → Q h.task phase
+  -- The property holds after the device left.
+  leaving_preserves_property : (h : HostState) (phase : Phase) (behind : Bool) → is_behind_close h.task.goal phase ≡ behind → Q h.task phase
       → let g = host_after_leaving h phase behind in Q g.task g.phase
-  keeps_left h phase true e q = keeps_row h (Last Unconfirmed) WasReset (keep.leaves h.task phase e q)
-  keeps_left h phase false e q = keeps_restart h phase h.restarts q
+  leaving_preserves_property h phase true e q = row_preserves_property h (Last Unconfirmed) WasReset (keep.leaves h.task phase e q)
+  leaving_preserves_property h phase false e q = restart_preserves_property h phase h.restarts q
 
-  keeps_told : (h : HostState) (phase : Phase) (heard : Heard) → Q h.task phase → let g = host_after h phase heard in Q g.task g.phase
-  keeps_told h phase Restarted q = keeps_restart h phase h.restarts q
-  keeps_told h phase Left q = keeps_left h phase (is_behind_close h.task.goal phase) refl q
-  keeps_told h phase heard q = keeps_row h phase heard q
+  -- The property holds after a live host heard something.
+  heard_row_preserves_property : (h : HostState) (phase : Phase) (heard : Heard) → Q h.task phase →
+      let g = host_after_result h phase heard in Q g.task g.phase
+  heard_row_preserves_property h phase Restarted q = restart_preserves_property h phase h.restarts q
+  heard_row_preserves_property h phase Left q = leaving_preserves_property h phase (is_behind_close h.task.goal phase) refl q
+  heard_row_preserves_property h phase heard q = row_preserves_property h phase heard q
 
-  keeps_phase : (h : HostState) (phase : Phase) (heard : Heard) → h.phase ≡ phase → Q h.task phase
-      → let g = after_phase h phase heard in Q g.task g.phase
-  keeps_phase h (Over r) heard same q = rw same q
-  keeps_phase h (OverUploaded kept) heard same q = rw same q
-  keeps_phase h Find heard same q = keeps_told h Find heard q
-  keeps_phase h phase heard same q = keeps_told h phase heard q
+  -- The property holds after a host heard something in a phase.
+  phase_preserves_property : (h : HostState) (phase : Phase) (heard : Heard) → h.phase ≡ phase → Q h.task phase
+      → let g = host_after_phase h phase heard in Q g.task g.phase
+  phase_preserves_property h (Over r) heard same q = rw same q
+  phase_preserves_property h (OverUploaded kept) heard same q = rw same q
+  phase_preserves_property h Find heard same q = heard_row_preserves_property h Find heard q
+  phase_preserves_property h phase heard same q = heard_row_preserves_property h phase heard q
 
-  -- It holds after whatever is heard.
-  pub keeps_after : (h : HostState) (heard : Heard) → Q h.task h.phase → Q (after h heard).task (after h heard).phase
-  keeps_after h heard q = keeps_phase h h.phase heard refl q
+  -- The property holds after any result that is heard.
+  pub heard_result_preserves_property : (h : HostState) (heard : Heard) → Q h.task h.phase → Q (after h heard).task (after h heard).phase
+  heard_result_preserves_property h heard q = phase_preserves_property h h.phase heard refl q
 
-  -- It holds after all that is seen.
-  pub keeps_rows : (h h' : HostState) (seens : List Seen) → HostRows h seens h' → Q h.task h.phase → Q h'.task h'.phase
-  keeps_rows h h' [] seen_all q = q
-  keeps_rows h h' (seen ∷ more) (sees {mid = mid} step rows) q = keeps_rows mid h' more rows
-      (subst (λ (z : HostState). Q z.task z.phase) (sym step.same) (keeps_after h step.heard q))
+  -- The property holds after any list of results.
+  pub host_rows_preserve_property : (h h' : HostState) (seens : List Seen) → HostRows h seens h' → Q h.task h.phase → Q h'.task h'.phase
+  host_rows_preserve_property h h' [] seen_all q = q
+  host_rows_preserve_property h h' (seen ∷ more) (sees {mid = mid} step rows) q = host_rows_preserve_property mid h' more rows
+      (subst (λ (z : HostState). Q z.task z.phase) (sym step.same) (heard_result_preserves_property h step.heard q))

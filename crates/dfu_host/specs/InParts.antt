@@ -1,4 +1,4 @@
--- A session of the code as its parts, and the host that they are with what is kept of an upload.
+-- A session of the code as its parts, and their host, with the kept bytes of an upload.
 use Rattle.std.specs.Prelude.{◌≡◌, ℕ, zero, suc, ◌*◌, ◌<◌, List, [], length, take, drop}
 use Rattle.dfu_host.specs.declared.goal.Goal.{Goal}
 use Rattle.dfu_host.specs.declared.phase.Phase.{Phase}
@@ -11,12 +11,12 @@ use Rattle.dfu_host.specs.PhaseClasses.{Common, Sending, Closing, Manifesting, F
 use Rattle.dfu_host.specs.Table as table
 use Rattle.dfu_host.specs.Host.{HostState}
 
--- Bytes in memory that are kept when a part is asked for: before the first part none are.
+-- Kept bytes of the memory when part k is asked for; before the first part there are none.
 abbrev pub buffered_at : ℕ → List ℕ → List ℕ
 buffered_at zero memory = []
 buffered_at (suc k) memory = memory
 
--- The phase that a phase of the code is, with these bytes in memory.
+-- The table's phase for a phase of the code, with the kept bytes of the memory.
 abbrev pub phase_of : List ℕ → Phase → table.Phase
 phase_of memory phase.Find = table.Find
 phase_of memory phase.FindAgain = table.FindAgain
@@ -44,15 +44,15 @@ phase_of memory phase.GiveUp = table.GiveUp
 phase_of memory (phase.Over report) = table.Over report
 phase_of memory phase.OverUploaded = table.OverUploaded memory
 
--- A phase of the table is this one of the code, whatever an upload keeps in it.
-pub record IsPhase (is : table.Phase) (phase : Phase) : Type 0 where
+-- The phase of the table is that of the code, whatever an upload keeps in it.
+pub record IsTablePhase (is : table.Phase) (phase : Phase) : Type 0 where
   pub memory : List ℕ
   pub same : is ≡ phase_of memory phase
 
--- A session has what its phase needs: a block that there is, a payload to close, or an image to fetch, of which the parts 0 to 65,534 are
--- asked for, as they are of one that is compared, or nothing.
-abbrev pub IsWithin : Goal → (transfer : ℕ) → Phase → Type 0
-IsWithin goal t phase = elim (class_of (phase_of [] phase)) [
+-- A session has what its phase needs: the block that is sent, a payload to close, an image of which the parts 0 to 65,534 are fetched or
+-- compared, or nothing.
+abbrev pub HasPhaseNeeds : Goal → (transfer : ℕ) → Phase → Type 0
+HasPhaseNeeds goal t phase = elim (class_of (phase_of [] phase)) [
   | Common ↦ Unit {0}
   | Sending n ↦ n * t < length (payload_of goal)
   | Closing ↦ 0 < length (payload_of goal)
@@ -65,13 +65,13 @@ IsWithin goal t phase = elim (class_of (phase_of [] phase)) [
   | EndedUpload kept ↦ Unit {0}
 ]
 
--- Parts are those of a session if there is something to do, blocks have room for a byte, and the phase has what it needs.
-pub record IsSession (p : Parts) : Type 0 where
+-- The parts are those of a session: its goal has something to do, a block has room for a byte, and the phase has what it needs.
+pub record ArePartsOfSession (p : Parts) : Type 0 where
   pub some : 0 < size_of p.goal
   pub transfers : 0 < p.transfer
-  pub within : IsWithin p.goal p.transfer p.phase
+  pub within : HasPhaseNeeds p.goal p.transfer p.phase
 
--- The host of a session's parts, with these bytes in memory.
+-- The host of a session's parts, with the kept bytes of the memory.
 abbrev pub host_of : List ℕ → Parts → HostState
 host_of memory p = record {
   task = record {
@@ -86,15 +86,15 @@ host_of memory p = record {
   restarts = p.restarts;
 }
 
--- The place in the payload at which the body of a phase's request begins: the block's first byte. All other requests have no body, and it
--- counts as 0.
+-- Place in the payload at which the body of a phase's request begins: the first byte of the phase's block, and 0 in a phase whose request
+-- has no body.
 abbrev pub body_offset : (t : ℕ) → Phase → ℕ
 body_offset t (phase.Block n) = n * t
 body_offset t other = 0
 
--- The body of a request of a session is the payload from there on, as far as the body goes.
-abbrev pub BodyIsCut : (payload : List ℕ) (from : ℕ) → Action → Type 0
-BodyIsCut payload from (action.Send setup body) = body.now ≡ take (length body.now) (drop from payload)
-BodyIsCut payload from (action.Wait ms) = Unit {0}
-BodyIsCut payload from action.Reset = Unit {0}
-BodyIsCut payload from (action.Done report) = Unit {0}
+-- The body of a session's request is a slice of the payload from the given place on.
+abbrev pub BodyIsSliceOfPayload : (payload : List ℕ) (from : ℕ) → Action → Type 0
+BodyIsSliceOfPayload payload from (action.Send setup body) = body.now ≡ take (length body.now) (drop from payload)
+BodyIsSliceOfPayload payload from (action.Wait ms) = Unit {0}
+BodyIsSliceOfPayload payload from action.Reset = Unit {0}
+BodyIsSliceOfPayload payload from (action.Done report) = Unit {0}

@@ -1,9 +1,9 @@
--- The class of each phase. A definition that treats many phases alike goes by it.
+-- The class of each phase, for definitions that treat many phases alike.
 use Rattle.std.specs.Prelude.{ℕ, List}
 use Rattle.dfu_host.specs.declared.report.Report.{Report}
 use Rattle.dfu_host.specs.Phases.{Phase, Find, FindAgain, Detach, Enter, Clear, Quit, WaitFind, ResetFind, Block, Ask, Poll, WaitPoll, Close, AskLast, Manifest, WaitManifest, WaitLast, Trouble, Fetch, LastUploaded, Compare, Last, GiveUp, Over, OverUploaded}
 
--- The part of a session that a phase belongs to, with what the phase keeps. Each session has the common part.
+-- The part of a session to which a phase belongs, with what the phase keeps. Every session has the common part.
 pub data PhaseClass : Type 0 where
   Common : PhaseClass
   Sending : (n : ℕ) → PhaseClass

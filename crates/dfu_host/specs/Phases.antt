@@ -1,17 +1,17 @@
--- Goals of a session, its phases, what it does in them, and how it understands what it sees.
+-- Goals, phases and deeds of sessions, and meanings of their results.
 use Rattle.std.specs.Prelude.{ℕ, Bool, List}
 use Rattle.dfu_wire.specs.declared.codes.Code.{Code}
 use Rattle.dfu_wire.specs.declared.states.State.{State}
 use Rattle.dfu_wire.specs.declared.requests.Request.{Request}
 use Rattle.dfu_host.specs.declared.report.Report.{Report}
 
--- Goal of a session: to install a payload; to fetch the active image; to install a payload and then compare it; or, once it was installed
--- and the device was reset, to compare it with the active image.
+-- Goal of a session: to install a payload; to fetch the active image; to install a payload and then compare it; or to compare the payload
+-- with the active image, after it was installed and the device was reset.
 pub data Goal : Type 0 where
-  ToLoad : (payload : List ℕ) → Goal
-  ToFetch : Goal
-  ToVerify : (payload : List ℕ) → Goal
-  ToCompare : (payload : List ℕ) → Goal
+  LoadGoal : (payload : List ℕ) → Goal
+  FetchGoal : Goal
+  VerifyGoal : (payload : List ℕ) → Goal
+  CompareGoal : (payload : List ℕ) → Goal
 
 -- Task of a session, and the fields of its device's descriptor.
 pub record Task : Type 0 where
@@ -49,14 +49,15 @@ pub data Phase : Type 0 where
   Over : Report → Phase
   OverUploaded : (kept : List ℕ) → Phase
 
--- Deed of a host: it sends a request with its body, waits, resets the bus, or is done. The code's `Action` spells it.
+-- Deed of a host: it sends a request with its body, waits, resets the bus, or is done. `Action` is the deed in the code, with the bytes of
+-- the setup.
 pub data Deed : Type 0 where
   Send : (request : Request) (body : List ℕ) → Deed
   Wait : (ms : ℕ) → Deed
   Reset : Deed
   Done : Report → Deed
 
--- Meaning that a host gives to what it sees. NoRoom is a part of an upload that found no memory; Left, that the device left of itself.
+-- Meaning of a result for a host. NoRoom is a part of an upload without memory; Left is a device that left of itself.
 pub data Heard : Type 0 where
   Acked : Heard
   Status : Code → (poll : ℕ) → State → Heard

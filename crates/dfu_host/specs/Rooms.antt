@@ -1,4 +1,4 @@
--- Effect of a part of an upload that is kept in a room of a fixed size, so that no memory is asked for.
+-- Parts of an upload that a room of a fixed size keeps, so that no memory is needed.
 use Rattle.std.specs.Prelude.{◌≡◌, ◌↔◌, ℕ, ◌+◌, nat_lt, ◌&&◌, Bool, if◌then◌else◌, IsTrue, List, length}
 use Rattle.std.specs.Borrow.{Bor}
 use Rattle.dfu_host.specs.declared.report.Report.TheVariants as report
@@ -6,19 +6,19 @@ use Rattle.dfu_host.specs.declared.seen.Seen.{Seen}
 use Rattle.dfu_host.specs.declared.seen.Seen.TheVariants as seen
 use Rattle.dfu_host.specs.Phases.{Phase, Fetch, Over, Heard, Part, NoRoom}
 use Rattle.dfu_host.specs.PhaseClasses.{Common, Sending, Closing, Manifesting, Fetching, Comparing, Ending, EndingUpload, Ended, EndedUpload, class_of}
-use Rattle.dfu_host.specs.Wire.{is_kept}
+use Rattle.dfu_host.specs.Wire.{is_part_kept}
 use Rattle.dfu_host.specs.Host.{HostState, after}
 
--- Part k finds no room: it is one that is kept, and with what is kept by then it has more bytes than the room.
-abbrev pub overflows : (room t k : ℕ) → (kept part : List ℕ) → Bool
-overflows room t k kept part = is_kept t k (length part) && nat_lt room (length kept + length part)
+-- Part k overflows the room: it is one that is kept, and with the bytes kept before it, it has more bytes than the room.
+abbrev pub part_overflows : (room t k : ℕ) → (kept part : List ℕ) → Bool
+part_overflows room t k kept part = is_part_kept t k (length part) && nat_lt room (length kept + length part)
 
--- Meaning of part k: that there was no room for it, if it overflows, and else the part.
+-- Meaning of part k: NoRoom if the part overflows the room, else the part.
 abbrev pub heard_in : (room t k : ℕ) → (kept part : List ℕ) → Heard
-heard_in room t k kept part = if overflows room t k kept part then NoRoom else Part part
+heard_in room t k kept part = if part_overflows room t k kept part then NoRoom else Part part
 
--- Bytes that come for part k are taken as one for which there was no room exactly if it overflows, and else as the part. Nothing is said
--- here about anything else that is seen.
+-- Bytes that come for part k are taken as NoRoom exactly if the part overflows the room, and else as the part. Other results are not spoken
+-- of here.
 abbrev pub PartResultIn : (room : ℕ) → HostState → (k : ℕ) → (kept : List ℕ) → Seen → HostState → Type 0
 PartResultIn room h k kept (seen.Bytes bytes) h' = h' ≡ after h (heard_in room h.task.transfer k kept bytes.now)
 PartResultIn room h k kept seen.Ack h' = Unit {0}
@@ -29,8 +29,8 @@ PartResultIn room h k kept seen.WasReset h' = Unit {0}
 PartResultIn room h k kept seen.Restarted h' = Unit {0}
 PartResultIn room h k kept seen.Left h' = Unit {0}
 
--- An answer that comes when a part is fetched is taken as that part, in a room of this many bytes. Nothing is said here about phases that
--- fetch no part.
+-- An answer in a phase that fetches a part is taken as that part, with a room of `room` bytes. Phases that fetch no part are not spoken of
+-- here.
 abbrev pub FetchResultIn : (room : ℕ) → HostState → Phase → Seen → HostState → Type 0
 FetchResultIn room h phase seen h' = elim (class_of phase) [
   | Common ↦ Unit {0}
@@ -45,8 +45,8 @@ FetchResultIn room h phase seen h' = elim (class_of phase) [
   | EndedUpload kept ↦ Unit {0}
 ]
 
--- An upload in a room that gets bytes when it fetches a part is over with NoMemory exactly if that part overflows.
-abbrev pub OnlyWhereFull : Type 0
-OnlyWhereFull = (room : ℕ) (h h' : HostState) (k : ℕ) (kept : List ℕ) (bytes : Bor (List ℕ))
+-- An upload with a room that fetches a part ends with NoMemory exactly if that part overflows the room.
+abbrev pub NoMemoryOnlyWhereFull : Type 0
+NoMemoryOnlyWhereFull = (room : ℕ) (h h' : HostState) (k : ℕ) (kept : List ℕ) (bytes : Bor (List ℕ))
     → h.phase ≡ Fetch k kept → FetchResultIn room h h.phase (seen.Bytes bytes) h'
-    → (h'.phase ≡ Over report.NoMemory) ↔ IsTrue (overflows room h.task.transfer k kept bytes.now)
+    → (h'.phase ≡ Over report.NoMemory) ↔ IsTrue (part_overflows room h.task.transfer k kept bytes.now)

@@ -1,4 +1,4 @@
--- The host's table: what a host does in each phase, and which phase follows what is heard.
+-- The host's table: the deed of a host in each phase, and the phase after what is heard.
 use Rattle.std.specs.Prelude.{ℕ, zero, suc, ◌%◌, ◌==◌, nat_lt, max, Bool, true, false, if◌then◌else◌, List, [], ◌++◌, length, slice_index_or}
 use Rattle.std.specs.Str.{bytes_eq}
 use Rattle.dfu_wire.specs.declared.codes.Code.{Code}
@@ -9,31 +9,81 @@ use Rattle.dfu_wire.specs.declared.requests.Request.TheVariants as request
 use Rattle.dfu_host.specs.declared.report.Report.{Report}
 use Rattle.dfu_host.specs.declared.report.Report.TheVariants as report
 use Rattle.dfu_host.specs.Blocks.{blocks}
-pub use Rattle.dfu_host.specs.Phases.{Goal, ToLoad, ToFetch, ToVerify, ToCompare, Task, Phase, Find, FindAgain, Detach, Enter, Clear, Quit, WaitFind, ResetFind, Block, Ask, Poll, WaitPoll, Close, AskLast, Manifest, WaitManifest, WaitLast, Trouble, Fetch, LastUploaded, Compare, Last, GiveUp, Over, OverUploaded, Deed, Send, Wait, Reset, Done, Heard, Acked, Status, StateIs, Part, NoRoom, Stalled, Nothing, Waited, WasReset, Restarted, Left}
+pub use Rattle.dfu_host.specs.Phases.{
+  Goal,
+  LoadGoal,
+  FetchGoal,
+  VerifyGoal,
+  CompareGoal,
+  Task,
+  Phase,
+  Find,
+  FindAgain,
+  Detach,
+  Enter,
+  Clear,
+  Quit,
+  WaitFind,
+  ResetFind,
+  Block,
+  Ask,
+  Poll,
+  WaitPoll,
+  Close,
+  AskLast,
+  Manifest,
+  WaitManifest,
+  WaitLast,
+  Trouble,
+  Fetch,
+  LastUploaded,
+  Compare,
+  Last,
+  GiveUp,
+  Over,
+  OverUploaded,
+  Deed,
+  Send,
+  Wait,
+  Reset,
+  Done,
+  Heard,
+  Acked,
+  Status,
+  StateIs,
+  Part,
+  NoRoom,
+  Stalled,
+  Nothing,
+  Waited,
+  WasReset,
+  Restarted,
+  Left,
+}
 
 -- The phase in which the work begins once the device is in dfuIDLE.
 abbrev pub work_start : Goal → Phase
-work_start (ToLoad payload) = Block 0
-work_start ToFetch = Fetch 0 []
-work_start (ToVerify payload) = Block 0
-work_start (ToCompare payload) = Compare 0
+work_start (LoadGoal payload) = Block 0
+work_start FetchGoal = Fetch 0 []
+work_start (VerifyGoal payload) = Block 0
+work_start (CompareGoal payload) = Compare 0
 
 -- The blocks of t bytes of a session's payload; an upload has no blocks.
 abbrev pub blocks_of : Goal → ℕ → List (List ℕ)
-blocks_of (ToLoad payload) t = blocks payload t
-blocks_of ToFetch t = []
-blocks_of (ToVerify payload) t = blocks payload t
-blocks_of (ToCompare payload) t = blocks payload t
+blocks_of (LoadGoal payload) t = blocks payload t
+blocks_of FetchGoal t = []
+blocks_of (VerifyGoal payload) t = blocks payload t
+blocks_of (CompareGoal payload) t = blocks payload t
 
 -- The blocks of a session, cut by its transfer size.
-abbrev pub pieces : Task → List (List ℕ)
-pieces task = blocks_of task.goal task.transfer
+abbrev pub session_blocks : Task → List (List ℕ)
+session_blocks task = blocks_of task.goal task.transfer
 
 -- GETSTATUS asks for the whole status, which has six bytes.
 abbrev pub get_status : Deed
 get_status = Send (request.GetStatus 6) []
 
--- GETSTATE asks for the one byte of the state.
+-- GETSTATE asks for one byte, the state.
 abbrev pub get_state : Deed
 get_state = Send (request.GetState 1) []
 
@@ -41,7 +91,7 @@ get_state = Send (request.GetState 1) []
 abbrev pub download : ℕ → List ℕ → Deed
 download n body = Send (request.Dnload (n % 65536) (length body)) body
 
--- The action of each phase.
+-- The deed of each phase.
 abbrev pub deed : Task → Phase → Deed
 deed task Find = get_status
 deed task FindAgain = get_status
@@ -51,11 +101,11 @@ deed task Clear = Send request.ClrStatus []
 deed task Quit = Send request.Abort []
 deed task (WaitFind poll) = Wait poll
 deed task ResetFind = Reset
-deed task (Block n) = download n (slice_index_or (pieces task) n [])
+deed task (Block n) = download n (slice_index_or (session_blocks task) n [])
 deed task (Ask n) = get_state
 deed task (Poll n) = get_status
 deed task (WaitPoll n poll) = Wait poll
-deed task Close = download (length (pieces task)) []
+deed task Close = download (length (session_blocks task)) []
 deed task AskLast = get_state
 deed task Manifest = get_status
 deed task (WaitManifest poll) = Wait poll
@@ -69,68 +119,69 @@ deed task GiveUp = Send request.Abort []
 deed task (Over report) = Done report
 deed task (OverUploaded kept) = Done report.Uploaded
 
--- The list: what follows a status, by its state.
-abbrev pub listed : Phase → State → ℕ → Phase
-listed start state.AppIdle poll = Detach
-listed start state.AppDetach poll = Enter
-listed start state.DfuIdle poll = start
-listed start state.DownloadSync poll = WaitFind poll
-listed start state.DownloadBusy poll = WaitFind poll
-listed start state.DownloadIdle poll = Quit
-listed start state.ManifestSync poll = WaitFind poll
-listed start state.Manifest poll = WaitFind poll
-listed start state.ManifestWaitReset poll = ResetFind
-listed start state.UploadIdle poll = Quit
-listed start state.Error poll = Clear
+-- The list: the phase after a status, by its state.
+abbrev pub phase_after_status : Phase → State → ℕ → Phase
+phase_after_status start state.AppIdle poll = Detach
+phase_after_status start state.AppDetach poll = Enter
+phase_after_status start state.DfuIdle poll = start
+phase_after_status start state.DownloadSync poll = WaitFind poll
+phase_after_status start state.DownloadBusy poll = WaitFind poll
+phase_after_status start state.DownloadIdle poll = Quit
+phase_after_status start state.ManifestSync poll = WaitFind poll
+phase_after_status start state.Manifest poll = WaitFind poll
+phase_after_status start state.ManifestWaitReset poll = ResetFind
+phase_after_status start state.UploadIdle poll = Quit
+phase_after_status start state.Error poll = Clear
 
 -- Trouble: dfuERROR with a code of its own ends the session, every other status goes by the list.
-abbrev pub troubled : Phase → Code → ℕ → State → Phase
-troubled start code.Ok poll s = listed start s poll
-troubled start code.StalledPkt poll s = listed start s poll
-troubled start c poll state.Error = Over (report.Refused c)
-troubled start c poll s = listed start s poll
+abbrev pub phase_in_trouble : Phase → Code → ℕ → State → Phase
+phase_in_trouble start code.Ok poll s = phase_after_status start s poll
+phase_in_trouble start code.StalledPkt poll s = phase_after_status start s poll
+phase_in_trouble start c poll state.Error = Over (report.Refused c)
+phase_in_trouble start c poll s = phase_after_status start s poll
 
 -- Poll: the block is being written, or is written; every other state is trouble.
 abbrev pub polled_phase : Phase → (blocks n : ℕ) → Code → ℕ → State → Phase
 polled_phase start blocks n c poll state.DownloadSync = WaitPoll n poll
 polled_phase start blocks n c poll state.DownloadBusy = WaitPoll n poll
 polled_phase start blocks n c poll state.DownloadIdle = if suc n == blocks then Close else Block (suc n)
-polled_phase start blocks n c poll s = troubled start c poll s
+polled_phase start blocks n c poll s = phase_in_trouble start c poll s
 
--- Manifest: of a tolerant device only dfuIDLE with OK is an install; of another nothing confirms one. Every other status is trouble.
-abbrev pub manifested : Phase → (tolerant : Bool) → Code → ℕ → State → Phase
-manifested start true c poll state.ManifestSync = WaitManifest poll
-manifested start true c poll state.Manifest = WaitManifest poll
-manifested start true code.Ok poll state.DfuIdle = Last report.Installed
-manifested start true c poll s = troubled start c poll s
-manifested start false c poll state.ManifestSync = WaitLast poll
-manifested start false c poll state.Manifest = WaitLast poll
-manifested start false c poll state.DfuIdle = Last report.Unconfirmed
-manifested start false c poll state.ManifestWaitReset = Last report.Unconfirmed
-manifested start false c poll s = troubled start c poll s
+-- Manifest: for a tolerant device only dfuIDLE with OK is an install; for another device nothing confirms one. Every other status is
+-- trouble.
+abbrev pub manifest_phase : Phase → (tolerant : Bool) → Code → ℕ → State → Phase
+manifest_phase start true c poll state.ManifestSync = WaitManifest poll
+manifest_phase start true c poll state.Manifest = WaitManifest poll
+manifest_phase start true code.Ok poll state.DfuIdle = Last report.Installed
+manifest_phase start true c poll s = phase_in_trouble start c poll s
+manifest_phase start false c poll state.ManifestSync = WaitLast poll
+manifest_phase start false c poll state.Manifest = WaitLast poll
+manifest_phase start false c poll state.DfuIdle = Last report.Unconfirmed
+manifest_phase start false c poll state.ManifestWaitReset = Last report.Unconfirmed
+manifest_phase start false c poll s = phase_in_trouble start c poll s
 
--- Ask: whether the block whose answer was lost has come. Every other state is trouble.
+-- Ask: the answer to a block was lost, and the state says if the block came. Every other state is trouble.
 abbrev pub asked_phase : ℕ → State → Phase
 asked_phase n state.DownloadSync = Poll n
 asked_phase zero state.DfuIdle = Block zero
 asked_phase (suc n) state.DownloadIdle = Block (suc n)
 asked_phase n s = Trouble
 
--- Ask last: whether the closing request whose answer was lost has come. Every other state is trouble.
-abbrev pub asked_last : State → Phase
-asked_last state.ManifestSync = Manifest
-asked_last state.DownloadIdle = Close
-asked_last s = Trouble
+-- Ask last: the answer to the closing request was lost, and the state says if the request came. Every other state is trouble.
+abbrev pub asked_last_phase : State → Phase
+asked_last_phase state.ManifestSync = Manifest
+asked_last_phase state.DownloadIdle = Close
+asked_last_phase s = Trouble
 
 -- Fetch: a full answer, a shorter one, which is the last, or one that is too long.
-abbrev pub fetched : (t k : ℕ) (kept bytes : List ℕ) → Phase
-fetched t k kept bytes =
+abbrev pub fetched_phase : (t k : ℕ) (kept bytes : List ℕ) → Phase
+fetched_phase t k kept bytes =
     if length bytes == t then (if suc k == 65535 then Over report.TooManyBlocks else Fetch (suc k) (kept ++ bytes))
     else if nat_lt (length bytes) t then LastUploaded (kept ++ bytes)
     else Find
 
--- Compare: an answer that is the block of that number (empty if there is no such block), or another answer, or one that is too long.
--- A shorter one than a full one is the image's last.
+-- Compare: an answer equal to block k (empty past the last block), a different answer, or one that is too long. An answer that is shorter
+-- than a full one is the last of the image.
 abbrev pub compared_phase : (t k : ℕ) → (block bytes : List ℕ) → Phase
 compared_phase t k block bytes =
     if nat_lt t (length bytes) then Find
@@ -140,7 +191,7 @@ compared_phase t k block bytes =
 
 -- Phase after the last reset: the report, or, if the payload is to be compared, a new beginning.
 abbrev pub after_last : Goal → Report → Phase
-after_last (ToVerify payload) report = Find
+after_last (VerifyGoal payload) report = Find
 after_last goal report = Over report
 
 -- Phase after GETSTATUS: by the status, by a stall, or by anything else that is heard.
@@ -171,21 +222,21 @@ abbrev pub on_reset : Heard → (done again : Phase) → Phase
 on_reset WasReset done again = done
 on_reset heard done again = again
 
--- Phase after UPLOAD: by the bytes of a part, or the end, if there was no memory for them. All else that is heard goes to Find.
+-- Phase after UPLOAD: by the bytes of a part, or the end if there was no memory for them. Anything else that is heard leads to Find.
 abbrev pub on_part : (t k : ℕ) (kept : List ℕ) → Heard → Phase
-on_part t k kept (Part bytes) = fetched t k kept bytes
+on_part t k kept (Part bytes) = fetched_phase t k kept bytes
 on_part t k kept NoRoom = Over report.NoMemory
 on_part t k kept heard = Find
 
--- Phase after UPLOAD when the image is compared: by the bytes. All else that is heard goes to Find.
+-- Phase after UPLOAD when the image is compared: by the bytes. Anything else that is heard leads to Find.
 abbrev pub on_compared : (t k : ℕ) → (block : List ℕ) → Heard → Phase
 on_compared t k block (Part bytes) = compared_phase t k block bytes
 on_compared t k block heard = Find
 
--- The table: the phase that follows, without a restart of the device, one that left of itself, and the budget.
+-- The table: the phase after a result that is no restart and no device that left of itself, before the budget.
 abbrev pub host_row : Task → Phase → Heard → Phase
-host_row task Find heard = on_status heard (λ c poll s. listed (work_start task.goal) s poll) FindAgain Find
-host_row task FindAgain heard = on_status heard (λ c poll s. listed (work_start task.goal) s poll) ResetFind FindAgain
+host_row task Find heard = on_status heard (λ c poll s. phase_after_status (work_start task.goal) s poll) FindAgain Find
+host_row task FindAgain heard = on_status heard (λ c poll s. phase_after_status (work_start task.goal) s poll) ResetFind FindAgain
 host_row task Detach heard = on_ack heard Enter Find Find
 host_row task Enter heard = if task.will_detach then on_waited heard Find Enter else on_reset heard Find Enter
 host_row task Clear heard = Find
@@ -194,32 +245,32 @@ host_row task (WaitFind poll) heard = on_waited heard Find (WaitFind poll)
 host_row task ResetFind heard = on_reset heard Find ResetFind
 host_row task (Block n) heard = on_ack heard (Poll n) Trouble (Ask n)
 host_row task (Ask n) heard = on_state heard (asked_phase n) Trouble (Ask n)
-host_row task (Poll n) heard = on_status heard (polled_phase (work_start task.goal) (length (pieces task)) n) Trouble (Poll n)
+host_row task (Poll n) heard = on_status heard (polled_phase (work_start task.goal) (length (session_blocks task)) n) Trouble (Poll n)
 host_row task (WaitPoll n poll) heard = on_waited heard (Poll n) (WaitPoll n poll)
 host_row task Close heard = on_ack heard Manifest Trouble AskLast
-host_row task AskLast heard = on_state heard asked_last Trouble AskLast
-host_row task Manifest heard = on_status heard (manifested (work_start task.goal) task.tolerant) Trouble Manifest
+host_row task AskLast heard = on_state heard asked_last_phase Trouble AskLast
+host_row task Manifest heard = on_status heard (manifest_phase (work_start task.goal) task.tolerant) Trouble Manifest
 host_row task (WaitManifest poll) heard = on_waited heard Manifest (WaitManifest poll)
 host_row task (WaitLast poll) heard = on_waited heard (Last report.Unconfirmed) (WaitLast poll)
-host_row task Trouble heard = on_status heard (troubled (work_start task.goal)) FindAgain Trouble
+host_row task Trouble heard = on_status heard (phase_in_trouble (work_start task.goal)) FindAgain Trouble
 host_row task (Fetch k kept) heard = on_part task.transfer k kept heard
 host_row task (LastUploaded kept) heard = on_reset heard (OverUploaded kept) (LastUploaded kept)
-host_row task (Compare k) heard = on_compared task.transfer k (slice_index_or (pieces task) k []) heard
+host_row task (Compare k) heard = on_compared task.transfer k (slice_index_or (session_blocks task) k []) heard
 host_row task (Last report) heard = on_reset heard (after_last task.goal report) (Last report)
 host_row task GiveUp heard = Over report.Aborted
 host_row task (Over report) heard = Over report
 host_row task (OverUploaded kept) heard = OverUploaded kept
 
--- The goal of a session whose last reset was done: what was to be verified is compared from then on.
+-- The goal after the last reset: a payload that was to be verified is compared from then on.
 abbrev pub goal_after_reset : Goal → Goal
-goal_after_reset (ToVerify payload) = ToCompare payload
+goal_after_reset (VerifyGoal payload) = CompareGoal payload
 goal_after_reset goal = goal
 
--- The goal that follows, beside the phase: it changes only after the last reset.
+-- The goal after a phase: it changes only after the last reset.
 abbrev pub goal_after : Goal → Phase → Heard → Goal
 goal_after goal (Last report) WasReset = goal_after_reset goal
 goal_after goal phase heard = goal
 
--- The task that follows, beside the phase: only the goal changes.
+-- The task after a phase: only its goal may change.
 abbrev pub task_after : Task → Phase → Heard → Task
 task_after task phase heard = record task { goal = goal_after task.goal phase heard }

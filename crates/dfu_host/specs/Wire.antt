@@ -1,4 +1,4 @@
--- Host's table over the wire: its actions as setups, and what is seen as what is understood.
+-- The host's table over the wire: actions as setups, and results as meanings.
 use Rattle.std.specs.Prelude.{◌≡◌, ◌≢◌, ◌⊎◌, ℕ, suc, ◌<◌, ◌==◌, nat_lt, ◌&&◌, ◌||◌, not, Bool, IsTrue, List, [], ◌∷◌, length}
 use Rattle.dfu_wire.specs.declared.setups.Setup.{Setup}
 use Rattle.dfu_wire.specs.declared.states.State.{State}
@@ -14,58 +14,58 @@ use Rattle.dfu_host.specs.declared.seen.Seen.{Seen}
 use Rattle.dfu_host.specs.declared.seen.Seen.TheVariants as seen
 use Rattle.dfu_host.specs.Phases.{Deed, Send, Wait, Reset, Done, Heard, Acked, Status, StateIs, Part, NoRoom, Stalled, Nothing, Waited, WasReset, Restarted, Left}
 
--- The eight bytes are a setup that asks for this request. A field without a meaning is 0.
+-- The eight bytes are a setup that asks for the request. Its fields without a meaning are 0.
 pub record IsSetupOf (q : Request) (bytes : List ℕ) : Type 0 where
   pub setup : Setup
   pub fields : IsSetup setup bytes
   pub asks : SetupRequest setup q
   pub plain : IsPlain setup q
 
--- An action as the caller gets it: a request is the bytes of its setup, with its body. No other pair spells.
-abbrev pub Spells : Deed → Action → Type 0
-Spells (Send q body) (action.Send setup given) = IsSetupOf q setup × (given.now ≡ body)
-Spells (Wait ms) (action.Wait given) = given ≡ ms
-Spells Reset action.Reset = Unit {0}
-Spells (Done report) (action.Done given) = given ≡ report
-Spells deed given = ⊥
+-- The action spells the deed: a request goes as the bytes of its setup, with its body.
+abbrev pub SpellsDeed : Deed → Action → Type 0
+SpellsDeed (Send q body) (action.Send setup given) = IsSetupOf q setup × (given.now ≡ body)
+SpellsDeed (Wait ms) (action.Wait given) = given ≡ ms
+SpellsDeed Reset action.Reset = Unit {0}
+SpellsDeed (Done report) (action.Done given) = given ≡ report
+SpellsDeed deed given = ⊥
 
--- Bytes that answer GETSTATUS are the status that they spell; if they spell none, it is as if nothing came.
+-- Bytes that answer GETSTATUS mean the status that they spell, or nothing if they spell none.
 abbrev pub ReadsStatus : List ℕ → Heard → Type 0
 ReadsStatus bytes (Status code poll state) = IsStatus (record { code = code; poll_ms = poll; state = state }) bytes
 ReadsStatus bytes Nothing = (s : StatusFields) → IsStatus s bytes → ⊥
 ReadsStatus bytes heard = ⊥
 
--- Bytes that answer GETSTATE are the state whose number is their one byte; else it is as if nothing came.
+-- Bytes that answer GETSTATE mean the state whose number is their one byte, or nothing.
 abbrev pub ReadsState : List ℕ → Heard → Type 0
 ReadsState bytes (StateIs state) = bytes ≡ state_byte state ∷ []
 ReadsState bytes Nothing = (state : State) → bytes ≢ state_byte state ∷ []
 ReadsState bytes heard = ⊥
 
--- Part k of an upload is kept if it is shorter than a block, which makes it the last, or if it is full, except the full one that is one
--- too many.
-abbrev pub is_kept : (t k length : ℕ) → Bool
-is_kept t k length = nat_lt length t || ((length == t) && not (suc k == 65535))
+-- Part k of an upload is kept if it is shorter than a block, and so the last, or if it is full. Not kept is the full part that is one too
+-- many.
+abbrev pub is_part_kept : (t k length : ℕ) → Bool
+is_part_kept t k length = nat_lt length t || ((length == t) && not (suc k == 65535))
 
--- A part needs memory that is kept, and has a byte.
+-- A part needs memory: it is kept, and has at least one byte.
 pub record NeedsRoom (t k length : ℕ) : Type 0 where
-  pub kept : IsTrue (is_kept t k length)
+  pub kept : IsTrue (is_part_kept t k length)
   pub some : 0 < length
 
--- Bytes that answer a request: to UPLOAD they are a part, or, if that part needs memory, there may have been none for it. Every other
--- request has no answer of bytes, and it is as if nothing came. The number in an UPLOAD is that of the part, since only the parts 0 to
--- 65,534 are asked for.
+-- Meaning of bytes that answer a request. To UPLOAD they are a part, or there was no memory for it if the part needs some. Any other
+-- request has no answer of bytes, so they mean nothing. The number in an UPLOAD is that of the part, because only the parts 0 to 65,534 are
+-- asked for.
 abbrev pub ReadsAnswer : Request → List ℕ → Heard → Type 0
 ReadsAnswer (request.GetStatus len) bytes heard = ReadsStatus bytes heard
 ReadsAnswer (request.GetState len) bytes heard = ReadsState bytes heard
 ReadsAnswer (request.Upload block len) bytes heard = (heard ≡ Part bytes) ⊎ ((heard ≡ NoRoom) × NeedsRoom len block (length bytes))
 ReadsAnswer q bytes heard = heard ≡ Nothing
 
--- Bytes that come of an action: if the action is not a request, it is as if nothing came.
+-- Meaning of bytes that come of an action: none, if the action is not a request.
 abbrev pub BytesMeaning : Deed → List ℕ → Heard → Type 0
 BytesMeaning (Send q body) bytes heard = ReadsAnswer q bytes heard
 BytesMeaning deed bytes heard = heard ≡ Nothing
 
--- The result of an action, as it is understood. The table decides whether it fits the action.
+-- Meaning of an action's result. The table decides if that meaning fits the action.
 abbrev pub SeenMeaning : Deed → Seen → Heard → Type 0
 SeenMeaning deed (seen.Bytes bytes) heard = BytesMeaning deed bytes.now heard
 SeenMeaning deed seen.Ack heard = heard ≡ Acked

@@ -1,4 +1,4 @@
--- Definitions that only this crate's own functions cite: what the values of the code mean, and what becomes of a part in memory.
+-- Definitions that only this crate's own functions cite: the meaning of the code's values, and the parts of an upload in memory.
 pub mod View
 pub mod Comparing
 pub mod PartMemory

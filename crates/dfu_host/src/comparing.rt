@@ -2,11 +2,11 @@
 
 ghost use Rattle.std.specs.Prelude.{◌≡◌, ◌<◌, List, [], ℕ, length, slice_index_or};
 ghost use Rattle.std.specs.Str.{bytes_eq};
-ghost use Rattle.dfu_host.specs.inside.Comparing.{Compares, IsCompared};
+ghost use Rattle.dfu_host.specs.inside.Comparing.{ComparedMeaning, IsCompared};
 ghost use Rattle.dfu_host.specs.Table as table;
-ghost use Rattle.dfu_host.specs.Table.{pieces};
-ghost use Rattle.dfu_host.specs.InParts.{IsWithin, phase_of};
-ghost use Rattle.dfu_host.specs.inside.View.{heard_of, task_of};
+ghost use Rattle.dfu_host.specs.Table.{session_blocks};
+ghost use Rattle.dfu_host.specs.InParts.{HasPhaseNeeds, phase_of};
+ghost use Rattle.dfu_host.specs.inside.View.{meaning_of_heard, task_of_session};
 
 use crate::fetching::MOST_PARTS;
 use crate::heard::Heard;
@@ -15,11 +15,11 @@ use crate::report::Report;
 use crate::task::Task;
 
 impl Task<'_> {
-    /// Compares a part of the image with the block of its number.
+    /// Compares `part` of the image with block number `number`.
     pub(crate) fn compare(&self, number: u16, part: &[u8]) -> Heard
-        requires { IsWithin self.now.goal self.now.transfer (Phase.Compare number) }
+        requires { HasPhaseNeeds self.now.goal self.now.transfer (Phase.Compare number) }
         ensures hears { result
-            ≡ Heard.Compared (bytes_eq part.now (slice_index_or (pieces (task_of self.now)) number [])) (length part.now) }
+            ≡ Heard.Compared (bytes_eq part.now (slice_index_or (session_blocks (task_of_session self.now)) number [])) (length part.now) }
     {
         Heard::Compared {
             same: part == self.block(number as usize),
@@ -27,12 +27,12 @@ impl Task<'_> {
         }
     }
 
-    /// UPLOAD of a part, which is compared by now.
+    /// Returns the phase after UPLOAD of part number `number`, which is compared already, as `heard` says.
     pub(crate) fn after_compare(&self, number: u16, heard: Heard) -> Phase
-        requires { IsWithin self.now.goal self.now.transfer (Phase.Compare number) }
-        ensures next { (memory part : List ℕ) → Compares (task_of self.now) (Phase.Compare number) part heard
-            → phase_of memory result ≡ table.host_row (task_of self.now) (table.Compare number) (heard_of part heard) }
-        ensures within { IsWithin self.now.goal self.now.transfer result }
+        requires { HasPhaseNeeds self.now.goal self.now.transfer (Phase.Compare number) }
+        ensures next { (memory part : List ℕ) → ComparedMeaning (task_of_session self.now) (Phase.Compare number) part heard
+            → phase_of memory result ≡ table.host_row (task_of_session self.now) (table.Compare number) (meaning_of_heard part heard) }
+        ensures within { HasPhaseNeeds self.now.goal self.now.transfer result }
     {
         match heard {
             Heard::Compared { same, len } => self.compared(number, same, len),
@@ -40,14 +40,14 @@ impl Task<'_> {
         }
     }
 
-    /// Returns the phase after a part of this many bytes, by whether it is the payload's.
+    /// Returns the phase after a part of `len` bytes; `same` says that they are the payload's.
     fn compared(&self, number: u16, same: bool, len: usize) -> Phase
         requires { number < 65535 }
         ensures next { (memory part : List ℕ)
-            → IsCompared (task_of self.now) number part same len
+            → IsCompared (task_of_session self.now) number part same len
             → phase_of memory result ≡ table.compared_phase self.now.transfer number
-            (slice_index_or (pieces (task_of self.now)) number []) part }
-        ensures within { IsWithin self.now.goal self.now.transfer result }
+            (slice_index_or (session_blocks (task_of_session self.now)) number []) part }
+        ensures within { HasPhaseNeeds self.now.goal self.now.transfer result }
     {
         let transfer = self.transfer as usize;
         if len > transfer {

@@ -1,11 +1,11 @@
-//! The rows of the phases that follow the last block, and of the one that follows a refusal.
+//! The rows of the phases after the last block, and of the phase after a refusal.
 
 ghost use Rattle.std.specs.Prelude.{◌≡◌, true, false, List, ℕ};
 ghost use Rattle.dfu_host.specs.BehindClose.{is_behind_close};
 ghost use Rattle.dfu_host.specs.Goals.{goal_of};
 ghost use Rattle.dfu_host.specs.Table as table;
-ghost use Rattle.dfu_host.specs.InParts.{IsWithin, phase_of};
-ghost use Rattle.dfu_host.specs.inside.View.{heard_of, task_of};
+ghost use Rattle.dfu_host.specs.InParts.{HasPhaseNeeds, phase_of};
+ghost use Rattle.dfu_host.specs.inside.View.{meaning_of_heard, task_of_session};
 
 use crate::goal::Goal;
 use crate::heard::Heard;
@@ -15,12 +15,13 @@ use crate::task::Task;
 use dfu_wire::{Code, State, Status};
 
 impl Task<'_> {
-    /// Returns the phase after the status that follows a refusal: dfuERROR with a code of its own ends the session, and every other status
+    /// Returns the phase after `status`, which follows a refusal: dfuERROR with a code of its own ends the session, and every other status
     /// goes by the list.
     pub(crate) fn troubled(&self, status: Status) -> Phase
         ensures next { (memory : List ℕ)
-            → phase_of memory result ≡ table.troubled (table.work_start (goal_of self.now.goal)) status.code status.poll_ms status.state }
-        ensures within { IsWithin self.now.goal self.now.transfer result }
+            → phase_of memory result ≡ table.phase_in_trouble
+            (table.work_start (goal_of self.now.goal)) status.code status.poll_ms status.state }
+        ensures within { HasPhaseNeeds self.now.goal self.now.transfer result }
     {
         match status.state() {
             State::Error => match status.code() {
@@ -31,7 +32,7 @@ impl Task<'_> {
         }
     }
 
-    /// Returns whether the close precedes this phase of a session.
+    /// Returns true if `phase` is after the close.
     pub(crate) fn is_behind_close(&self, phase: Phase) -> bool
         ensures { (memory : List ℕ) → result ≡ is_behind_close (goal_of self.now.goal) (phase_of memory phase) }
     {
@@ -42,11 +43,11 @@ impl Task<'_> {
         }
     }
 
-    /// The last reset, and then the report, or the comparison.
+    /// Returns the phase after the last reset: the report, or the comparison.
     pub(crate) fn after_last(&self, report: Report, heard: Heard) -> Phase
         ensures next { (memory part : List ℕ)
-            → phase_of memory result ≡ table.host_row (task_of self.now) (table.Last report) (heard_of part heard) }
-        ensures within { IsWithin self.now.goal self.now.transfer result }
+            → phase_of memory result ≡ table.host_row (task_of_session self.now) (table.Last report) (meaning_of_heard part heard) }
+        ensures within { HasPhaseNeeds self.now.goal self.now.transfer result }
     {
         match heard {
             Heard::WasReset => match &self.goal {
@@ -57,12 +58,12 @@ impl Task<'_> {
         }
     }
 
-    /// Returns the phase after the status that was asked for after the close.
+    /// Returns the phase after `status`, which was asked for after the close.
     pub(crate) fn manifested(&self, status: Status) -> Phase
         ensures next { (memory : List ℕ)
             → phase_of memory result
-            ≡ table.manifested (table.work_start (goal_of self.now.goal)) self.now.tolerant status.code status.poll_ms status.state }
-        ensures within { IsWithin self.now.goal self.now.transfer result }
+            ≡ table.manifest_phase (table.work_start (goal_of self.now.goal)) self.now.tolerant status.code status.poll_ms status.state }
+        ensures within { HasPhaseNeeds self.now.goal self.now.transfer result }
     {
         if self.tolerant {
             self.confirmed(status)
@@ -71,12 +72,12 @@ impl Task<'_> {
         }
     }
 
-    /// Returns the phase by which a tolerant device's status confirms the new image: only dfuIDLE with OK is an install.
+    /// Returns the phase by which `status` of a tolerant device confirms the new image: only dfuIDLE with OK is an install.
     fn confirmed(&self, status: Status) -> Phase
         ensures next { (memory : List ℕ)
             → phase_of memory result
-            ≡ table.manifested (table.work_start (goal_of self.now.goal)) true status.code status.poll_ms status.state }
-        ensures within { IsWithin self.now.goal self.now.transfer result }
+            ≡ table.manifest_phase (table.work_start (goal_of self.now.goal)) true status.code status.poll_ms status.state }
+        ensures within { HasPhaseNeeds self.now.goal self.now.transfer result }
     {
         match (status.state(), status.code()) {
             (State::ManifestSync | State::Manifest, _) => Phase::WaitManifest(status.poll_ms()),
@@ -85,12 +86,12 @@ impl Task<'_> {
         }
     }
 
-    /// Returns the phase after the status of a device that isn't tolerant, which never confirms an install.
+    /// Returns the phase after `status` of a device that isn't tolerant, which never confirms an install.
     fn unconfirmed(&self, status: Status) -> Phase
         ensures next { (memory : List ℕ)
             → phase_of memory result
-            ≡ table.manifested (table.work_start (goal_of self.now.goal)) false status.code status.poll_ms status.state }
-        ensures within { IsWithin self.now.goal self.now.transfer result }
+            ≡ table.manifest_phase (table.work_start (goal_of self.now.goal)) false status.code status.poll_ms status.state }
+        ensures within { HasPhaseNeeds self.now.goal self.now.transfer result }
     {
         match status.state() {
             State::ManifestSync | State::Manifest => Phase::WaitLast(status.poll_ms()),

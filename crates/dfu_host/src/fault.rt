@@ -6,7 +6,7 @@ ghost use Rattle.dfu_host.specs.FaultName.{host_fault_name};
 use std::fmt;
 use thiserror::Error;
 
-/// Faults for which a session does not begin. A call returns the first that holds, in this order.
+/// A fault for which a session does not begin. A call returns the first that holds, in this order.
 #[derive(Clone, Copy, Debug, Error)]
 pub enum HostFault {
     /// The file's payload has no bytes. Only for downloads.
@@ -35,7 +35,7 @@ impl fmt::Display for HostFault {
 }
 
 impl HostFault {
-    /// The name of the fault, which is its variant's, as `EmptyPayload`.
+    /// Returns the name of the fault, which is its variant's, such as `EmptyPayload`.
     pub fn name(self) -> &'static str
         ensures { result.now ≡ host_fault_name self }
     {

@@ -3,12 +3,12 @@
 ghost use Rattle.std.specs.Prelude.{◌≡◌, ◌⊎◌, ◌+◌, ◌<◌, nat_lt, Bool, true, false, if◌then◌else◌, IfSome, None, List, ℕ, length, take};
 ghost use Rattle.dfu_host.specs.inside.PartMemory.{Joined, MemoryAfter, PartMemory, RefusedRoom};
 ghost use Rattle.dfu_host.specs.Table as table;
-ghost use Rattle.dfu_host.specs.UploadBuffer.{PartBuffered, Stored};
-ghost use Rattle.dfu_host.specs.InParts.{IsWithin, buffered_at, phase_of};
-ghost use Rattle.dfu_host.specs.Rooms.{overflows};
-ghost use Rattle.dfu_host.specs.Storing.{IsAsBefore, IsStored, StoresPart};
-ghost use Rattle.dfu_host.specs.inside.View.{heard_of, task_of};
-ghost use Rattle.dfu_host.specs.Wire.{is_kept};
+ghost use Rattle.dfu_host.specs.UploadBuffer.{PartBuffered, PartOutcome};
+ghost use Rattle.dfu_host.specs.InParts.{HasPhaseNeeds, buffered_at, phase_of};
+ghost use Rattle.dfu_host.specs.Rooms.{part_overflows};
+ghost use Rattle.dfu_host.specs.Storing.{RoomIsUnchanged, PartIsStored, StoresPart};
+ghost use Rattle.dfu_host.specs.inside.View.{meaning_of_heard, task_of_session};
+ghost use Rattle.dfu_host.specs.Wire.{is_part_kept};
 
 use crate::heard::Heard;
 use crate::part::UploadPart;
@@ -16,14 +16,14 @@ use crate::phase::Phase;
 use crate::report::Report;
 use crate::task::Task;
 
-/// After so many full parts an upload ends without its image, and a comparison without its verdict.
-/// The limit is this project's own.
+/// After this many full parts an upload ends without its image, and a comparison without its verdict. The
+/// limit is this project's own.
 pub(crate) const MOST_PARTS: u16 = 65_535;
 
 impl Task<'_> {
-    /// Returns the meaning of a part of the image: the part, or, if the caller refused it and it needs room, that there was no room.
+    /// Returns the meaning of a part of the image: the part, or NoRoom if the caller refused it and it needs room.
     pub(crate) fn received(&self, number: u16, part: &[u8], refused: bool) -> Heard
-        requires { IsWithin self.now.goal self.now.transfer (Phase.Fetch number) }
+        requires { HasPhaseNeeds self.now.goal self.now.transfer (Phase.Fetch number) }
         ensures heard { (result ≡ Heard.Part (length part.now)) ⊎ (result ≡ Heard.NoRoom) }
         ensures keeps { (memory memory' : List ℕ) → PartBuffered self.now.transfer number part.now refused memory memory'
             → PartMemory self.now.transfer number memory part.now result memory' }
@@ -38,21 +38,21 @@ impl Task<'_> {
         }
     }
 
-    /// The part that is to be kept of the bytes that answer an UPLOAD.
+    /// Returns the part to keep of `bytes`, which answer the UPLOAD of part number `number`; None if there is none.
     pub(crate) fn part_in<'s>(&self, number: u16, bytes: &'s [u8]) -> Option<UploadPart<'s>>
         requires { number < 65535 }
         ensures some { IfSome result (λ part. (refused : Bool) (memory memory' : List ℕ)
-            → Stored part.number part.bytes.now refused memory memory'
+            → PartOutcome part.number part.bytes.now refused memory memory'
             → PartBuffered self.now.transfer number bytes.now refused memory memory') }
         ensures none { result ≡ None → (memory : List ℕ) → PartBuffered self.now.transfer number bytes.now false memory memory }
         ensures some_refused { IfSome result (λ part. (refused : Bool) (memory : List ℕ) (room : ℕ)
             → refused ≡ nat_lt room (length (buffered_at part.number memory) + length part.bytes.now)
-            → refused ≡ overflows room self.now.transfer number (buffered_at number memory) bytes.now) }
+            → refused ≡ part_overflows room self.now.transfer number (buffered_at number memory) bytes.now) }
         ensures none_refused { result ≡ None → (memory : List ℕ) (room : ℕ)
-            → false ≡ overflows room self.now.transfer number (buffered_at number memory) bytes.now }
+            → false ≡ part_overflows room self.now.transfer number (buffered_at number memory) bytes.now }
         ensures some_stored { IfSome result (λ part. (count : ℕ) (room : List ℕ) (count' : ℕ) (room' : List ℕ)
             → false ≡ nat_lt (length room) (length (buffered_at part.number (take count room)) + length part.bytes.now)
-            → IsStored (buffered_at part.number (take count room)) part.bytes.now room count' room'
+            → PartIsStored (buffered_at part.number (take count room)) part.bytes.now room count' room'
             → StoresPart self.now.transfer number bytes.now count room count' room') }
         ensures some_full { IfSome result (λ part. (count : ℕ) (room : List ℕ)
             → true ≡ nat_lt (length room) (length (buffered_at part.number (take count room)) + length part.bytes.now)
@@ -67,24 +67,24 @@ impl Task<'_> {
         }
     }
 
-    /// Returns whether a part of this many bytes is kept: one that is shorter than a block, which is the last, or a full one, except the
-    /// full one that is one too many.
+    /// Returns whether part `number` with `len` bytes is kept: a part that is shorter than a block, and so the last, or a full one,
+    /// except the full one that is one too many.
     fn is_kept(&self, number: u16, len: usize) -> bool
         requires { number < 65535 }
-        ensures { result ≡ is_kept self.now.transfer number len }
+        ensures { result ≡ is_part_kept self.now.transfer number len }
     {
         let transfer = self.transfer as usize;
         len < transfer || len == transfer && number + 1 != MOST_PARTS
     }
 
-    /// UPLOAD of a part, which is kept by now.
+    /// Returns the phase after UPLOAD of part number `number`, which is kept already, as `heard` says.
     pub(crate) fn after_fetch(&self, number: u16, heard: Heard) -> Phase
-        requires { IsWithin self.now.goal self.now.transfer (Phase.Fetch number) }
+        requires { HasPhaseNeeds self.now.goal self.now.transfer (Phase.Fetch number) }
         ensures next { (memory memory' part : List ℕ)
             → MemoryAfter self.now.transfer memory (Phase.Fetch number) part heard memory'
             → phase_of memory' result
-            ≡ table.host_row (task_of self.now) (table.Fetch number (buffered_at number memory)) (heard_of part heard) }
-        ensures within { IsWithin self.now.goal self.now.transfer result }
+            ≡ table.host_row (task_of_session self.now) (table.Fetch number (buffered_at number memory)) (meaning_of_heard part heard) }
+        ensures within { HasPhaseNeeds self.now.goal self.now.transfer result }
     {
         match heard {
             Heard::Part(len) => self.fetched(number, len),
@@ -93,13 +93,13 @@ impl Task<'_> {
         }
     }
 
-    /// Returns the phase after a part of this many bytes.
+    /// Returns the phase after part `number` of `len` bytes.
     fn fetched(&self, number: u16, len: usize) -> Phase
-        requires { IsWithin self.now.goal self.now.transfer (Phase.Fetch number) }
+        requires { HasPhaseNeeds self.now.goal self.now.transfer (Phase.Fetch number) }
         ensures next { (memory memory' part : List ℕ)
             → Joined self.now.transfer number memory part len memory'
-            → phase_of memory' result ≡ table.fetched self.now.transfer number (buffered_at number memory) part }
-        ensures within { IsWithin self.now.goal self.now.transfer result }
+            → phase_of memory' result ≡ table.fetched_phase self.now.transfer number (buffered_at number memory) part }
+        ensures within { HasPhaseNeeds self.now.goal self.now.transfer result }
     {
         let transfer = self.transfer as usize;
         if len < transfer {
@@ -113,11 +113,11 @@ impl Task<'_> {
         }
     }
 
-    /// The last reset, with all parts kept.
+    /// Returns the phase after the last reset, with all parts kept.
     pub(crate) fn after_last_uploaded(&self, heard: Heard) -> Phase
         ensures next { (memory part : List ℕ)
-            → phase_of memory result ≡ table.host_row (task_of self.now) (table.LastUploaded memory) (heard_of part heard) }
-        ensures within { IsWithin self.now.goal self.now.transfer result }
+            → phase_of memory result ≡ table.host_row (task_of_session self.now) (table.LastUploaded memory) (meaning_of_heard part heard) }
+        ensures within { HasPhaseNeeds self.now.goal self.now.transfer result }
     {
         match heard {
             Heard::WasReset => Phase::OverUploaded,

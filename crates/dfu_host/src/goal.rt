@@ -1,10 +1,10 @@
 //! Goals of a session.
 
 ghost use Rattle.std.specs.Prelude.{◌≡◌, IsTrue, false};
-ghost use Rattle.dfu_host.specs.BehindClose.{installs};
+ghost use Rattle.dfu_host.specs.BehindClose.{goal_installs};
 ghost use Rattle.dfu_host.specs.Goals.{IsFetch, goal_of, payload_of};
 
-/// Goal of a session. It takes no memory: the caller keeps what an upload fetches.
+/// Goal of a session. A goal takes no memory, because the caller keeps what an upload fetches.
 #[derive(Clone, Copy)]
 pub enum Goal<'f> {
     /// To install a payload, which has at least one byte.
@@ -18,7 +18,7 @@ pub enum Goal<'f> {
 }
 
 impl<'f> Goal<'f> {
-    /// The payload that is sent or compared; empty for an upload.
+    /// Returns the payload that is sent or compared; empty for an upload.
     pub(crate) fn payload(&self) -> &'f [u8]
         ensures { result.now ≡ payload_of self.now }
     {
@@ -30,7 +30,7 @@ impl<'f> Goal<'f> {
 
     /// Returns whether a payload is still to be installed.
     pub(crate) fn installs(&self) -> bool
-        ensures { result ≡ installs (goal_of self.now) }
+        ensures { result ≡ goal_installs (goal_of self.now) }
     {
         match self {
             Goal::Load(_) | Goal::Verify(_) => true,

@@ -1,13 +1,13 @@
-//! Meaning that a host gives to what it sees.
+//! Meaning of results for a host.
 
 ghost use Rattle.std.specs.Prelude.{◌≡◌, List, ℕ, length};
-ghost use Rattle.dfu_host.specs.inside.Comparing.{Compares};
+ghost use Rattle.dfu_host.specs.inside.Comparing.{ComparedMeaning};
 ghost use Rattle.dfu_host.specs.inside.PartMemory.{MemoryAfter, RefusedRoom};
 ghost use Rattle.dfu_host.specs.inside.Refusing.{SeenMeaningIn, BytesMeaningIn};
 ghost use Rattle.dfu_host.specs.Table.{deed};
 ghost use Rattle.dfu_host.specs.UploadBuffer.{PartsBuffered, BytesBuffered};
-ghost use Rattle.dfu_host.specs.InParts.{IsWithin, phase_of};
-ghost use Rattle.dfu_host.specs.inside.View.{heard_of, part_of, task_of};
+ghost use Rattle.dfu_host.specs.InParts.{HasPhaseNeeds, phase_of};
+ghost use Rattle.dfu_host.specs.inside.View.{meaning_of_heard, part_of, task_of_session};
 ghost use Rattle.dfu_host.specs.Wire.{SeenMeaning, BytesMeaning, ReadsStatus, ReadsState};
 ghost use Rattle.dfu_host.specs.declared.phase.Phase.{Phase};
 ghost use Rattle.dfu_host.specs.declared.task.Task.{Task};
@@ -23,9 +23,10 @@ pub(crate) enum Heard {
     Acked,
     Told(Status),
     StateIs(State),
-    /// A part of an upload, of this many bytes. It is kept by now.
+    /// A part of an upload, with its length in bytes; it is kept already.
     Part(usize),
-    /// A part of an image that is compared: whether it is the payload's, and how many bytes it has.
+    /// A part of an image that is compared: `same` says that it is the payload's, `len` is its length in
+    /// bytes.
     Compared { same: bool, len: usize },
     /// A part of an upload for which there was no memory.
     NoRoom,
@@ -38,15 +39,15 @@ pub(crate) enum Heard {
 }
 
 impl Task<'_> {
-    /// Returns the meaning of what the host sees in a phase. Bytes are read as the answer to the phase's request; if they are not an
-    /// answer, it is as if nothing came. A part of an upload is kept or refused by now; one of a comparison is compared.
+    /// Returns the meaning of `seen` in `phase`. Bytes are read as the answer to the phase's request; bytes that are no such answer mean
+    /// that nothing came. A part of an upload is kept already, or `refused`, and a part of a comparison is compared here.
     pub(crate) fn hear(&self, phase: Phase, seen: Seen<'_>, refused: bool) -> Heard
-        requires { IsWithin self.now.goal self.now.transfer phase }
-        ensures hears { (memory : List ℕ) → SeenMeaning (deed (task_of self.now) (phase_of memory phase)) seen.entry
-            (heard_of (part_of seen.entry) result) }
+        requires { HasPhaseNeeds self.now.goal self.now.transfer phase }
+        ensures hears { (memory : List ℕ) → SeenMeaning (deed (task_of_session self.now) (phase_of memory phase)) seen.entry
+            (meaning_of_heard (part_of seen.entry) result) }
         ensures keeps { (memory memory' : List ℕ) → PartsBuffered self.now.transfer phase seen.entry refused memory memory'
             → MemoryAfter self.now.transfer memory phase (part_of seen.entry) result memory' }
-        ensures compares { Compares (task_of self.now) phase (part_of seen.entry) result }
+        ensures compares { ComparedMeaning (task_of_session self.now) phase (part_of seen.entry) result }
         ensures room { RefusedRoom self.now phase (part_of seen.entry) result }
         ensures by { (memory memory' : List ℕ) → PartsBuffered self.now.transfer phase seen.entry refused memory memory'
             → SeenMeaningIn phase seen.entry refused result }
@@ -63,14 +64,14 @@ impl Task<'_> {
         }
     }
 
-    /// Returns the meaning of bytes that come in a phase.
+    /// Returns the meaning of `bytes` in `phase`.
     fn answered(&self, phase: Phase, bytes: &[u8], refused: bool) -> Heard
-        requires { IsWithin self.now.goal self.now.transfer phase }
-        ensures hears { (memory : List ℕ) → BytesMeaning (deed (task_of self.now) (phase_of memory phase)) bytes.now
-            (heard_of bytes.now result) }
+        requires { HasPhaseNeeds self.now.goal self.now.transfer phase }
+        ensures hears { (memory : List ℕ) → BytesMeaning (deed (task_of_session self.now) (phase_of memory phase)) bytes.now
+            (meaning_of_heard bytes.now result) }
         ensures keeps { (memory memory' : List ℕ) → BytesBuffered self.now.transfer phase bytes.now refused memory memory'
             → MemoryAfter self.now.transfer memory phase bytes.now result memory' }
-        ensures compares { Compares (task_of self.now) phase bytes.now result }
+        ensures compares { ComparedMeaning (task_of_session self.now) phase bytes.now result }
         ensures room { RefusedRoom self.now phase bytes.now result }
         ensures by { (memory memory' : List ℕ) → BytesBuffered self.now.transfer phase bytes.now refused memory memory'
             → BytesMeaningIn phase (length bytes.now) refused result }
@@ -87,9 +88,9 @@ impl Task<'_> {
     }
 }
 
-/// The answer to GETSTATUS.
+/// Returns the meaning of `bytes` as an answer to GETSTATUS.
 fn status_in(bytes: &[u8]) -> Heard
-    ensures reads { (part : List ℕ) → ReadsStatus bytes.now (heard_of part result) }
+    ensures reads { (part : List ℕ) → ReadsStatus bytes.now (meaning_of_heard part result) }
     ensures room { (task : Task) (phase : Phase) (part : List ℕ) → RefusedRoom task phase part result }
 {
     match Status::decode(bytes) {
@@ -98,9 +99,9 @@ fn status_in(bytes: &[u8]) -> Heard
     }
 }
 
-/// The answer to GETSTATE, one byte.
+/// Returns the meaning of `bytes` as an answer to GETSTATE, one byte.
 fn state_in(bytes: &[u8]) -> Heard
-    ensures reads { (part : List ℕ) → ReadsState bytes.now (heard_of part result) }
+    ensures reads { (part : List ℕ) → ReadsState bytes.now (meaning_of_heard part result) }
     ensures room { (task : Task) (phase : Phase) (part : List ℕ) → RefusedRoom task phase part result }
 {
     match bytes {

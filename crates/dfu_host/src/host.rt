@@ -2,7 +2,7 @@
 
 ghost use Rattle.std.specs.Prelude.{◌≡◌, ◌≤◌, ◌-◌, ◌↔◌, IsTrue, IfOk, Err, Some, ◌+◌, ◌<◌, length, vec_capacity};
 ghost use Rattle.dfu_host.specs.InParts.{buffered_at};
-ghost use Rattle.dfu_host.specs.UploadBuffer.{PartsBuffered, Stored};
+ghost use Rattle.dfu_host.specs.UploadBuffer.{PartsBuffered, PartOutcome};
 ghost use Rattle.dfu_host.specs.inside.Memories.{bytes_of};
 
 use crate::action::Action;
@@ -21,8 +21,8 @@ use std::marker::Model;
 
 /// A host in a session (USB DFU 1.1, appendix A, seen from the host's side).
 ///
-/// It does nothing itself: its caller does what `next` asks for and gives `take` what came of it,
-/// until `next` returns `Done`. It takes memory only for the parts of an upload.
+/// A host does nothing itself: its caller does what `next` asks for and gives `take` the result, until `next`
+/// returns `Done`. Only the parts of an upload take memory.
 #[derive(Drop)]
 pub struct Host<'f> {
     session: Session<'f>,
@@ -41,16 +41,16 @@ impl<'f> Model for Host<'f> {
 }
 
 impl<'f> Host<'f> {
-    ghost use Rattle.dfu_host.specs.Host.{Act, HostRow, IsOver, aborted, started};
+    ghost use Rattle.dfu_host.specs.Host.{Act, HostRow, IsOverPhase, aborted_host, host_for_goal};
     ghost use Rattle.dfu_host.specs.Budget.{is_done, remaining_inputs};
     ghost use Rattle.dfu_host.specs.Download.{first_download_fault, first_verify_fault};
-    ghost use Rattle.dfu_host.specs.InParts.{IsPhase};
-    ghost use Rattle.dfu_host.specs.Phases.{ToFetch, ToLoad, ToVerify};
+    ghost use Rattle.dfu_host.specs.InParts.{IsTablePhase};
+    ghost use Rattle.dfu_host.specs.Phases.{FetchGoal, LoadGoal, VerifyGoal};
     ghost use Rattle.dfu_host.specs.Uploading.{FetchResult, first_upload_fault, buffered_in};
     ghost use Rattle.dfu_host.specs.declared.fault.HostFault.{HostFault};
 
-    /// A host that is to install a file on the device with this descriptor and these
-    /// identifiers. It borrows the file's payload, and takes a transfer size of 1 to 65,535.
+    /// Makes a host that installs a file on the device with the given descriptor and identifiers. The host
+    /// borrows the file's payload; the transfer size is 1 to 65,535.
     ///
     /// The faults, in the order in which they are looked for:
     ///
@@ -65,7 +65,7 @@ impl<'f> Host<'f> {
         limits: Limits,
     ) -> Result<Host<'f>, HostFault>
         ensures refused { (fault : HostFault) → (result ≡ Err fault) ↔ (first_download_fault file.now functional.now device ≡ Some fault) }
-        ensures started { IfOk result (λ h. h ≡ started functional.now (ToLoad file.now.payload) limits) }
+        ensures started { IfOk result (λ h. h ≡ host_for_goal functional.now (LoadGoal file.now.payload) limits) }
     {
         let goal = goal_to_install(file, functional, device, false)?;
         let session = Session::begin(goal, functional, limits);
@@ -73,11 +73,10 @@ impl<'f> Host<'f> {
         Ok(Host { session, memory })
     }
 
-    /// A host that is to install a file on the device with this descriptor and these identifiers,
-    /// as `download` has it, and then, after its last reset, to ask for the active image and compare
-    /// it with the payload, so that its report is neither Installed nor Unconfirmed, but Verified
-    /// or Different. It borrows the file's payload, takes no memory, and takes a transfer size of
-    /// 1 to 65,535. A payload of more than 65,534 full blocks ends as TooManyBlocks.
+    /// Makes a host that installs a file as the one of `download` does, and after its last reset asks for the
+    /// active image and compares it with the payload, so that its report is neither Installed nor
+    /// Unconfirmed, but Verified or Different. The host borrows the file's payload and takes no memory; the
+    /// transfer size is 1 to 65,535. A payload of more than 65,534 full blocks ends as TooManyBlocks.
     ///
     /// The faults, in the order in which they are looked for:
     ///
@@ -93,7 +92,7 @@ impl<'f> Host<'f> {
         limits: Limits,
     ) -> Result<Host<'f>, HostFault>
         ensures refused { (fault : HostFault) → (result ≡ Err fault) ↔ (first_verify_fault file.now functional.now device ≡ Some fault) }
-        ensures started { IfOk result (λ h. h ≡ started functional.now (ToVerify file.now.payload) limits) }
+        ensures started { IfOk result (λ h. h ≡ host_for_goal functional.now (VerifyGoal file.now.payload) limits) }
     {
         let goal = goal_to_install(file, functional, device, true)?;
         let session = Session::begin(goal, functional, limits);
@@ -101,7 +100,7 @@ impl<'f> Host<'f> {
         Ok(Host { session, memory })
     }
 
-    /// A host that is to fetch the active image of the device with this descriptor. It keeps the
+    /// Makes a host that fetches the active image of the device with the given descriptor. The host keeps the
     /// allocator for the parts to come; the transfer size is 1 to 65,535.
     ///
     /// The faults, in the order in which they are looked for:
@@ -114,7 +113,7 @@ impl<'f> Host<'f> {
         limits: Limits,
     ) -> Result<Host<'f>, HostFault>
         ensures refused { (fault : HostFault) → (result ≡ Err fault) ↔ (first_upload_fault functional.now ≡ Some fault) }
-        ensures started { IfOk result (λ h. h ≡ started functional.now ToFetch limits) }
+        ensures started { IfOk result (λ h. h ≡ host_for_goal functional.now FetchGoal limits) }
     {
         gives_uploads(functional)?;
         let session = Session::begin(Goal::Fetch, functional, limits);
@@ -122,7 +121,7 @@ impl<'f> Host<'f> {
         Ok(Host { session, memory })
     }
 
-    /// Returns the action that the host wants next. It changes nothing, so it may be asked again.
+    /// Returns the action that the host wants next. The call changes nothing, so it may be repeated.
     pub fn next(&self) -> Action<'f>
         ensures act { Act self.now result }
         ensures done { IsTrue (is_done result) ↔ (remaining_inputs self.now ≡ 0) }
@@ -130,38 +129,38 @@ impl<'f> Host<'f> {
         self.session.next()
     }
 
-    /// The phase of the session.
+    /// Returns the phase of the session.
     pub fn phase(&self) -> Phase
-        ensures { IsPhase self.now.phase result }
+        ensures { IsTablePhase self.now.phase result }
     {
         self.session.parts().phase
     }
 
-    /// Gives the host what came of its action. Whatever came, the host is done after at most
-    /// `actions` calls, or after one if the limits have 0. Then nothing changes any more.
+    /// Gives the host the result of its action. Whatever the result, the host is done after at most `actions`
+    /// calls, or after one if the limits have 0. Then nothing changes any more.
     ///
-    /// A part of an upload, 1 byte or more, takes memory if what is kept has to grow. If that is
-    /// refused, the session ends with the report NoMemory.
+    /// A part of an upload, 1 byte or more, takes memory if the kept bytes have to grow. If there is none,
+    /// the session ends with the report NoMemory.
     pub fn take(&mut self, seen: Seen<'_>)
         ensures row { HostRow self.old seen.entry self.new }
         ensures budget { remaining_inputs self.new ≤ remaining_inputs self.old - 1 }
-        ensures over { IsOver self.old.phase → self.new ≡ self.old }
+        ensures over { IsOverPhase self.old.phase → self.new ≡ self.old }
         ensures part { FetchResult self.old self.old.phase seen.entry self.new }
     {
         let refused = self.memory.refuses(&self.session, seen);
         self.session.on_result(seen, refused);
     }
 
-    /// Gives the session up: the host asks for ABORT next, and whatever comes of it, the report is
-    /// Aborted. Only the phase changes, and nothing if the host is done. If a download is given up
-    /// in its last steps, the new image may be in place all the same.
+    /// Gives the session up. The host asks for ABORT next, and whatever the result, its report is Aborted.
+    /// Only the phase changes, and nothing if the host is done. If a download is given up in its last steps,
+    /// the new image may be in place all the same.
     pub fn abort(&mut self)
-        ensures { self.new ≡ aborted self.old }
+        ensures { self.new ≡ aborted_host self.old }
     {
         self.session.abort();
     }
 
-    /// Returns the bytes that an upload keeps: all that were fetched, once the host is done with `Uploaded`. Before that, the parts that
+    /// Returns the bytes that an upload keeps: all fetched bytes, once the host is done with `Uploaded`; before that, the parts that
     /// came since the fetching last began; and nothing in a download, or after the session went back to find the device, was given up or
     /// ended in another way.
     pub fn uploaded(&self) -> &[u8]
@@ -183,7 +182,7 @@ pub(crate) enum Memory {
 }
 
 impl Memory {
-    /// MemoryAfter the part in what a session sees, and returns whether it was refused.
+    /// Keeps the part in `seen`, if there is one, and returns true if it was refused.
     pub(crate) fn refuses(&mut self, session: &Session<'_>, seen: Seen<'_>) -> bool
         ensures { PartsBuffered session.now.transfer session.now.phase seen.entry result (bytes_of self.old) (bytes_of self.new) }
     {
@@ -193,10 +192,10 @@ impl Memory {
         }
     }
 
-    /// Stores a part, and returns whether it was refused: only if there is no vector, or if the
-    /// vector had no room for it and could not grow.
+    /// Stores `part`, and returns true if it was refused: only if there is no vector, or if the vector had no room for it and could not
+    /// grow.
     fn refuses_part(&mut self, part: &UploadPart<'_>) -> bool
-        ensures { Stored part.now.number part.now.bytes.now result (bytes_of self.old) (bytes_of self.new) }
+        ensures { PartOutcome part.now.number part.now.bytes.now result (bytes_of self.old) (bytes_of self.new) }
     {
         match self {
             Memory::Nothing => !part.bytes.is_empty(),
@@ -204,7 +203,7 @@ impl Memory {
         }
     }
 
-    /// The bytes.
+    /// Returns the kept bytes.
     pub(crate) fn as_slice(&self) -> &[u8]
         ensures { result.now ≡ bytes_of self.now }
     {
@@ -215,9 +214,9 @@ impl Memory {
     }
 }
 
-/// Stores a part in a vector, and returns whether the vector was full.
+/// Stores `part` in `kept`, and returns true if the vector was full.
 fn is_full(kept: &mut Vec<u8>, part: &UploadPart<'_>) -> bool
-    ensures stored { Stored part.now.number part.now.bytes.now result kept.old.items kept.new.items }
+    ensures stored { PartOutcome part.now.number part.now.bytes.now result kept.old.items kept.new.items }
     ensures full { IsTrue result → vec_capacity kept.old < length (buffered_at part.now.number kept.old.items) + length part.now.bytes.now }
 {
     if part.number == 0 {

@@ -2,7 +2,7 @@
 
 ghost use Rattle.std.specs.Prelude.{◌≡◌, ◌*◌, ◌<◌, IsTrue, false, length};
 ghost use Rattle.dfu_host.specs.Goals.{payload_of, size_of};
-ghost use Rattle.dfu_host.specs.InParts.{IsSession, IsWithin};
+ghost use Rattle.dfu_host.specs.InParts.{ArePartsOfSession, HasPhaseNeeds};
 
 use crate::fetching::MOST_PARTS;
 use crate::goal::Goal;
@@ -13,7 +13,7 @@ use crate::phase::Phase;
 pub struct Parts<'f> {
     /// Goal of the session.
     pub goal: Goal<'f>,
-    /// The most bytes of a block, 1 to 65,535.
+    /// Largest number of bytes of a block, 1 to 65,535.
     pub transfer: u16,
     /// The descriptor's bitManifestationTolerant.
     pub tolerant: bool,
@@ -21,24 +21,24 @@ pub struct Parts<'f> {
     pub will_detach: bool,
     /// The descriptor's wDetachTimeOut, in milliseconds.
     pub detach_ms: u16,
-    /// Its phase.
+    /// Phase of the session.
     pub phase: Phase,
-    /// The actions that are left.
+    /// Actions that are left.
     pub actions: u32,
-    /// Further restarts of the device that are taken.
+    /// Further restarts of the device that the session takes.
     pub restarts: u16,
 }
 
 impl Parts<'_> {
-    /// Returns whether these are the parts of a session.
+    /// Returns whether the parts are those of a session.
     pub(crate) fn is_session(&self) -> bool
-        ensures yes { IsTrue result → IsSession self.now }
-        ensures no { result ≡ false → IsSession self.now → ⊥ }
+        ensures yes { IsTrue result → ArePartsOfSession self.now }
+        ensures no { result ≡ false → ArePartsOfSession self.now → ⊥ }
     {
         self.transfer > 0 && self.has_some() && self.is_within()
     }
 
-    /// Returns whether there is something to do.
+    /// Returns whether the goal has something to do.
     fn has_some(&self) -> bool
         ensures yes { IsTrue result → 0 < size_of self.now.goal }
         ensures no { result ≡ false → 0 < size_of self.now.goal → ⊥ }
@@ -53,8 +53,8 @@ impl Parts<'_> {
 
     /// Returns whether the phase has what it needs.
     fn is_within(&self) -> bool
-        ensures yes { IsTrue result → IsWithin self.now.goal self.now.transfer self.now.phase }
-        ensures no { result ≡ false → IsWithin self.now.goal self.now.transfer self.now.phase → ⊥ }
+        ensures yes { IsTrue result → HasPhaseNeeds self.now.goal self.now.transfer self.now.phase }
+        ensures no { result ≡ false → HasPhaseNeeds self.now.goal self.now.transfer self.now.phase → ⊥ }
     {
         match self.phase {
             Phase::Block(number) => self.has_block(number),
@@ -69,7 +69,7 @@ impl Parts<'_> {
         }
     }
 
-    /// Returns whether the payload has a block with this number.
+    /// Returns true if the payload has block number `number`.
     fn has_block(&self, number: usize) -> bool
         ensures yes { IsTrue result → number * self.now.transfer < length (payload_of self.now.goal) }
         ensures no { result ≡ false → number * self.now.transfer < length (payload_of self.now.goal) → ⊥ }

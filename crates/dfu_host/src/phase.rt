@@ -12,7 +12,7 @@ pub enum Phase {
     FindAgain,
     /// Ask the application to make way.
     Detach,
-    /// Let the device get from its application into upgrade mode.
+    /// Bring the device from its application into upgrade mode.
     Enter,
     /// Clear the fault of an earlier session.
     Clear,
@@ -26,19 +26,19 @@ pub enum Phase {
     Block(usize),
     /// The answer to the block was lost: ask whether it came.
     Ask(usize),
-    /// The block came: ask whether it is written.
+    /// The block came: ask whether the device has written it.
     Poll(usize),
-    /// It isn't written yet: wait, then poll again.
+    /// The block isn't written yet: wait, then poll again.
     WaitPoll(usize, u32),
-    /// All blocks are written: say that there are no more.
+    /// All blocks are written: say that no more follow.
     Close,
-    /// The answer to that was lost: ask whether it came.
+    /// The answer to the closing request was lost: ask whether the request came.
     AskLast,
     /// Ask whether the new image is in place.
     Manifest,
-    /// It isn't yet: wait, then ask again.
+    /// The image isn't in place yet: wait, then ask again.
     WaitManifest(u32),
-    /// The device won't report it: wait, then end unconfirmed.
+    /// The device won't report the image in place: wait, then end unconfirmed.
     WaitLast(u32),
     /// Something was refused: ask for the reason.
     Trouble,
@@ -46,14 +46,14 @@ pub enum Phase {
     Fetch(u16),
     /// Ask for the part of the image with this number, 0 to 65,534, and compare it.
     Compare(u16),
-    /// The last reset, and then the report, or the comparison.
+    /// Reset for the last time, and then report, or compare.
     Last(Report),
-    /// The last reset, with all that was fetched kept.
+    /// Reset for the last time, with all fetched bytes kept.
     LastUploaded,
     /// The caller gave the session up: leave the transfer, and end.
     GiveUp,
     /// The session is over.
     Over(Report),
-    /// The session is over, with all that was fetched kept.
+    /// The session is over, with all fetched bytes kept.
     OverUploaded,
 }

@@ -2,15 +2,15 @@
 
 ghost use Rattle.std.specs.Prelude.{◌≡◌, if◌then◌else◌, List, ℕ, max};
 ghost use Rattle.dfu_host.specs.Host as host;
-ghost use Rattle.dfu_host.specs.inside.Comparing.{Compares};
+ghost use Rattle.dfu_host.specs.inside.Comparing.{ComparedMeaning};
 ghost use Rattle.dfu_host.specs.inside.PartMemory.{MemoryAfter};
 ghost use Rattle.dfu_host.specs.Table as table;
-ghost use Rattle.dfu_host.specs.InParts.{IsWithin, phase_of};
-ghost use Rattle.dfu_host.specs.inside.View.{heard_of, state_with, task_of};
+ghost use Rattle.dfu_host.specs.InParts.{HasPhaseNeeds, phase_of};
+ghost use Rattle.dfu_host.specs.inside.View.{meaning_of_heard, state_with, task_of_session};
 ghost use Rattle.dfu_host.specs.declared.task.Task.{Task};
 ghost use Rattle.std.specs.Borrow.{Bor};
 ghost use Rattle.dfu_host.specs.BehindClose.{is_behind_close};
-ghost use Rattle.dfu_host.specs.Goals.{Carries, goal_of};
+ghost use Rattle.dfu_host.specs.Goals.{CarriesPayload, goal_of};
 
 use crate::heard::Heard;
 use crate::limits::Limits;
@@ -22,13 +22,13 @@ use crate::task::Task;
 #[derive(Clone, Copy)]
 pub(crate) struct Progress {
     pub(crate) phase: Phase,
-    /// The actions that are left.
+    /// Actions that are left.
     pub(crate) actions: u32,
-    /// Further restarts of the device that are taken.
+    /// Further restarts of the device that the session takes.
     pub(crate) restarts: u16,
 }
 
-/// The first phase of a session, with at least one action.
+/// Returns the first phase of a session, with at least one action.
 pub(crate) fn beginning(limits: Limits) -> Progress
     ensures { result ≡ record { phase = Phase.Find; actions = max 1 limits.actions; restarts = limits.restarts } }
 {
@@ -40,16 +40,16 @@ pub(crate) fn beginning(limits: Limits) -> Progress
 }
 
 impl Progress {
-    /// The session after one action, of which this was heard, and is kept. Its task goes on with
-    /// it.
+    /// Returns the progress after an action whose result was heard, and kept if it was a part. The session's
+    /// task goes on with it.
     pub(crate) fn after(self, task: &mut Task<'_>, heard: Heard) -> Progress
-        requires { IsWithin task.old.goal task.old.transfer self.phase }
+        requires { HasPhaseNeeds task.old.goal task.old.transfer self.phase }
         ensures state { (memory memory' part : List ℕ)
             → MemoryAfter task.old.transfer memory self.phase part heard memory'
-            → Compares (task_of task.old) self.phase part heard
-            → state_with memory' task.new result ≡ host.after (state_with memory task.old self) (heard_of part heard) }
-        ensures payload { (payload : Bor (List ℕ)) → Carries payload task.old.goal → Carries payload task.new.goal }
-        ensures within { IsWithin task.new.goal task.new.transfer result.phase }
+            → ComparedMeaning (task_of_session task.old) self.phase part heard
+            → state_with memory' task.new result ≡ host.after (state_with memory task.old self) (meaning_of_heard part heard) }
+        ensures payload { (payload : Bor (List ℕ)) → CarriesPayload payload task.old.goal → CarriesPayload payload task.new.goal }
+        ensures within { HasPhaseNeeds task.new.goal task.new.transfer result.phase }
     {
         if let Phase::Over(_) | Phase::OverUploaded = self.phase {
             return self;
@@ -61,16 +61,16 @@ impl Progress {
         }
     }
 
-    /// After one action whose result the table's row takes.
+    /// Returns the progress after an action whose result the table's row takes.
     fn by_row(self, task: &mut Task<'_>, heard: Heard) -> Progress
-        requires { IsWithin task.old.goal task.old.transfer self.phase }
+        requires { HasPhaseNeeds task.old.goal task.old.transfer self.phase }
         ensures state { (memory memory' part : List ℕ)
             → MemoryAfter task.old.transfer memory self.phase part heard memory'
-            → Compares (task_of task.old) self.phase part heard
+            → ComparedMeaning (task_of_session task.old) self.phase part heard
             → state_with memory' task.new result
-            ≡ host.by_row (state_with memory task.old self) (phase_of memory self.phase) (heard_of part heard) }
-        ensures payload { (payload : Bor (List ℕ)) → Carries payload task.old.goal → Carries payload task.new.goal }
-        ensures within { IsWithin task.new.goal task.new.transfer result.phase }
+            ≡ host.host_by_row (state_with memory task.old self) (phase_of memory self.phase) (meaning_of_heard part heard) }
+        ensures payload { (payload : Bor (List ℕ)) → CarriesPayload payload task.old.goal → CarriesPayload payload task.new.goal }
+        ensures within { HasPhaseNeeds task.new.goal task.new.transfer result.phase }
     {
         let done = is_last_done(&self.phase, &heard);
         let next = task.row(self.phase, heard);
@@ -78,14 +78,14 @@ impl Progress {
         self.spent(next, self.restarts)
     }
 
-    /// After the device left of itself: after the close that was the last reset, and confirms
-    /// nothing; in every other phase it is a restart.
+    /// Returns the progress after the device left of itself. After the close that counts as the last reset,
+    /// which confirms nothing; in every other phase it counts as a restart.
     fn left(self, task: &mut Task<'_>) -> Progress
         ensures state { (memory old : List ℕ) → state_with memory task.new result
             ≡ host.host_after_leaving (state_with old task.old self) (phase_of old self.phase)
             (is_behind_close (goal_of task.old.goal) (phase_of old self.phase)) }
-        ensures payload { (payload : Bor (List ℕ)) → Carries payload task.old.goal → Carries payload task.new.goal }
-        ensures within { IsWithin task.new.goal task.new.transfer result.phase }
+        ensures payload { (payload : Bor (List ℕ)) → CarriesPayload payload task.old.goal → CarriesPayload payload task.new.goal }
+        ensures within { HasPhaseNeeds task.new.goal task.new.transfer result.phase }
     {
         if !task.is_behind_close(self.phase) {
             return self.restarted();
@@ -95,11 +95,11 @@ impl Progress {
         self.spent(next, self.restarts)
     }
 
-    /// After a restart of the device.
+    /// Returns the progress after a restart of the device.
     fn restarted(self) -> Progress
         ensures state { (task : Task) (memory old : List ℕ) → state_with memory task result
-            ≡ host.restarted (state_with old task self) (phase_of old self.phase) self.restarts }
-        ensures within { (task : Task) → IsWithin task.goal task.transfer result.phase }
+            ≡ host.host_after_restart (state_with old task self) (phase_of old self.phase) self.restarts }
+        ensures within { (task : Task) → HasPhaseNeeds task.goal task.transfer result.phase }
     {
         if let Phase::GiveUp = self.phase {
             return self.spent(Phase::Over(Report::Aborted), self.restarts);
@@ -111,11 +111,11 @@ impl Progress {
         }
     }
 
-    /// After one action that leads to a phase.
+    /// Returns the progress after an action that leads to `next`.
     fn spent(self, next: Phase, restarts: u16) -> Progress
         ensures state { (task : Task) (memory old : List ℕ) → state_with memory task result
-            ≡ host.spent (state_with old task self) (phase_of memory next) restarts }
-        ensures within { (task : Task) → IsWithin task.goal task.transfer next → IsWithin task.goal task.transfer result.phase }
+            ≡ host.host_after_action (state_with old task self) (phase_of memory next) restarts }
+        ensures within { (task : Task) → HasPhaseNeeds task.goal task.transfer next → HasPhaseNeeds task.goal task.transfer result.phase }
     {
         let actions = self.actions.saturating_sub(1);
         Progress {
@@ -126,10 +126,10 @@ impl Progress {
     }
 }
 
-/// Returns whether this was the last reset, and it was done.
+/// Returns whether the phase was the last reset, and the reset was done.
 fn is_last_done(phase: &Phase, heard: &Heard) -> bool
     ensures { (goal : table.Goal) (memory part : List ℕ)
-        → table.goal_after goal (phase_of memory phase.now) (heard_of part heard.now)
+        → table.goal_after goal (phase_of memory phase.now) (meaning_of_heard part heard.now)
         ≡ (if result then table.goal_after_reset goal else goal) }
 {
     match (phase, heard) {
@@ -138,10 +138,10 @@ fn is_last_done(phase: &Phase, heard: &Heard) -> bool
     }
 }
 
-/// The phase of a session with this many actions left: without any it gives up, unless it is over.
+/// Returns the phase of a session with `left` actions: without any the session gives up, unless it is over.
 fn budgeted(left: u32, phase: Phase) -> Phase
-    ensures next { (memory : List ℕ) → phase_of memory result ≡ host.budgeted left (phase_of memory phase) }
-    ensures within { (task : Task) → IsWithin task.goal task.transfer phase → IsWithin task.goal task.transfer result }
+    ensures next { (memory : List ℕ) → phase_of memory result ≡ host.phase_in_budget left (phase_of memory phase) }
+    ensures within { (task : Task) → HasPhaseNeeds task.goal task.transfer phase → HasPhaseNeeds task.goal task.transfer result }
 {
     match phase {
         Phase::Over(_) | Phase::OverUploaded => phase,

@@ -1,7 +1,7 @@
-//! The refusals that several sessions share.
+//! The refusals that several kinds of sessions share.
 
 ghost use Rattle.std.specs.Prelude.{◌≡◌, ◌<◌, IfErr, IfOk, None, Some, find, length};
-ghost use Rattle.dfu_host.specs.Download.{first_install_fault, payload_faults, refuses_download, to_install};
+ghost use Rattle.dfu_host.specs.Download.{first_install_fault, payload_faults, refuses_download, goal_of_install};
 ghost use Rattle.dfu_host.specs.Goals.{goal_of, size_of};
 ghost use Rattle.dfu_host.specs.Uploading.{first_upload_fault};
 
@@ -11,7 +11,7 @@ use crate::target::is_for;
 use dfu_suffix::File;
 use dfu_wire::{Functional, Ids};
 
-/// The goal of a session that installs a file, and if `compares` is set compares it too.
+/// Returns the goal of a session that installs a file, and compares it too if `compares` is true.
 pub(crate) fn goal_to_install<'f>(
     file: &File<'f>,
     functional: &Functional,
@@ -20,7 +20,7 @@ pub(crate) fn goal_to_install<'f>(
 ) -> Result<Goal<'f>, HostFault>
     ensures err { IfErr result (λ fault. first_install_fault compares file.now functional.now device ≡ Some fault) }
     ensures ok { IfOk result (λ goal. first_install_fault compares file.now functional.now device ≡ None) }
-    ensures goal { IfOk result (λ goal. (goal_of goal ≡ to_install compares file.now.payload) × (0 < size_of goal)
+    ensures goal { IfOk result (λ goal. (goal_of goal ≡ goal_of_install compares file.now.payload) × (0 < size_of goal)
         × (0 < functional.now.transfer)) }
 {
     let payload = payload_for(file, functional, device)?;
@@ -34,7 +34,7 @@ pub(crate) fn goal_to_install<'f>(
     Ok(Goal::Load(payload))
 }
 
-/// The payload of a file that a device takes.
+/// Returns the payload of the file, or the first fault for which the device can't take it.
 fn payload_for<'f>(
     file: &File<'f>,
     functional: &Functional,

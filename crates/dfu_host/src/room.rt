@@ -5,9 +5,9 @@ ghost use Rattle.dfu_host.specs.InParts.{host_of, buffered_at};
 ghost use Rattle.dfu_host.specs.UploadBuffer.{PartsBuffered};
 ghost use Rattle.dfu_host.specs.TakeCall.{TakeResult};
 ghost use Rattle.dfu_host.specs.Rooms.{FetchResultIn};
-ghost use Rattle.dfu_host.specs.Storing.{IsStored, Stores};
-ghost use Rattle.dfu_host.specs.inside.Refusing.{RefusesIn};
-ghost use Rattle.dfu_host.specs.Goals.{Carries};
+ghost use Rattle.dfu_host.specs.Storing.{PartIsStored, RoomAfterSeen};
+ghost use Rattle.dfu_host.specs.inside.Refusing.{RefusesAnswerByRoom};
+ghost use Rattle.dfu_host.specs.Goals.{CarriesPayload};
 ghost use Rattle.std.specs.Borrow.{Bor};
 
 use crate::part::UploadPart;
@@ -15,19 +15,19 @@ use crate::seen::Seen;
 use crate::session::Session;
 
 impl Session<'_> {
-    /// Gives the session what came of its action, as [`crate::Host::take`], and returns how many
-    /// bytes of the caller's room are kept then. Its first `kept` bytes are those that are kept by
-    /// now. A download keeps no bytes and needs no room.
+    /// Gives the session the result of its action, as [`crate::Host::take`] does, and returns how many bytes
+    /// of the caller's room are kept then. The first `kept` bytes of the room are kept already. A download
+    /// keeps no bytes and needs no room.
     ///
-    /// A part of an upload is stored in the room after those. If it doesn't fit, nothing is stored,
-    /// and the session ends with the report NoMemory.
+    /// A part of an upload is stored in the room after the kept bytes. If the part doesn't fit, nothing is
+    /// stored, and the session ends with the report NoMemory.
     pub fn take(&mut self, room: &mut [u8], kept: usize, seen: Seen<'_>) -> usize
         requires { kept ≤ length room.old }
         ensures takes { TakeResult (host_of (take kept room.old) self.old) seen.entry (host_of (take result room.new) self.new) }
         ensures room { FetchResultIn (length room.old) (host_of (take kept room.old) self.old) (host_of (take kept room.old) self.old).phase
             seen.entry (host_of (take result room.new) self.new) }
-        ensures payload { (payload : Bor (List ℕ)) → Carries payload self.old.goal → Carries payload self.new.goal }
-        ensures stores { Stores self.old.transfer self.old.phase seen.entry kept room.old result room.new }
+        ensures payload { (payload : Bor (List ℕ)) → CarriesPayload payload self.old.goal → CarriesPayload payload self.new.goal }
+        ensures stores { RoomAfterSeen self.old.transfer self.old.phase seen.entry kept room.old result room.new }
         ensures within { result ≤ length room.new }
         ensures len { length room.new ≡ length room.old }
         ensures beyond { drop result room.new ≡ drop result room.old }
@@ -45,19 +45,19 @@ impl Session<'_> {
     }
 }
 
-/// Stores the part in what a session sees, and returns how many bytes are kept then. If it doesn't
-/// fit, nothing changes.
+/// Stores the part in a session's result, and returns how many bytes are kept then. If the part doesn't fit,
+/// nothing changes.
 fn keep(session: &Session<'_>, room: &mut [u8], kept: usize, seen: Seen<'_>) -> Option<usize>
     requires { kept ≤ length room.old }
     ensures some { IfSome result (λ n.
         PartsBuffered session.now.transfer session.now.phase seen.entry false (take kept room.old) (take n room.new)) }
     ensures none { result ≡ None → PartsBuffered session.now.transfer session.now.phase seen.entry true (take kept room.old) (take kept room.old) }
     ensures taken { IfSome result (λ n.
-        RefusesIn (length room.old) session.now.transfer session.now.phase (take kept room.old) seen.entry false) }
-    ensures stored { IfSome result (λ n. Stores session.now.transfer session.now.phase seen.entry kept room.old n room.new) }
-    ensures stays { result ≡ None → Stores session.now.transfer session.now.phase seen.entry kept room.old kept room.old }
+        RefusesAnswerByRoom (length room.old) session.now.transfer session.now.phase (take kept room.old) seen.entry false) }
+    ensures stored { IfSome result (λ n. RoomAfterSeen session.now.transfer session.now.phase seen.entry kept room.old n room.new) }
+    ensures stays { result ≡ None → RoomAfterSeen session.now.transfer session.now.phase seen.entry kept room.old kept room.old }
     ensures refused { result ≡ None
-        → RefusesIn (length room.old) session.now.transfer session.now.phase (take kept room.old) seen.entry true }
+        → RefusesAnswerByRoom (length room.old) session.now.transfer session.now.phase (take kept room.old) seen.entry true }
     ensures len { length room.new ≡ length room.old }
     ensures fits { IfSome result (λ n. n ≤ length room.old) }
     ensures beyond { IfSome result (λ n. drop n room.new ≡ drop n room.old) }
@@ -69,8 +69,8 @@ fn keep(session: &Session<'_>, room: &mut [u8], kept: usize, seen: Seen<'_>) -> 
     }
 }
 
-/// Stores a part after the first `kept` bytes, which are kept, and returns how many are kept then.
-/// If it doesn't fit, nothing changes.
+/// Stores a part after the first `kept` bytes, and returns how many bytes are kept then. If the part doesn't
+/// fit, nothing changes.
 #[tactic(auto, using(std::proofs::lemmas::Slice::overwrites))]
 fn store(room: &mut [u8], kept: usize, part: &UploadPart<'_>) -> Option<usize>
     requires { kept ≤ length room.old }
@@ -78,7 +78,8 @@ fn store(room: &mut [u8], kept: usize, part: &UploadPart<'_>) -> Option<usize>
     ensures fits { IfSome result (λ n. n ≤ length room.old) }
     ensures joins { IfSome result (λ n. take n room.new ≡ buffered_at part.now.number (take kept room.old) ++ part.now.bytes.now) }
     ensures beyond { IfSome result (λ n. drop n room.new ≡ drop n room.old) }
-    ensures stored { IfSome result (λ n. IsStored (buffered_at part.now.number (take kept room.old)) part.now.bytes.now room.old n room.new) }
+    ensures stored { IfSome result (λ n. PartIsStored
+        (buffered_at part.now.number (take kept room.old)) part.now.bytes.now room.old n room.new) }
     ensures some { result ≡ None → 0 < length part.now.bytes.now }
     ensures same { result ≡ None → room.new ≡ room.old }
     ensures fitted { IfSome result (λ n.

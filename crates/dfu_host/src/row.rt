@@ -2,12 +2,12 @@
 //! USB DFU 1.1, appendix A). The other rows are in `fetching` and `ending`.
 
 ghost use Rattle.std.specs.Prelude.{◌≡◌, ◌*◌, ◌<◌, length, List, ℕ};
-ghost use Rattle.dfu_host.specs.inside.Comparing.{Compares};
+ghost use Rattle.dfu_host.specs.inside.Comparing.{ComparedMeaning};
 ghost use Rattle.dfu_host.specs.inside.PartMemory.{MemoryAfter};
 ghost use Rattle.dfu_host.specs.Table as table;
-ghost use Rattle.dfu_host.specs.InParts.{IsWithin, phase_of};
+ghost use Rattle.dfu_host.specs.InParts.{HasPhaseNeeds, phase_of};
 ghost use Rattle.dfu_host.specs.declared.goal.Goal.{Goal};
-ghost use Rattle.dfu_host.specs.inside.View.{heard_of, status_row, task_of};
+ghost use Rattle.dfu_host.specs.inside.View.{meaning_of_heard, status_row, task_of_session};
 ghost use Rattle.dfu_host.specs.Goals.{goal_of, payload_of};
 
 use crate::goal::Goal;
@@ -20,9 +20,9 @@ use dfu_wire::{State, Status};
 /// Returns the phase after a request without an answer of bytes: by its acknowledgement, by a stall, or by anything else.
 fn on_ack(heard: Heard, acked: Phase, stalled: Phase, nothing: Phase) -> Phase
     ensures next { (memory part : List ℕ) → phase_of memory result
-        ≡ table.on_ack (heard_of part heard) (phase_of memory acked) (phase_of memory stalled) (phase_of memory nothing) }
-    ensures within { (goal : Goal) (t : ℕ) → IsWithin goal t acked → IsWithin goal t stalled → IsWithin goal t nothing
-        → IsWithin goal t result }
+        ≡ table.on_ack (meaning_of_heard part heard) (phase_of memory acked) (phase_of memory stalled) (phase_of memory nothing) }
+    ensures within { (goal : Goal) (t : ℕ) → HasPhaseNeeds goal t acked → HasPhaseNeeds goal t stalled → HasPhaseNeeds goal t nothing
+        → HasPhaseNeeds goal t result }
 {
     match heard {
         Heard::Acked => acked,
@@ -34,8 +34,8 @@ fn on_ack(heard: Heard, acked: Phase, stalled: Phase, nothing: Phase) -> Phase
 /// Returns the phase after a wait: if anything else is heard, the session waits again.
 fn on_waited(heard: Heard, waited: Phase, again: Phase) -> Phase
     ensures next { (memory part : List ℕ) → phase_of memory result
-        ≡ table.on_waited (heard_of part heard) (phase_of memory waited) (phase_of memory again) }
-    ensures within { (goal : Goal) (t : ℕ) → IsWithin goal t waited → IsWithin goal t again → IsWithin goal t result }
+        ≡ table.on_waited (meaning_of_heard part heard) (phase_of memory waited) (phase_of memory again) }
+    ensures within { (goal : Goal) (t : ℕ) → HasPhaseNeeds goal t waited → HasPhaseNeeds goal t again → HasPhaseNeeds goal t result }
 {
     match heard {
         Heard::Waited => waited,
@@ -44,14 +44,14 @@ fn on_waited(heard: Heard, waited: Phase, again: Phase) -> Phase
 }
 
 impl Task<'_> {
-    /// The phase that follows, by the phase and what was heard in it.
+    /// Returns the next phase, by `phase` and by `heard`, what was heard in it.
     pub(crate) fn row(&self, phase: Phase, heard: Heard) -> Phase
-        requires { IsWithin self.now.goal self.now.transfer phase }
+        requires { HasPhaseNeeds self.now.goal self.now.transfer phase }
         ensures next { (memory memory' part : List ℕ)
             → MemoryAfter self.now.transfer memory phase part heard memory'
-            → Compares (task_of self.now) phase part heard
-            → phase_of memory' result ≡ table.host_row (task_of self.now) (phase_of memory phase) (heard_of part heard) }
-        ensures within { IsWithin self.now.goal self.now.transfer result }
+            → ComparedMeaning (task_of_session self.now) phase part heard
+            → phase_of memory' result ≡ table.host_row (task_of_session self.now) (phase_of memory phase) (meaning_of_heard part heard) }
+        ensures within { HasPhaseNeeds self.now.goal self.now.transfer result }
     {
         match phase {
             Phase::Find | Phase::Trouble => self.on_status(phase, heard, Phase::FindAgain),
@@ -83,10 +83,10 @@ impl Task<'_> {
 
     /// Returns the phase after GETSTATUS: by the status, by a stall, or by anything else that is heard.
     fn on_status(&self, phase: Phase, heard: Heard, stalled: Phase) -> Phase
-        requires { IsWithin self.now.goal self.now.transfer phase }
+        requires { HasPhaseNeeds self.now.goal self.now.transfer phase }
         ensures next { (memory part : List ℕ) → phase_of memory result
-            ≡ table.on_status (heard_of part heard) (status_row (task_of self.now) phase) (phase_of memory stalled) (phase_of memory phase) }
-        ensures within { IsWithin self.now.goal self.now.transfer stalled → IsWithin self.now.goal self.now.transfer result }
+            ≡ table.on_status (meaning_of_heard part heard) (status_row (task_of_session self.now) phase) (phase_of memory stalled) (phase_of memory phase) }
+        ensures within { HasPhaseNeeds self.now.goal self.now.transfer stalled → HasPhaseNeeds self.now.goal self.now.transfer result }
     {
         match heard {
             Heard::Told(status) => self.told(phase, status),
@@ -95,12 +95,12 @@ impl Task<'_> {
         }
     }
 
-    /// Returns the phase after a status in a phase that asks for it.
+    /// Returns the phase after `status` in `phase`, which asks for it.
     fn told(&self, phase: Phase, status: Status) -> Phase
-        requires { IsWithin self.now.goal self.now.transfer phase }
+        requires { HasPhaseNeeds self.now.goal self.now.transfer phase }
         ensures next { (memory : List ℕ)
-            → phase_of memory result ≡ status_row (task_of self.now) phase status.code status.poll_ms status.state }
-        ensures within { IsWithin self.now.goal self.now.transfer result }
+            → phase_of memory result ≡ status_row (task_of_session self.now) phase status.code status.poll_ms status.state }
+        ensures within { HasPhaseNeeds self.now.goal self.now.transfer result }
     {
         match phase {
             Phase::Poll(number) => self.polled(number, status),
@@ -110,11 +110,11 @@ impl Task<'_> {
         }
     }
 
-    /// The phase in which the work begins once the device is in dfuIDLE. A payload has a first
-    /// block; no part of an image is kept or compared yet.
+    /// Returns the phase in which the work begins once the device is in dfuIDLE. A payload has a first block;
+    /// no part of an image is kept or compared yet.
     fn start(&self) -> Phase
         ensures next { (memory : List ℕ) → phase_of memory result ≡ table.work_start (goal_of self.now.goal) }
-        ensures within { IsWithin self.now.goal self.now.transfer result }
+        ensures within { HasPhaseNeeds self.now.goal self.now.transfer result }
     {
         match &self.goal {
             Goal::Load(_) => Phase::Block(0),
@@ -124,11 +124,11 @@ impl Task<'_> {
         }
     }
 
-    /// The list: what follows a status, by its state.
+    /// Returns the phase after `status` by the list, which goes by its state.
     pub(crate) fn listed(&self, status: Status) -> Phase
         ensures next { (memory : List ℕ)
-            → phase_of memory result ≡ table.listed (table.work_start (goal_of self.now.goal)) status.state status.poll_ms }
-        ensures within { IsWithin self.now.goal self.now.transfer result }
+            → phase_of memory result ≡ table.phase_after_status (table.work_start (goal_of self.now.goal)) status.state status.poll_ms }
+        ensures within { HasPhaseNeeds self.now.goal self.now.transfer result }
     {
         match status.state() {
             State::AppIdle => Phase::Detach,
@@ -142,11 +142,11 @@ impl Task<'_> {
         }
     }
 
-    /// A wait if the device detaches by itself, else a reset.
+    /// Returns the phase after Enter: a wait if the device detaches by itself, else a reset.
     pub(crate) fn after_enter(&self, heard: Heard) -> Phase
         ensures next { (memory part : List ℕ) → phase_of memory result
-            ≡ table.host_row (task_of self.now) table.Enter (heard_of part heard) }
-        ensures within { IsWithin self.now.goal self.now.transfer result }
+            ≡ table.host_row (task_of_session self.now) table.Enter (meaning_of_heard part heard) }
+        ensures within { HasPhaseNeeds self.now.goal self.now.transfer result }
     {
         match heard {
             Heard::Waited if self.will_detach => Phase::Find,
@@ -155,12 +155,12 @@ impl Task<'_> {
         }
     }
 
-    /// GETSTATE, to learn whether a block came whose answer was lost.
+    /// Returns the phase after GETSTATE, which tells if block number `number` came whose answer was lost.
     pub(crate) fn after_ask(&self, number: usize, heard: Heard) -> Phase
         requires { number * self.now.transfer < length (payload_of self.now.goal) }
         ensures next { (memory part : List ℕ)
-            → phase_of memory result ≡ table.host_row (task_of self.now) (table.Ask number) (heard_of part heard) }
-        ensures within { IsWithin self.now.goal self.now.transfer result }
+            → phase_of memory result ≡ table.host_row (task_of_session self.now) (table.Ask number) (meaning_of_heard part heard) }
+        ensures within { HasPhaseNeeds self.now.goal self.now.transfer result }
     {
         match heard {
             Heard::StateIs(State::DownloadSync) => Phase::Poll(number),
@@ -171,14 +171,14 @@ impl Task<'_> {
         }
     }
 
-    /// Returns the phase after the status that was asked for after a block.
+    /// Returns the phase after `status`, which was asked for after block number `number`.
     pub(crate) fn polled(&self, number: usize, status: Status) -> Phase
         requires { number * self.now.transfer < length (payload_of self.now.goal) }
         ensures next { (memory : List ℕ)
             → phase_of memory result
-            ≡ table.polled_phase (table.work_start (goal_of self.now.goal)) (length (table.pieces (task_of self.now))) number
+            ≡ table.polled_phase (table.work_start (goal_of self.now.goal)) (length (table.session_blocks (task_of_session self.now))) number
             status.code status.poll_ms status.state }
-        ensures within { IsWithin self.now.goal self.now.transfer result }
+        ensures within { HasPhaseNeeds self.now.goal self.now.transfer result }
     {
         match status.state() {
             State::DownloadSync | State::DownloadBusy => {
@@ -190,12 +190,12 @@ impl Task<'_> {
         }
     }
 
-    /// GETSTATE, to learn whether the close came whose answer was lost.
+    /// Returns the phase after GETSTATE, which tells if the close came whose answer was lost.
     pub(crate) fn after_ask_last(&self, heard: Heard) -> Phase
         requires { 0 < length (payload_of self.now.goal) }
         ensures next { (memory part : List ℕ) → phase_of memory result
-            ≡ table.host_row (task_of self.now) table.AskLast (heard_of part heard) }
-        ensures within { IsWithin self.now.goal self.now.transfer result }
+            ≡ table.host_row (task_of_session self.now) table.AskLast (meaning_of_heard part heard) }
+        ensures within { HasPhaseNeeds self.now.goal self.now.transfer result }
     {
         match heard {
             Heard::StateIs(State::ManifestSync) => Phase::Manifest,

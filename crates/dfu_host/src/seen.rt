@@ -1,17 +1,17 @@
 //! Result of an action.
 
-/// Result of an action. One that doesn't fit the action is taken as [`Seen::Nothing`].
+/// Result of an action. A result that doesn't fit the action counts as [`Seen::Nothing`].
 #[derive(Clone, Copy)]
 pub enum Seen<'s> {
     /// A request that has no answer of bytes was acknowledged.
     Ack,
-    /// A request was answered with these bytes, of any length.
+    /// The device answered the request with these bytes, of any length.
     Bytes(&'s [u8]),
     /// A request was stalled.
     Stall,
     /// A request, or its answer, was lost.
     Nothing,
-    /// The wait is over.
+    /// The wait that was asked for is over.
     Waited,
     /// The bus was reset.
     WasReset,

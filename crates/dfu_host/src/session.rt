@@ -18,7 +18,7 @@ use dfu_suffix::File;
 use dfu_wire::{Functional, Ids};
 use std::marker::Model;
 
-/// A session of a host, for a caller that keeps what an upload fetches itself. It takes no memory.
+/// A session of a host, for a caller that keeps what an upload fetches itself. A session takes no memory.
 #[derive(Drop)]
 pub struct Session<'f> {
     task: Task<'f>,
@@ -27,33 +27,34 @@ pub struct Session<'f> {
 
 impl<'f> Model for Session<'f> {
     ghost use Rattle.dfu_host.specs.declared.parts.Parts.{Parts};
-    ghost use Rattle.dfu_host.specs.InParts.{IsWithin};
+    ghost use Rattle.dfu_host.specs.InParts.{HasPhaseNeeds};
     ghost use Rattle.dfu_host.specs.inside.View.{session_parts};
 
-    // Its parts. With the bytes that its caller keeps they are a `HostState`, as `Host` is one.
+    // Sees a session as its parts. With the bytes that its caller keeps they make a `HostState`, like a
+    // `Host`.
     ghost Value = { Parts };
 
     ghost view = { λ s. session_parts s.task s.progress };
 
-    ghost invariant = { λ s. IsWithin s.task.goal s.task.transfer s.progress.phase };
+    ghost invariant = { λ s. HasPhaseNeeds s.task.goal s.task.transfer s.progress.phase };
 }
 
 impl<'f> Session<'f> {
-    ghost use Rattle.dfu_host.specs.Host.{Act, aborted, started};
+    ghost use Rattle.dfu_host.specs.Host.{Act, aborted_host, host_for_goal};
     ghost use Rattle.dfu_host.specs.Budget.{is_done, remaining_inputs};
     ghost use Rattle.dfu_host.specs.Download.{first_download_fault, first_verify_fault};
-    ghost use Rattle.dfu_host.specs.Phases.{ToFetch, ToLoad, ToVerify};
+    ghost use Rattle.dfu_host.specs.Phases.{FetchGoal, LoadGoal, VerifyGoal};
     ghost use Rattle.dfu_host.specs.Uploading.{first_upload_fault};
-    ghost use Rattle.dfu_host.specs.Goals.{Carries, goal_of, payload_of, size_of};
-    ghost use Rattle.dfu_host.specs.InParts.{BodyIsCut, IsSession, body_offset, host_of, buffered_at};
-    ghost use Rattle.dfu_host.specs.UploadBuffer.{PartsBuffered, Stored};
+    ghost use Rattle.dfu_host.specs.Goals.{CarriesPayload, goal_of, payload_of, size_of};
+    ghost use Rattle.dfu_host.specs.InParts.{BodyIsSliceOfPayload, ArePartsOfSession, body_offset, host_of, buffered_at};
+    ghost use Rattle.dfu_host.specs.UploadBuffer.{PartsBuffered, PartOutcome};
     ghost use Rattle.dfu_host.specs.TakeCall.{TakeResult};
     ghost use Rattle.dfu_host.specs.Rooms.{FetchResultIn};
-    ghost use Rattle.dfu_host.specs.Storing.{IsStored, Stores};
-    ghost use Rattle.dfu_host.specs.inside.Refusing.{RefusesIn};
+    ghost use Rattle.dfu_host.specs.Storing.{PartIsStored, RoomAfterSeen};
+    ghost use Rattle.dfu_host.specs.inside.Refusing.{RefusesAnswerByRoom};
     ghost use Rattle.dfu_host.specs.declared.fault.HostFault.{HostFault};
 
-    /// A session that is to install a file, as [`crate::Host::download`]; its faults are the same.
+    /// Makes a session that installs a file, as [`crate::Host::download`] does, with the same faults.
     pub fn download(
         file: &File<'f>,
         functional: &Functional,
@@ -62,14 +63,14 @@ impl<'f> Session<'f> {
     ) -> Result<Session<'f>, HostFault>
         ensures refused { (fault : HostFault) → (result ≡ Err fault) ↔ (first_download_fault file.now functional.now device ≡ Some fault) }
         ensures started { IfOk result (λ s. (memory : List ℕ)
-            → host_of memory s ≡ started functional.now (ToLoad file.now.payload) limits) }
+            → host_of memory s ≡ host_for_goal functional.now (LoadGoal file.now.payload) limits) }
     {
         let goal = goal_to_install(file, functional, device, false)?;
         Ok(Session::begin(goal, functional, limits))
     }
 
-    /// A session that is to install a file and to compare it, as [`crate::Host::download_verified`];
-    /// its faults are the same.
+    /// Makes a session that installs a file and compares it, as [`crate::Host::download_verified`] does, with
+    /// the same faults.
     pub fn download_verified(
         file: &File<'f>,
         functional: &Functional,
@@ -78,28 +79,26 @@ impl<'f> Session<'f> {
     ) -> Result<Session<'f>, HostFault>
         ensures refused { (fault : HostFault) → (result ≡ Err fault) ↔ (first_verify_fault file.now functional.now device ≡ Some fault) }
         ensures started { IfOk result (λ s. (memory : List ℕ)
-            → host_of memory s ≡ started functional.now (ToVerify file.now.payload) limits) }
+            → host_of memory s ≡ host_for_goal functional.now (VerifyGoal file.now.payload) limits) }
     {
         let goal = goal_to_install(file, functional, device, true)?;
         Ok(Session::begin(goal, functional, limits))
     }
 
-    /// A session that is to fetch the active image, as [`crate::Host::upload`]; its faults are the
-    /// same.
+    /// Makes a session that fetches the active image, as [`crate::Host::upload`] does, with the same faults.
     pub fn upload(functional: &Functional, limits: Limits) -> Result<Session<'f>, HostFault>
         ensures refused { (fault : HostFault) → (result ≡ Err fault) ↔ (first_upload_fault functional.now ≡ Some fault) }
-        ensures started { IfOk result (λ s. (memory : List ℕ) → host_of memory s ≡ started functional.now ToFetch limits) }
+        ensures started { IfOk result (λ s. (memory : List ℕ) → host_of memory s ≡ host_for_goal functional.now FetchGoal limits) }
     {
         gives_uploads(functional)?;
         Ok(Session::begin(Goal::Fetch, functional, limits))
     }
 
-    /// A session that begins: its task is this goal, and all else goes by the descriptor and the
-    /// limits.
+    /// Returns a session that begins, with `goal`; everything else of its task goes by `functional` and `limits`.
     pub(crate) fn begin(goal: Goal<'f>, functional: &Functional, limits: Limits) -> Session<'f>
         requires some { 0 < size_of goal }
         requires transfers { 0 < functional.now.transfer }
-        ensures { (memory : List ℕ) → host_of memory result ≡ started functional.now (goal_of goal.entry) limits }
+        ensures { (memory : List ℕ) → host_of memory result ≡ host_for_goal functional.now (goal_of goal.entry) limits }
     {
         Session {
             task: Task {
@@ -113,10 +112,10 @@ impl<'f> Session<'f> {
         }
     }
 
-    /// The session's parts, which [`Session::from_parts`] puts together again.
+    /// Returns the session's parts, which [`Session::from_parts`] puts together again.
     pub fn parts(&self) -> Parts<'f>
         ensures parts { result ≡ self.now }
-        ensures sound { IsSession result }
+        ensures sound { ArePartsOfSession result }
     {
         Parts {
             goal: self.task.goal,
@@ -130,12 +129,11 @@ impl<'f> Session<'f> {
         }
     }
 
-    /// The session of these parts. None exactly if they are not those of a session: there is
-    /// nothing to do, as with a payload of no bytes; the transfer size is 0; or the phase asks for
-    /// what doesn't exist, as a block after the last one.
+    /// Returns the session of `parts`. None exactly if no session has these parts: there is nothing to do, as with a payload of no bytes;
+    /// the transfer size is 0; or the phase needs something that doesn't exist, such as a block after the last one.
     pub fn from_parts(parts: Parts<'f>) -> Option<Session<'f>>
         ensures some { IfSome result (λ s. s ≡ parts.entry) }
-        ensures refused { (result ≡ None) ↔ (IsSession parts.entry → ⊥) }
+        ensures refused { (result ≡ None) ↔ (ArePartsOfSession parts.entry → ⊥) }
     {
         if !parts.is_session() {
             return None;
@@ -156,17 +154,17 @@ impl<'f> Session<'f> {
         })
     }
 
-    /// Returns the action that the session wants next. It changes nothing, so it may be asked again.
+    /// Returns the action that the session wants next. The call changes nothing, so it may be repeated.
     pub fn next(&self) -> Action<'f>
         ensures act { (memory : List ℕ) → Act (host_of memory self.now) result }
         ensures done { (memory : List ℕ) → IsTrue (is_done result) ↔ (remaining_inputs (host_of memory self.now) ≡ 0) }
-        ensures cut { BodyIsCut (payload_of self.now.goal) (body_offset self.now.transfer self.now.phase) result }
+        ensures cut { BodyIsSliceOfPayload (payload_of self.now.goal) (body_offset self.now.transfer self.now.phase) result }
     {
         self.task.action(self.progress.phase)
     }
 
-    /// The place in the payload at which the body of what `next` sends begins; 0 if that has no
-    /// body. The body is the payload from there on, as far as it goes.
+    /// Returns the place in the payload at which the body of `next` begins; 0 without a body. The body is a
+    /// slice of the payload from there on.
     pub fn sends_from(&self) -> usize
         ensures { result ≡ body_offset self.now.transfer self.now.phase }
     {
@@ -176,26 +174,26 @@ impl<'f> Session<'f> {
         }
     }
 
-    /// The part of the image in what is seen that is to be kept, before the session gets it.
+    /// Returns the part of the image in `seen` that must be kept, before the session gets the result; None if there is none.
     pub(crate) fn part<'s>(&self, seen: Seen<'s>) -> Option<UploadPart<'s>>
         ensures some { IfSome result (λ part. (refused : Bool) (memory memory' : List ℕ)
-            → Stored part.number part.bytes.now refused memory memory'
+            → PartOutcome part.number part.bytes.now refused memory memory'
             → PartsBuffered self.now.transfer self.now.phase seen.entry refused memory memory') }
         ensures none { result ≡ None → (memory : List ℕ) → PartsBuffered self.now.transfer self.now.phase seen.entry false memory memory }
         ensures some_refused { IfSome result (λ part. (refused : Bool) (memory : List ℕ) (room : ℕ)
             → refused ≡ nat_lt room (length (buffered_at part.number memory) + length part.bytes.now)
-            → RefusesIn room self.now.transfer self.now.phase memory seen.entry refused) }
+            → RefusesAnswerByRoom room self.now.transfer self.now.phase memory seen.entry refused) }
         ensures none_refused { result ≡ None → (memory : List ℕ) (room : ℕ)
-            → RefusesIn room self.now.transfer self.now.phase memory seen.entry false }
+            → RefusesAnswerByRoom room self.now.transfer self.now.phase memory seen.entry false }
         ensures some_stored { IfSome result (λ part. (count : ℕ) (room : List ℕ) (count' : ℕ) (room' : List ℕ)
             → false ≡ nat_lt (length room) (length (buffered_at part.number (take count room)) + length part.bytes.now)
-            → IsStored (buffered_at part.number (take count room)) part.bytes.now room count' room'
-            → Stores self.now.transfer self.now.phase seen.entry count room count' room') }
+            → PartIsStored (buffered_at part.number (take count room)) part.bytes.now room count' room'
+            → RoomAfterSeen self.now.transfer self.now.phase seen.entry count room count' room') }
         ensures some_full { IfSome result (λ part. (count : ℕ) (room : List ℕ)
             → true ≡ nat_lt (length room) (length (buffered_at part.number (take count room)) + length part.bytes.now)
-            → Stores self.now.transfer self.now.phase seen.entry count room count room) }
+            → RoomAfterSeen self.now.transfer self.now.phase seen.entry count room count room) }
         ensures none_stored { result ≡ None → (count : ℕ) (room : List ℕ)
-            → Stores self.now.transfer self.now.phase seen.entry count room count room }
+            → RoomAfterSeen self.now.transfer self.now.phase seen.entry count room count room }
     {
         match (self.progress.phase, seen) {
             (Phase::Fetch(number), Seen::Bytes(bytes)) => self.task.part_in(number, bytes),
@@ -203,14 +201,14 @@ impl<'f> Session<'f> {
         }
     }
 
-    /// Gives the session what came of its action, and whether the caller refused to keep the part of
-    /// the image in it.
+    /// Gives the session the result of its action; `refused` says that the caller did not keep the part in
+    /// it.
     pub(crate) fn on_result(&mut self, seen: Seen<'_>, refused: bool)
-        ensures payload { (payload : Bor (List ℕ)) → Carries payload self.old.goal → Carries payload self.new.goal }
+        ensures payload { (payload : Bor (List ℕ)) → CarriesPayload payload self.old.goal → CarriesPayload payload self.new.goal }
         ensures takes { (memory memory' : List ℕ) → PartsBuffered self.old.transfer self.old.phase seen.entry refused memory memory'
             → TakeResult (host_of memory self.old) seen.entry (host_of memory' self.new) }
         ensures room { (memory memory' : List ℕ) (room : ℕ) → PartsBuffered self.old.transfer self.old.phase seen.entry refused memory memory'
-            → RefusesIn room self.old.transfer self.old.phase memory seen.entry refused
+            → RefusesAnswerByRoom room self.old.transfer self.old.phase memory seen.entry refused
             → FetchResultIn room (host_of memory self.old) (host_of memory self.old).phase seen.entry (host_of memory' self.new) }
     {
         let phase = self.progress.phase;
@@ -220,8 +218,8 @@ impl<'f> Session<'f> {
 
     /// Gives the session up, as [`crate::Host::abort`].
     pub fn abort(&mut self)
-        ensures payload { (payload : Bor (List ℕ)) → Carries payload self.old.goal → Carries payload self.new.goal }
-        ensures given_up { (memory : List ℕ) → host_of memory self.new ≡ aborted (host_of memory self.old) }
+        ensures payload { (payload : Bor (List ℕ)) → CarriesPayload payload self.old.goal → CarriesPayload payload self.new.goal }
+        ensures given_up { (memory : List ℕ) → host_of memory self.new ≡ aborted_host (host_of memory self.old) }
     {
         match self.progress.phase {
             Phase::Over(_) | Phase::OverUploaded => {}

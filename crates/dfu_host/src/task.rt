@@ -1,12 +1,12 @@
-//! Task of a session, and the action of each phase, as the caller gets it.
+//! Task of a session, and the action of each phase in the form that the caller gets.
 
 ghost use Rattle.std.specs.Prelude.{◌≡◌, ℕ, suc, ◌+◌, ◌*◌, ◌<◌, ◌^◌, ◌==◌, drop, length, take, IsTrue, ◌↔◌, slice_index_or, if◌then◌else◌, [], List, ◌≤◌};
-ghost use Rattle.dfu_host.specs.Goals.{Carries, size_of};
+ghost use Rattle.dfu_host.specs.Goals.{CarriesPayload, size_of};
 ghost use Rattle.std.specs.Borrow.{Bor};
 ghost use Rattle.dfu_wire.specs.Request.{IsUnnamed};
 ghost use Rattle.dfu_host.specs.Table as table;
-ghost use Rattle.dfu_host.specs.Wire.{Spells};
-ghost use Rattle.dfu_host.specs.InParts.{BodyIsCut};
+ghost use Rattle.dfu_host.specs.Wire.{SpellsDeed};
+ghost use Rattle.dfu_host.specs.InParts.{BodyIsSliceOfPayload};
 
 use crate::action::Action;
 use crate::goal::Goal;
@@ -18,11 +18,11 @@ use dfu_wire::Request;
 #[derive(Drop)]
 pub(crate) struct Task<'f> {
     pub(crate) goal: Goal<'f>,
-    /// The most bytes of a block, at least 1.
+    /// Largest number of bytes of a block, at least 1.
     pub(crate) transfer: u16,
     pub(crate) tolerant: bool,
     pub(crate) will_detach: bool,
-    /// In milliseconds.
+    /// Milliseconds of the descriptor's wDetachTimeOut.
     pub(crate) detach_ms: u16,
     ghost some: { 0 < size_of goal },
     ghost transfers: { 0 < transfer },
@@ -30,21 +30,21 @@ pub(crate) struct Task<'f> {
 
 impl<'f> Task<'f> {
     ghost use Rattle.dfu_host.specs.Goals.{goal_of, payload_of};
-    ghost use Rattle.dfu_host.specs.Table.{pieces};
+    ghost use Rattle.dfu_host.specs.Table.{session_blocks};
     ghost use Rattle.dfu_host.specs.declared.phase.Phase.{Phase};
-    ghost use Rattle.dfu_host.specs.InParts.{IsWithin, body_offset, phase_of};
-    ghost use Rattle.dfu_host.specs.inside.View.{task_of};
+    ghost use Rattle.dfu_host.specs.InParts.{HasPhaseNeeds, body_offset, phase_of};
+    ghost use Rattle.dfu_host.specs.inside.View.{task_of_session};
 
-    /// The payload that is sent or compared; empty for an upload.
+    /// Returns the payload that is sent or compared; empty for an upload.
     fn payload(&self) -> &'f [u8]
         ensures { result.now ≡ payload_of self.now.goal }
     {
         self.goal.payload()
     }
 
-    /// Block `number`, as a slice of the payload; empty if there is no such block.
+    /// Returns block `number`, as a slice of the payload; empty past the last block.
     pub(crate) fn block(&self, number: usize) -> &'f [u8]
-        ensures bytes { result.now ≡ slice_index_or (pieces (task_of self.now)) number [] }
+        ensures bytes { result.now ≡ slice_index_or (session_blocks (task_of_session self.now)) number [] }
         ensures fits { length result.now < 2 ^ 16 }
         ensures cut { result.now ≡ take (length result.now) (drop (number * self.now.transfer) (payload_of self.now.goal)) }
     {
@@ -54,7 +54,7 @@ impl<'f> Task<'f> {
         &rest[..transfer.min(rest.len())]
     }
 
-    /// The place in the payload at which a block begins.
+    /// Returns the place in the payload at which block number `number` begins.
     pub(crate) fn begins(&self, number: usize) -> usize
         requires { number * self.now.transfer < length (payload_of self.now.goal) }
         ensures { result ≡ number * self.now.transfer }
@@ -63,22 +63,23 @@ impl<'f> Task<'f> {
         number.saturating_mul(self.transfer as usize).min(all)
     }
 
-    /// Returns whether a block is the last one.
+    /// Returns true if block number `number` is the last one.
     pub(crate) fn is_last(&self, number: usize) -> bool
         requires { number * self.now.transfer < length (payload_of self.now.goal) }
-        ensures last { result ≡ (suc number == length (pieces (task_of self.now))) }
+        ensures last { result ≡ (suc number == length (session_blocks (task_of_session self.now))) }
         ensures fits { number + 1 < 2 ^ 64 }
     {
         let transfer = self.transfer as usize;
         self.payload().len() - number * transfer <= transfer
     }
 
-    /// The task goes on: once the last reset is done, what was to be verified is compared.
+    /// Changes the goal once the last reset is done: a payload that was to be verified is compared then.
     pub(crate) fn go_on(&mut self, done: bool)
-        ensures payload { (payload : Bor (List ℕ)) → Carries payload self.old.goal → Carries payload self.new.goal }
-        ensures task { task_of self.new
-            ≡ record (task_of self.old) { goal = if done then table.goal_after_reset (goal_of self.old.goal) else goal_of self.old.goal } }
-        ensures within { (next : Phase) → IsWithin self.old.goal self.old.transfer next → IsWithin self.new.goal self.new.transfer next }
+        ensures payload { (payload : Bor (List ℕ)) → CarriesPayload payload self.old.goal → CarriesPayload payload self.new.goal }
+        ensures task { task_of_session self.new
+            ≡ record (task_of_session self.old) { goal = if done then table.goal_after_reset (goal_of self.old.goal) else goal_of self.old.goal } }
+        ensures within { (next : Phase) → HasPhaseNeeds self.old.goal self.old.transfer next
+            → HasPhaseNeeds self.new.goal self.new.transfer next }
     {
         if !done {
             return;
@@ -92,16 +93,16 @@ impl<'f> Task<'f> {
     /// Returns the number of blocks.
     pub(crate) fn count(&self) -> usize
         requires { 0 < length (payload_of self.now.goal) }
-        ensures { result ≡ length (pieces (task_of self.now)) }
+        ensures { result ≡ length (session_blocks (task_of_session self.now)) }
     {
         (self.payload().len() - 1) / self.transfer as usize + 1
     }
 
-    /// The action of a phase.
+    /// Returns the action of `phase`.
     pub(crate) fn action(&self, phase: Phase) -> Action<'f>
-        requires { IsWithin self.now.goal self.now.transfer phase }
-        ensures spells { (memory : List ℕ) → Spells (table.deed (task_of self.now) (phase_of memory phase)) result }
-        ensures cut { BodyIsCut (payload_of self.now.goal) (body_offset self.now.transfer phase) result }
+        requires { HasPhaseNeeds self.now.goal self.now.transfer phase }
+        ensures spells { (memory : List ℕ) → SpellsDeed (table.deed (task_of_session self.now) (phase_of memory phase)) result }
+        ensures cut { BodyIsSliceOfPayload (payload_of self.now.goal) (body_offset self.now.transfer phase) result }
     {
         match phase {
             Phase::Find | Phase::FindAgain | Phase::Poll(_) | Phase::Manifest | Phase::Trouble => {
@@ -131,10 +132,10 @@ impl<'f> Task<'f> {
         }
     }
 
-    /// If the device detaches by itself, a wait of 1 ms at least; else a reset.
+    /// Returns a wait of at least 1 ms if the device detaches by itself, else a reset.
     fn entering(&self) -> Action<'f>
-        ensures spells { Spells (table.deed (task_of self.now) table.Enter) result }
-        ensures cut { (payload : List ℕ) (from : ℕ) → BodyIsCut payload from result }
+        ensures spells { SpellsDeed (table.deed (task_of_session self.now) table.Enter) result }
+        ensures cut { (payload : List ℕ) (from : ℕ) → BodyIsSliceOfPayload payload from result }
     {
         if self.will_detach {
             Action::Wait(self.detach_ms.max(1) as u32)
@@ -144,22 +145,22 @@ impl<'f> Task<'f> {
     }
 }
 
-/// DNLOAD of a block; its number wraps at 65,536.
+/// Returns the DNLOAD of `body` as block number `number`, which wraps at 65,536.
 fn download(number: usize, body: &[u8]) -> Action<'_>
     requires { length body.now < 2 ^ 16 }
-    ensures spells { Spells (table.download number body.now) result }
-    ensures cut { (payload : List ℕ) (from : ℕ) → body.now ≡ take (length body.now) (drop from payload) → BodyIsCut payload from result }
+    ensures spells { SpellsDeed (table.download number body.now) result }
+    ensures cut { (payload : List ℕ) (from : ℕ) → body.now ≡ take (length body.now) (drop from payload) → BodyIsSliceOfPayload payload from result }
 {
     let block = (number % 65_536) as u16;
     let length = body.len() as u16;
     send(Request::Dnload { block, length }, body)
 }
 
-/// One of the seven requests, with its body.
+/// Returns the sending of `request`, one of the seven, with its `body`.
 fn send(request: Request, body: &[u8]) -> Action<'_>
     requires { IsUnnamed request → ⊥ }
-    ensures spells { Spells (table.Send request body.now) result }
-    ensures cut { (payload : List ℕ) (from : ℕ) → body.now ≡ take (length body.now) (drop from payload) → BodyIsCut payload from result }
+    ensures spells { SpellsDeed (table.Send request body.now) result }
+    ensures cut { (payload : List ℕ) (from : ℕ) → body.now ≡ take (length body.now) (drop from payload) → BodyIsSliceOfPayload payload from result }
 {
     match request.setup() {
         Some(setup) => Action::Send {

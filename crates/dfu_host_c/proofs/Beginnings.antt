@@ -6,16 +6,16 @@ use Rattle.dfu_wire.specs.Functional.{IsFunctional}
 use Rattle.dfu_suffix.specs.Grammar.{Content}
 use Rattle.dfu_host.specs.declared.fault.HostFault.{HostFault}
 use Rattle.dfu_host.specs.declared.limits.Limits.{Limits}
-use Rattle.dfu_host.specs.Host.{started}
+use Rattle.dfu_host.specs.Host.{host_for_goal}
 use Rattle.dfu_host.specs.Phases.{Goal}
 use Rattle.dfu_host_core.specs.BeginCalls.{BeginResult, IsInitialRecord, IsContent}
 use Rattle.dfu_host_c.specs.Refusing.{HostRefuses}
 use Rattle.dfu_host_c.specs.Refusals.{refused_number}
 use Rattle.dfu_host_c.specs.declared.refusals.Refusal.TheVariants as refusal
 use Rattle.dfu_host_core.specs.declared.session.DfuSession.{DfuSession}
-use Rattle.dfu_host_c.proofs.Refused.{refused_for}
+use Rattle.dfu_host_c.proofs.Refused.{refused_for_first_fault}
 
--- If a call is refused exactly by the first fault, and was not, there is no fault.
+-- A call that is refused exactly by its first fault, and was not refused, has no fault.
 pub no_fault : {T : Type 0} (result : Result T HostFault) (value : T) (first : Option HostFault) → result ≡ Ok value
     → ((fault : HostFault) → (result ≡ Err fault) ↔ (first ≡ Some fault)) → first ≡ None
 no_fault result value None is refused = refl
@@ -27,7 +27,7 @@ pub begins : {T : Type 0} {file descriptor : List ℕ} {asked device : Ids} {lim
     (first : Content → Functional → Ids → Option HostFault) (made : Result T HostFault)
     → IsContent content file → IsFunctional functional descriptor → asked ≡ device → made ≡ Ok host
     → ((fault : HostFault) → (made ≡ Err fault) ↔ (first content functional asked ≡ Some fault))
-    → IsInitialRecord r' (started functional (to content.payload) limits) → result ≡ pos 0
+    → IsInitialRecord r' (host_for_goal functional (to content.payload) limits) → result ≡ pos 0
     → BeginResult to first file descriptor device limits result r'
 begins {content = content} {functional = functional} to first made is_content is_functional same is refused begun number = record {
   content = content;
@@ -39,17 +39,20 @@ begins {content = content} {functional = functional} to first made is_content is
   number_is = number;
 }
 
--- A session that the host refuses is refused by the first fault.
-pub refuses : {T : Type 0} {file descriptor : List ℕ} {asked device : Ids} {result : ℤ} {content : Content} {functional : Functional}
+-- A session that the host refuses is refused by its first fault.
+pub refused_session_has_first_fault : {T : Type 0} {file descriptor : List ℕ} {asked device : Ids} {result : ℤ} {content : Content}
+    {functional : Functional}
     {fault : HostFault} (first : Content → Functional → Ids → Option HostFault) (made : Result T HostFault)
     → IsContent content file → IsFunctional functional descriptor → asked ≡ device → made ≡ Err fault
     → ((fault : HostFault) → (made ≡ Err fault) ↔ (first content functional asked ≡ Some fault))
     → result ≡ refused_number (refusal.Host fault) → HostRefuses first file descriptor device result
-refuses {content = content} {functional = functional} {fault = fault} first made is_content is_functional same is refused number = record {
-  content = content;
-  functional = functional;
-  is_content = is_content;
-  is_functional = is_functional;
-  refused = refused_for made fault is
-      (subst (λ (d : Ids). (fault : HostFault) → (made ≡ Err fault) ↔ (first content functional d ≡ Some fault)) same refused) number;
-}
+refused_session_has_first_fault {content = content} {functional = functional} {fault = fault} first made is_content is_functional same is
+    refused
+    number = record {
+      content = content;
+      functional = functional;
+      is_content = is_content;
+      is_functional = is_functional;
+      refused = refused_for_first_fault made fault is
+          (subst (λ (d : Ids). (fault : HostFault) → (made ≡ Err fault) ↔ (first content functional d ≡ Some fault)) same refused) number;
+    }

@@ -7,22 +7,24 @@ use Rattle.dfuse_host.specs.declared.phase.Phase.{Phase}
 use Rattle.dfuse_host.specs.declared.plan.Plan.{Plan}
 use Rattle.dfuse_host.specs.declared.session.Session.{Session}
 use Rattle.std.specs.Prelude.{Option, None, option_map}
-use Rattle.dfu_host_c.specs.dfuse.Sessions.{IsDfuseRecordOf, phase_in, session_in, session_with}
+use Rattle.dfu_host_c.specs.dfuse.Sessions.{IsDfuseRecordOf, phase_in, session_in, dfuse_session_in_phase}
 use Rattle.dfu_host_c.specs.declared.dfuse.session.DfuseSession.{DfuseSession}
 
--- The session of a record has the map and the image that it is read over.
-plan_with : (r : DfuseSession) (map : Bor MapContent) (image : Bor (List Element)) (o : Option Phase) (s : Session) →
-    option_map (session_with r map image) o ≡ Some s → (s.plan.map ≡ map) × (s.plan.image ≡ image)
-plan_with r map image None s e = absurd cc
-plan_with r map image (Some phase) s e =
-    let same : session_with r map image phase ≡ s = search (rules, e) in
+-- The session of a record has the map and the image over which the record is read.
+session_plan_with_map_and_image : (r : DfuseSession) (map : Bor MapContent) (image : Bor (List Element)) (o : Option Phase) (s : Session) →
+    option_map (dfuse_session_in_phase r map image) o ≡ Some s → (s.plan.map ≡ map) × (s.plan.image ≡ image)
+session_plan_with_map_and_image r map image None s e = absurd cc
+session_plan_with_map_and_image r map image (Some phase) s e =
+    let same : dfuse_session_in_phase r map image phase ≡ s = search (rules, e) in
     (sym (ap (λ (t : Session). t.plan.map) same), sym (ap (λ (t : Session). t.plan.image) same))
 
--- The record written after a step holds the next session, over the same string and image.
-pub held_on : (r r' : DfuseSession) (text : List ℕ) (image : Bor (List Element)) (s next : Session) → IsDfuseRecordOf r text image s →
+-- The record after a step holds the next session, over the same string and image.
+pub record_holds_session : (r r' : DfuseSession) (text : List ℕ) (image : Bor (List Element)) (s next : Session)
+    → IsDfuseRecordOf r text image s →
     next.plan ≡ s.plan → session_in r' next.plan.map next.plan.image ≡ Some next → IsDfuseRecordOf r' text image next
-held_on r r' text image s next held plan says =
-    let both : (s.plan.map ≡ held.map) × (s.plan.image ≡ image) = plan_with r held.map image (phase_in r) s held.says in
+record_holds_session r r' text image s next held plan says =
+    let both : (s.plan.map ≡ held.map) × (s.plan.image ≡ image) = session_plan_with_map_and_image r held.map image (phase_in r) s held.says
+    in
     let map : next.plan.map ≡ held.map = ap (λ (p : Plan). p.map) plan ∙ both.0 in
     let over : next.plan.image ≡ image = ap (λ (p : Plan). p.image) plan ∙ both.1 in record {
       map = held.map;

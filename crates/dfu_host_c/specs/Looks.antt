@@ -1,4 +1,4 @@
--- Look of a file without a DFU suffix, as a record for C.
+-- The record for C of a file without a DFU suffix, by its look.
 use Rattle.std.specs.Prelude.{ℕ, Option, Some, None}
 use Rattle.dfu_formats.specs.declared.images.format.Format.{Format}
 use Rattle.dfu_formats.specs.declared.images.format.Format.TheVariants.{IntelHex, SRecord, Uf2, Elf}
@@ -18,7 +18,7 @@ image_format_number SRecord = 2
 image_format_number Uf2 = 3
 image_format_number Elf = 4
 
--- The number of what a file is, 0 to 9. A format has its own number.
+-- The number of a file's kind, 0 to 9. A format has its own number.
 abbrev pub looks_number : Looks → ℕ
 looks_number looks.Raw = 0
 looks_number (looks.Of format) = image_format_number format
@@ -28,18 +28,18 @@ looks_number (looks.Other Gzip) = 7
 looks_number (looks.Other Text) = 8
 looks_number (looks.Other (Named ending)) = 9
 
--- The number of what a name says, 0 to 5. A format has its own number.
+-- The number of a name's ending, 0 to 5. A format has its own number.
 abbrev pub ending_number : Option Ending → ℕ
 ending_number None = 0
 ending_number (Some (ending.Of format)) = image_format_number format
 ending_number (Some ending.Dfu) = 5
 
--- The line of a place, or 0 without one.
+-- The line of a place, or 0 if there is no place.
 abbrev pub line_number : Option Place → ℕ
 line_number None = 0
 line_number (Some place) = place.line
 
--- The column of a place, or 0 without one.
+-- The column of a place, or 0 if there is no place.
 abbrev pub column_number : Option Place → ℕ
 column_number None = 0
 column_number (Some place) = place.column

@@ -1,4 +1,4 @@
--- The numbers that C gets if a call is refused.
+-- Numbers that C gets from refused calls.
 use Rattle.std.specs.Prelude.{◌≡◌, ℤ, negsuc}
 use Rattle.dfu_wire.specs.declared.fault.WireFault.TheVariants as wire
 use Rattle.dfu_suffix.specs.declared.fault.SuffixFault.TheVariants as suffix
@@ -71,15 +71,15 @@ refused_number (refusal.DfuseFile dfuse.Trailing) = negsuc 85
 refused_number (refusal.Image image.NoSuchSetting) = negsuc 86
 refused_number (refusal.Image image.TooManyElements) = negsuc 87
 
--- A buffer that is too short for a body is refused with -43.
+-- -43: the buffer is too short for a body.
 abbrev pub no_room : ℤ
 no_room = negsuc 42
 
--- A number of no range of the map is refused with -44.
+-- -44: the map has no range with the number.
 abbrev pub no_range : ℤ
 no_range = negsuc 43
 
--- A call is refused by the first fault of what it read, with the number of that fault.
+-- A call is refused by the first fault of what it read, with that fault's number.
 pub record IsRefusedFor {F : Type 0} (why : F → Refusal) (first : F → Type 0) (result : ℤ) : Type 0 where
   pub fault : F
   pub is_first : first fault

@@ -1,9 +1,9 @@
-//! Action that is to be done next, written for C.
+//! The next action, written for C.
 
 ghost use Rattle.std.specs.Prelude.{◌≤◌, List, length, ℕ};
 ghost use Rattle.dfu_host.specs.Phases.{Deed};
-ghost use Rattle.dfu_host.specs.InParts.{BodyIsCut};
-ghost use Rattle.dfu_host.specs.Wire.{Spells};
+ghost use Rattle.dfu_host.specs.InParts.{BodyIsSliceOfPayload};
+ghost use Rattle.dfu_host.specs.Wire.{SpellsDeed};
 ghost use Rattle.dfu_host_core.specs.Actions.{ActionRecord};
 ghost use Rattle.dfu_host_core.specs.Calls.{HostNextResult};
 
@@ -13,10 +13,10 @@ use crate::reports::report_numbers;
 use dfu_host::Action;
 use dfu_host_core::{DfuAction, DfuSession};
 
-/// The record of an action. Its body, if it has one, begins there in the payload.
-#[tactic(auto, using(crate::proofs::Bodies::cut_ends))]
+/// Makes the record of an action. The body, if there is one, begins at `from` in the payload.
+#[tactic(auto, using(crate::proofs::Bodies::body_ends_in_payload))]
 fn record_of(action: Action<'_>, from: usize) -> DfuAction
-    ensures { (deed : Deed) (payload : List ℕ) → Spells deed action.entry → BodyIsCut payload from action.entry → from ≤ length payload
+    ensures { (deed : Deed) (payload : List ℕ) → SpellsDeed deed action.entry → BodyIsSliceOfPayload payload from action.entry → from ≤ length payload
         → ActionRecord payload from deed result }
 {
     let none = DfuAction {
@@ -53,8 +53,8 @@ fn record_of(action: Action<'_>, from: usize) -> DfuAction
     }
 }
 
-/// Writes what a session wants done next: 0 or `DFU_NO_SESSION`.
-#[tactic(auto, using(crate::proofs::Bodies::begins_within))]
+/// Writes the next action of a session. Returns 0 or `DFU_NO_SESSION`.
+#[tactic(auto, using(crate::proofs::Bodies::body_begins_in_payload))]
 #[unsafe(no_mangle)]
 pub extern "C" fn dfu_host_next(session: &DfuSession, payload: &[u8], action: &mut DfuAction) -> i32
     ensures outcome { HostNextResult session.now payload.entry result action.old action.new }

@@ -2,14 +2,14 @@
 
 ghost use Rattle.std.specs.Prelude.{◌≡◌, ◌⊎◌, ◌↔◌, Err, IfErr, IfOk, List, Some, pos, ℕ};
 ghost use Rattle.dfu_wire.specs.Functional.{IsFunctional};
-ghost use Rattle.dfu_host.specs.Download.{first_download_fault, first_install_fault, first_verify_fault, to_install};
-ghost use Rattle.dfu_host.specs.Host.{HostState, started};
+ghost use Rattle.dfu_host.specs.Download.{first_download_fault, first_install_fault, first_verify_fault, goal_of_install};
+ghost use Rattle.dfu_host.specs.Host.{HostState, host_for_goal};
 ghost use Rattle.dfu_host.specs.InParts.{host_of};
-ghost use Rattle.dfu_host.specs.Phases.{ToFetch, ToLoad, ToVerify};
+ghost use Rattle.dfu_host.specs.Phases.{FetchGoal, LoadGoal, VerifyGoal};
 ghost use Rattle.dfu_host.specs.Uploading.{first_upload_fault};
 ghost use Rattle.dfu_host.specs.declared.fault.HostFault.{HostFault};
 ghost use Rattle.dfu_host_core.specs.BeginCalls.{BeginResult, BeginUploadResult, IsInitialRecord, IsContent};
-ghost use Rattle.dfu_host_c.specs.Refusing.{HostRefuses, IsNoDescriptor, IsUnread, RefusesUpload};
+ghost use Rattle.dfu_host_c.specs.Refusing.{HostRefuses, IsNoDescriptor, FileOrDescriptorIsFaulty, RefusesUpload};
 ghost use Rattle.dfu_host_core.specs.Sessions.{limits_of};
 ghost use Rattle.dfu_host_c.specs.Ids.{ids_of};
 
@@ -29,11 +29,11 @@ struct Wanted<'f> {
     functional: Functional,
 }
 
-/// Reads a file and a descriptor, or gives the number of the refusal: the file's fault, else the descriptor's.
+/// Reads a file and a descriptor. Fails with the number of the file's fault, else of the descriptor's.
 fn read_both<'f>(file: &'f [u8], descriptor: &[u8]) -> Result<Wanted<'f>, i32>
     ensures file { IfOk result (λ w. IsContent w.file file.now) }
     ensures functional { IfOk result (λ w. IsFunctional w.functional descriptor.now) }
-    ensures err { IfErr result (λ n. IsUnread file.now descriptor.now n) }
+    ensures err { IfErr result (λ n. FileOrDescriptorIsFaulty file.now descriptor.now n) }
 {
     let file = match file_in(file) {
         Ok(file) => file,
@@ -57,12 +57,12 @@ fn start(session: &mut DfuSession, host: &Session<'_>) -> i32
 impl<'f> Wanted<'f> {
     ghost use Rattle.dfu_host.specs.declared.fault.HostFault.{HostFault};
 
-    /// A host's session that installs the file, and if `compares` is set compares it too.
+    /// Makes a session that installs the file, and compares it too if `compares` is true.
     fn begin(&self, device: Ids, limits: Limits, compares: bool) -> Result<Session<'f>, HostFault>
         ensures refused { (fault : HostFault)
             → (result ≡ Err fault) ↔ (first_install_fault compares self.now.file self.now.functional device ≡ Some fault) }
         ensures started { IfOk result (λ s. (memory : List ℕ)
-            → host_of memory s ≡ started self.now.functional (to_install compares self.now.file.payload) limits) }
+            → host_of memory s ≡ host_for_goal self.now.functional (goal_of_install compares self.now.file.payload) limits) }
     {
         if compares {
             Session::download_verified(&self.file, &self.functional, device, limits)
@@ -72,7 +72,8 @@ impl<'f> Wanted<'f> {
     }
 }
 
-/// Begins a session that installs a file, and if `compares` is set compares it too: 0 or a refusal.
+/// Begins a session that installs a file, and compares it too if `compares` is true. Returns 0 or the number
+/// of a refusal.
 fn install(
     session: &mut DfuSession,
     file: &[u8],
@@ -81,9 +82,9 @@ fn install(
     limits: Limits,
     compares: bool,
 ) -> i32
-    ensures outcome { BeginResult (to_install compares) (first_install_fault compares) file.now descriptor.now device limits
+    ensures outcome { BeginResult (goal_of_install compares) (first_install_fault compares) file.now descriptor.now device limits
         result session.new
-        ⊎ (IsUnread file.now descriptor.now result × (session.new ≡ session.old))
+        ⊎ (FileOrDescriptorIsFaulty file.now descriptor.now result × (session.new ≡ session.old))
         ⊎ (HostRefuses (first_install_fault compares) file.now descriptor.now device result × (session.new ≡ session.old)) }
 {
     let wanted = match read_both(file, descriptor) {
@@ -96,7 +97,7 @@ fn install(
     }
 }
 
-/// Begins a download: 0 or a refusal.
+/// Begins a download of `file`, and writes the session to `session`. Returns 0 or the number of a refusal.
 #[unsafe(no_mangle)]
 pub extern "C" fn dfu_host_download(
     session: &mut DfuSession,
@@ -106,16 +107,16 @@ pub extern "C" fn dfu_host_download(
     actions: u32,
     restarts: u16,
 ) -> i32
-    ensures outcome { BeginResult ToLoad first_download_fault file.now descriptor.now (ids_of device.now)
+    ensures outcome { BeginResult LoadGoal first_download_fault file.now descriptor.now (ids_of device.now)
         (limits_of actions restarts) result session.new
-        ⊎ (IsUnread file.now descriptor.now result × (session.new ≡ session.old))
+        ⊎ (FileOrDescriptorIsFaulty file.now descriptor.now result × (session.new ≡ session.old))
         ⊎ (HostRefuses first_download_fault file.now descriptor.now (ids_of device.now) result × (session.new ≡ session.old)) }
 {
     let limits = Limits { actions, restarts };
     install(session, file, descriptor, device.ids(), limits, false)
 }
 
-/// Begins a download that is verified: 0 or a refusal.
+/// Begins a verified download of `file`, and writes the session to `session`. Returns 0 or the number of a refusal.
 #[unsafe(no_mangle)]
 pub extern "C" fn dfu_host_verified(
     session: &mut DfuSession,
@@ -125,16 +126,16 @@ pub extern "C" fn dfu_host_verified(
     actions: u32,
     restarts: u16,
 ) -> i32
-    ensures outcome { BeginResult ToVerify first_verify_fault file.now descriptor.now (ids_of device.now)
+    ensures outcome { BeginResult VerifyGoal first_verify_fault file.now descriptor.now (ids_of device.now)
         (limits_of actions restarts) result session.new
-        ⊎ (IsUnread file.now descriptor.now result × (session.new ≡ session.old))
+        ⊎ (FileOrDescriptorIsFaulty file.now descriptor.now result × (session.new ≡ session.old))
         ⊎ (HostRefuses first_verify_fault file.now descriptor.now (ids_of device.now) result × (session.new ≡ session.old)) }
 {
     let limits = Limits { actions, restarts };
     install(session, file, descriptor, device.ids(), limits, true)
 }
 
-/// Begins an upload: 0 or a refusal.
+/// Begins an upload, and writes the session to `session`. Returns 0 or the number of a refusal.
 #[unsafe(no_mangle)]
 pub extern "C" fn dfu_host_upload(
     session: &mut DfuSession,
@@ -142,7 +143,7 @@ pub extern "C" fn dfu_host_upload(
     actions: u32,
     restarts: u16,
 ) -> i32
-    ensures outcome { BeginUploadResult ToFetch first_upload_fault descriptor.now (limits_of actions restarts) result session.new
+    ensures outcome { BeginUploadResult FetchGoal first_upload_fault descriptor.now (limits_of actions restarts) result session.new
         ⊎ (IsNoDescriptor descriptor.now result × (session.new ≡ session.old))
         ⊎ (RefusesUpload first_upload_fault descriptor.now result × (session.new ≡ session.old)) }
 {

@@ -13,13 +13,13 @@ use crate::refusals::Refusal;
 use byteorder::{ByteOrder, LittleEndian};
 use dfu_suffix::{File, SuffixFault, read_small};
 
-/// `struct dfu_file`: what a file says. The header says what each number means.
+/// `struct dfu_file`: the fields of a file. The header says what each number means.
 #[repr(C)]
 #[derive(Drop)]
 pub struct DfuFile {
     /// Length of the payload in bytes, at most 16,777,200.
     pub payload: u64,
-    /// bLength: how many bytes the suffix has, 16 to 255.
+    /// bLength: length of the suffix in bytes, 16 to 255.
     pub suffix: u32,
     /// dwCRC.
     pub crc: u32,
@@ -33,7 +33,7 @@ pub struct DfuFile {
     pub dfu: u16,
 }
 
-/// The last four bytes as a number, the low one first.
+/// Returns the last four bytes as a number, the low byte first.
 fn crc_in(bytes: &[u8]) -> u32
     requires { 16 ≤ length bytes.now }
     ensures { result ≡ little_number 4 (drop (length bytes.now - 4) bytes.now) }
@@ -42,7 +42,7 @@ fn crc_in(bytes: &[u8]) -> u32
     LittleEndian::read_u32(last)
 }
 
-/// The record of a file that was read from these bytes.
+/// Makes the record of a file that was read from `bytes`.
 fn record_of(file: &File<'_>, bytes: &[u8]) -> DfuFile
     requires { 16 ≤ length bytes.now }
     ensures { result ≡ record_of file.now.payload file.now.ids file.now.dfu file.now.suffix bytes.now }
@@ -70,7 +70,7 @@ pub(crate) fn file_in(bytes: &[u8]) -> Result<File<'_>, SuffixFault>
     read_small(bytes)
 }
 
-/// Reads a file: 0, or its first fault.
+/// Reads `file` into `out`. Returns 0, or the number of its first fault.
 #[unsafe(no_mangle)]
 pub extern "C" fn dfu_host_file(file: &[u8], out: &mut DfuFile) -> i32
     ensures found { result ≡ pos 0 → (payload : List ℕ) × (ids : Ids) × (dfu : ℕ) × (extra : List ℕ) × IsFile payload ids dfu extra file.now

@@ -2,15 +2,15 @@
 
 ghost use Rattle.std.specs.Prelude.{◌≡◌, List, ℕ, IfSome, Some, None};
 ghost use Rattle.std.specs.Borrow.{Bor};
-ghost use Rattle.dfu_host.specs.Goals.{Carries};
+ghost use Rattle.dfu_host.specs.Goals.{CarriesPayload};
 ghost use Rattle.dfu_host_core.specs.Sessions.{goal_at};
 
 use dfu_host::Goal;
 
-/// Returns the goal of this number, over this payload; None if there is no such number.
+/// Returns the goal with that number, over the payload; None if no goal has it.
 pub(crate) fn goal_at<'f>(number: u32, payload: &'f [u8]) -> Option<Goal<'f>>
     ensures value { result ≡ goal_at number payload.entry }
-    ensures carries { IfSome result (λ goal. Carries payload.entry goal) }
+    ensures carries { IfSome result (λ goal. CarriesPayload payload.entry goal) }
 {
     match number {
         1 => Some(Goal::Load(payload)),
@@ -21,9 +21,9 @@ pub(crate) fn goal_at<'f>(number: u32, payload: &'f [u8]) -> Option<Goal<'f>>
     }
 }
 
-/// The number of what a session is for.
+/// Returns the number of a goal.
 pub(crate) fn goal_number(goal: Goal<'_>) -> u32
-    ensures { (payload : Bor (List ℕ)) → Carries payload goal.entry → goal_at result payload ≡ Some goal.entry }
+    ensures { (payload : Bor (List ℕ)) → CarriesPayload payload goal.entry → goal_at result payload ≡ Some goal.entry }
 {
     match goal {
         Goal::Load(_) => 1,

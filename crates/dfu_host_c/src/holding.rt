@@ -2,7 +2,7 @@
 
 ghost use Rattle.std.specs.Prelude.{◌≡◌, List, ℕ, IfSome, None, Some};
 ghost use Rattle.std.specs.Borrow.{Bor};
-ghost use Rattle.dfu_host.specs.Goals.{Carries};
+ghost use Rattle.dfu_host.specs.Goals.{CarriesPayload};
 ghost use Rattle.dfu_host.specs.declared.parts.Parts.{Parts};
 ghost use Rattle.dfu_host_core.specs.Sessions.{IsRecord, IsWritten, parts_of};
 
@@ -12,10 +12,10 @@ use crate::version::VERSION;
 use dfu_host::{Parts, Session};
 use dfu_host_core::DfuSession;
 
-/// The parts that a record has; None if there is no goal or no phase of its numbers.
+/// Returns the parts of a record; None if its numbers are those of no goal or no phase.
 fn parts_of<'f>(given: &DfuSession, payload: &'f [u8]) -> Option<Parts<'f>>
     ensures value { result ≡ parts_of given.now payload.entry }
-    ensures carries { IfSome result (λ parts. Carries payload.entry parts.goal) }
+    ensures carries { IfSome result (λ parts. CarriesPayload payload.entry parts.goal) }
 {
     let Some(goal) = goal_at(given.goal, payload) else {
         return None;
@@ -35,9 +35,10 @@ fn parts_of<'f>(given: &DfuSession, payload: &'f [u8]) -> Option<Parts<'f>>
     })
 }
 
-/// The session of a record over a payload; None if the record is not that of a session, or has another version.
+/// Returns the session of a record over a payload; None for another version, or if the record belongs to no
+/// session.
 pub(crate) fn session_of<'f>(given: &DfuSession, payload: &'f [u8]) -> Option<Session<'f>>
-    ensures some { IfSome result (λ s. IsRecord given.now payload.entry s × Carries payload.entry s.goal) }
+    ensures some { IfSome result (λ s. IsRecord given.now payload.entry s × CarriesPayload payload.entry s.goal) }
     ensures none { result ≡ None → (parts : Parts) → IsRecord given.now payload.entry parts → ⊥ }
 {
     if given.version != VERSION {
@@ -53,9 +54,9 @@ pub(crate) fn session_of<'f>(given: &DfuSession, payload: &'f [u8]) -> Option<Se
     Some(session)
 }
 
-/// The record of a session that keeps so many bytes.
+/// Makes the record of a session that keeps `kept` bytes.
 pub(crate) fn record_of(session: &Session<'_>, kept: u64) -> DfuSession
-    ensures says { (payload : Bor (List ℕ)) → Carries payload session.now.goal → IsRecord result payload session.now }
+    ensures says { (payload : Bor (List ℕ)) → CarriesPayload payload session.now.goal → IsRecord result payload session.now }
     ensures written { IsWritten result session.now }
     ensures kept { result.kept ≡ kept }
 {

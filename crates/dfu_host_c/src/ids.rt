@@ -18,7 +18,7 @@ pub struct DfuIds {
 }
 
 impl DfuIds {
-    /// The identifiers.
+    /// Returns the identifiers.
     pub(crate) fn ids(&self) -> Ids
         ensures { result ≡ ids_of self.now }
     {

@@ -1,26 +1,26 @@
-//! Look of a file without a DFU suffix, as a record for C: `include/dfu_image.h` describes this call.
+//! The record for C of a file without a DFU suffix: `include/dfu_image.h` describes this call.
 
 ghost use Rattle.std.specs.Prelude.{◌≡◌};
-ghost use Rattle.dfu_formats.specs.images.Looks.{look_of};
+ghost use Rattle.dfu_formats.specs.images.Looks.{look_at_file};
 ghost use Rattle.dfu_host_c.specs.Looks.{ending_number, image_format_number, looks_number, record_of_look};
 
 use dfu_formats::images::{Ending, Format, Look, Looks, NotImage, look_at};
 
-/// `struct dfu_look`: what a look at a file finds. The header says what each number means.
+/// `struct dfu_look`: the result of a look at a file. The header says what each number means.
 #[repr(C)]
 #[derive(Drop)]
 pub struct DfuLook {
     /// Kind of the file, 0 to 9.
     pub looks: u32,
-    /// Format that the ending of its name says, 0 to 5.
+    /// Format of the name's ending, 0 to 5.
     pub named: u32,
-    /// The line of the first byte that no record has there, from 1; 0 if there is none.
+    /// Line of the first byte that no record allows there, from 1; 0 if there is none.
     pub line: u64,
-    /// Its place in the line, from 1; 0 if there is none.
+    /// Column of the place in its line, from 1; 0 without a place.
     pub column: u64,
 }
 
-/// The number of a format, 1 to 4.
+/// Returns the number of a format, 1 to 4.
 fn image_format_number(format: Format) -> u32
     ensures { result ≡ image_format_number format }
 {
@@ -32,7 +32,7 @@ fn image_format_number(format: Format) -> u32
     })
 }
 
-/// The number of what a file is.
+/// Returns the number of a file's kind.
 fn looks_number(looks: Looks) -> u32
     ensures { result ≡ looks_number looks }
 {
@@ -47,7 +47,7 @@ fn looks_number(looks: Looks) -> u32
     }
 }
 
-/// The number of what a name says.
+/// Returns the number of a name's ending.
 fn ending_number(ending: Option<Ending>) -> u32
     ensures { result ≡ ending_number ending }
 {
@@ -58,7 +58,7 @@ fn ending_number(ending: Option<Ending>) -> u32
     }
 }
 
-/// The record of a look.
+/// Makes the record of a look.
 fn record_of_look(look: Look) -> DfuLook
     ensures { result ≡ record_of_look look }
 {
@@ -74,11 +74,11 @@ fn record_of_look(look: Look) -> DfuLook
     }
 }
 
-/// Looks at a file with a name, and gives the number of what it is.
+/// Looks at a file with a name, and returns the number of its kind.
 #[unsafe(no_mangle)]
 pub extern "C" fn dfu_image_look(file: &[u8], name: &[u8], look: &mut DfuLook) -> u32
-    ensures number { result ≡ looks_number (look_of file.now name.now).looks }
-    ensures record { look.new ≡ record_of_look (look_of file.now name.now) }
+    ensures number { result ≡ looks_number (look_at_file file.now name.now).looks }
+    ensures record { look.new ≡ record_of_look (look_at_file file.now name.now) }
 {
     *look = record_of_look(look_at(file, name));
     look.looks

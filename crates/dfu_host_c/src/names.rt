@@ -7,7 +7,8 @@ ghost use Rattle.dfu_host_c.specs.ReportNames.{name_at};
 use crate::reports::report_at;
 use dfu_host::Report;
 
-/// The name of a report, as `Report::name`. All names are cut from one text: pointers to several would be data, and the library has none.
+/// Returns the name of a report, as `Report::name` does. All names are cut from one text, because pointers to several would be data, and
+/// the library has none.
 fn name_of(report: Report) -> &'static [u8]
     ensures name { result.now ≡ report_name report }
 {
@@ -29,7 +30,7 @@ fn name_of(report: Report) -> &'static [u8]
     &names[from..to]
 }
 
-/// The name of the report of this number; no bytes if there is no such report.
+/// Returns the name of the report with that number; no bytes if no report has it.
 fn name_at(number: u32) -> &'static [u8]
     ensures name { result.now ≡ name_at number }
     ensures len { length result.now ≤ 15 }
@@ -40,8 +41,8 @@ fn name_at(number: u32) -> &'static [u8]
     }
 }
 
-/// Writes the name of a report and gives its length. Writes nothing and gives 0 if there is no such report, or if the name
-/// is longer than the buffer.
+/// Writes the name of report number `report` to `out` and returns its length. Writes nothing and returns 0 if no report has the number, or
+/// if the name is longer than the buffer.
 #[unsafe(no_mangle)]
 pub extern "C" fn dfu_host_name(report: u32, out: &mut [u8]) -> i32
     ensures named { length (name_at report) ≤ length out.old → (result ≡ pos (length (name_at report)))

@@ -9,7 +9,7 @@ use crate::reports::{report_at, report_numbers};
 use dfu_host::{Phase, Report};
 use dfu_host_core::EncodedPhase;
 
-/// The phase of these numbers; None if there is no such phase.
+/// Returns the phase with those numbers; None if no phase has them.
 pub(crate) fn phase_at(which: u32, number: u64, more: u32) -> Option<Phase>
     ensures { result ≡ phase_at which number more }
 {
@@ -56,7 +56,7 @@ pub(crate) fn phase_at(which: u32, number: u64, more: u32) -> Option<Phase>
     }
 }
 
-/// The part of this number; None if it is over 65,535.
+/// Returns the part with that number; None over 65,535.
 fn part_at(number: u64) -> Option<u16>
     ensures { result ≡ part_at number }
 {
@@ -67,7 +67,7 @@ fn part_at(number: u64) -> Option<u16>
     }
 }
 
-/// The numbers of a phase.
+/// Returns the numbers of a phase.
 pub(crate) fn numbers_of(phase: Phase) -> EncodedPhase
     ensures phase { phase_at result.which result.number result.more ≡ Some phase }
     ensures numbers { result ≡ numbers_in phase }

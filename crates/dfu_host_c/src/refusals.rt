@@ -10,16 +10,16 @@ use dfu_suffix::SuffixFault;
 use dfu_wire::WireFault;
 use dfuse_host::PlanFault;
 
-/// The record is not that of a session over this payload and buffer, or over this map and image.
+/// The record belongs to no session over the payload and the buffer, or over the map and the image.
 pub(crate) const NO_SESSION: i32 = -41;
 
-/// There is no such number of what is seen.
+/// No result has the number `seen`.
 pub(crate) const NO_SEEN: i32 = -42;
 
 /// The buffer for a body has no room for it.
 pub(crate) const NO_ROOM: i32 = -43;
 
-/// The map has no range of this number.
+/// The map has no range with the number.
 pub(crate) const NO_RANGE: i32 = -44;
 
 /// Reasons for which a call is refused.
@@ -27,13 +27,13 @@ pub(crate) const NO_RANGE: i32 = -44;
 pub(crate) enum Refusal {
     /// The bytes are no file.
     File(SuffixFault),
-    /// The host begins no such session.
+    /// The host refuses the session.
     Host(HostFault),
     /// The bytes are no descriptor.
     Wire(WireFault),
     /// The string is no memory map.
     Map(MapFault),
-    /// The host of DfuSe begins no session by this plan.
+    /// The host of DfuSe refuses the plan.
     Plan(PlanFault),
     /// The bytes are no DfuSe file.
     DfuseFile(FileFault),
@@ -42,7 +42,7 @@ pub(crate) enum Refusal {
 }
 
 impl Refusal {
-    /// The number of the refusal, -1 to -88.
+    /// Returns the number of the refusal, -1 to -88.
     pub(crate) fn number(self) -> i32
         ensures { result ≡ refused_number self }
     {

@@ -8,7 +8,7 @@ use crate::tables::numbers;
 use dfu_host::Report;
 use dfu_wire::Code;
 
-/// The status code of a number; None if it is over 15.
+/// Returns the status code with that number; None over 15.
 pub(crate) fn code_at(number: u32) -> Option<Code>
     ensures { result ≡ code_at number }
 {
@@ -18,7 +18,7 @@ pub(crate) fn code_at(number: u32) -> Option<Code>
     Code::from_byte(number as u8).ok()
 }
 
-/// The number of a status code.
+/// Returns the number of a status code.
 pub(crate) fn code_number(code: Code) -> u32
     ensures code { code_at result ≡ Some code }
     ensures byte { result ≡ code_byte code }
@@ -36,14 +36,14 @@ macro_rules! reports {
     };
 }
 
-/// The report of a number; None if it is 0 or over 11, or if Refused has no such code.
+/// Returns the report with that number; None for 0, over 11, or if Refused has no such code.
 pub(crate) fn report_at(number: u64, code: u32) -> Option<Report>
     ensures { result ≡ report_at number code }
 {
     reports!(read number, code)
 }
 
-/// The number of a report, and its code, which is 0 except for Refused.
+/// Returns the number of a report, and that of its code, which is 0 except for Refused.
 pub(crate) fn report_numbers(report: Report) -> (u32, u32)
     ensures report { report_at result.0 result.1 ≡ Some report }
     ensures numbers { result ≡ report_numbers report }

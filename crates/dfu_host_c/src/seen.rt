@@ -7,7 +7,8 @@ ghost use Rattle.dfu_host_c.specs.dfuse.SeenNumbers.{dfuse_seen_at};
 use dfu_host::Seen;
 use dfuse_host::Seen as DfuseSeen;
 
-/// Result of an action by its number: what both hosts see, and what only this one does. None if there is no such number.
+/// Result of an action by its number: the results that both hosts see, and those that only this one sees. None if no
+/// result has the number.
 macro_rules! numbered {
     ($kind:ident, $number:ident, $bytes:ident $(, $own:literal => $name:ident)*) => {
         match $number {
@@ -23,14 +24,14 @@ macro_rules! numbered {
     };
 }
 
-/// Returns the result of an action by its number, 0 to 7. Number 1 has these bytes. None if the number is over 7.
+/// Returns the result of an action by its number, 0 to 7; None over 7. Number 1 has the given bytes.
 pub(crate) fn seen_at<'s>(number: u32, bytes: &'s [u8]) -> Option<Seen<'s>>
     ensures { result ≡ seen_at number bytes.entry }
 {
     numbered!(Seen, number, bytes, 5 => WasReset, 7 => Left)
 }
 
-/// Returns the result that the host of DfuSe sees, by its number. Number 1 has these bytes. None if there is no such number.
+/// Returns the result that the host of DfuSe sees, by its number; None if no result has it. Number 1 has the given bytes.
 pub(crate) fn dfuse_seen_at<'s>(number: u32, bytes: &'s [u8]) -> Option<DfuseSeen<'s>>
     ensures { result ≡ dfuse_seen_at number bytes.entry }
 {

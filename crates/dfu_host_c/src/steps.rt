@@ -2,10 +2,10 @@
 
 ghost use Rattle.std.specs.Prelude.{◌≤◌, List, ℕ, length};
 ghost use Rattle.std.specs.Borrow.{Bor};
-ghost use Rattle.dfu_host.specs.Goals.{Carries};
+ghost use Rattle.dfu_host.specs.Goals.{CarriesPayload};
 ghost use Rattle.dfu_host.specs.Host.{HostRow};
 ghost use Rattle.dfu_host.specs.Rooms.{FetchResultIn};
-ghost use Rattle.dfu_host.specs.Storing.{Stores};
+ghost use Rattle.dfu_host.specs.Storing.{RoomAfterSeen};
 ghost use Rattle.dfu_host_core.specs.Calls.{HostAbortResult, HostTakeResult};
 ghost use Rattle.dfu_host_core.specs.Sessions.{IsRecordWithParts, IsWritten, host_in};
 
@@ -15,22 +15,22 @@ use crate::seen::seen_at;
 use dfu_host::{Seen, Session};
 use dfu_host_core::DfuSession;
 
-/// One step of a session whose record is this: the record that follows.
+/// Takes `seen` as one step of the session of record `given`, and returns the record that follows.
 fn step(given: &DfuSession, host: &mut Session<'_>, kept: &mut [u8], seen: Seen<'_>) -> DfuSession
     requires { given.now.kept ≤ length kept.old }
     ensures row { HostRow (host_in given.now kept.old host.old) seen.entry (host_in result kept.new host.new) }
     ensures room { FetchResultIn (length kept.old) (host_in given.now kept.old host.old)
         (host_in given.now kept.old host.old).phase seen.entry
         (host_in result kept.new host.new) }
-    ensures stores { Stores host.old.transfer host.old.phase seen.entry given.now.kept kept.old result.kept kept.new }
+    ensures stores { RoomAfterSeen host.old.transfer host.old.phase seen.entry given.now.kept kept.old result.kept kept.new }
     ensures written { IsWritten result host.new }
-    ensures held { (payload : Bor (List ℕ)) → Carries payload host.old.goal → IsRecordWithParts result payload kept.new host.new }
+    ensures held { (payload : Bor (List ℕ)) → CarriesPayload payload host.old.goal → IsRecordWithParts result payload kept.new host.new }
 {
     let count = host.take(kept, given.kept as usize, seen);
     record_of(host, count as u64)
 }
 
-/// Gives a session what came of its action: 0, `DFU_NO_SESSION` or `DFU_NO_SEEN`.
+/// Gives a session the result of its action. Returns 0, `DFU_NO_SESSION` or `DFU_NO_SEEN`.
 #[unsafe(no_mangle)]
 pub extern "C" fn dfu_host_take(
     session: &mut DfuSession,
@@ -54,7 +54,7 @@ pub extern "C" fn dfu_host_take(
     0
 }
 
-/// Gives a session up: 0 or `DFU_NO_SESSION`.
+/// Gives a session up. Returns 0 or `DFU_NO_SESSION`.
 #[unsafe(no_mangle)]
 pub extern "C" fn dfu_host_abort(session: &mut DfuSession, payload: &[u8]) -> i32
     ensures outcome { HostAbortResult session.old payload.entry result session.new }

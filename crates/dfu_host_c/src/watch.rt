@@ -1,6 +1,7 @@
-//! Records of what a program keeps and sees of a device beside the session, for C.
+//! Records for C of a watch over a session, and of the facts of its device.
 
-/// `struct dfu_watch`: what has come of a session's requests so far. All 0 before the first session.
+/// `struct dfu_watch`: what has come of a session's requests so far. All numbers are 0 before the first
+/// session.
 #[repr(C)]
 #[derive(Drop)]
 pub struct DfuWatch {
@@ -16,7 +17,7 @@ pub struct DfuWatch {
     pub anew: u8,
 }
 
-/// `struct dfu_facts`: what the program sees of the device after an action. 0 is no, any other number is yes.
+/// `struct dfu_facts`: the facts of a device after an action. 0 is no, any other number is yes.
 #[repr(C)]
 #[derive(Drop)]
 pub struct DfuFacts {
@@ -24,16 +25,16 @@ pub struct DfuFacts {
     pub reached: u8,
     /// The device left, and did not come back in time.
     pub gone: u8,
-    /// It came back with several settings, and the program can't tell which one to use.
+    /// The device came back with several settings, and the program can't tell which one to use.
     pub many: u8,
     /// The user has stopped the session.
     pub stopped: u8,
     /// A device is open.
     pub open: u8,
-    /// It is in DFU mode.
+    /// The device is in DFU mode.
     pub upgrade: u8,
-    /// It is the same device as the one first found in its mode.
+    /// The device is the one that was first found in its mode.
     pub again: u8,
-    /// Its functional descriptor is the one that the session began with.
+    /// The device's functional descriptor is the one that the session began with.
     pub same: u8,
 }

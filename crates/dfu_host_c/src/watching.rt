@@ -2,20 +2,20 @@
 
 ghost use Rattle.std.specs.Prelude.{◌≡◌, ◌<◌, ◌≢◌, if◌then◌else◌};
 ghost use Rattle.dfu_host_c.specs.Watch.{
-  as_number,
+  c_number_of_bool,
   watch_restarted,
-  counted_to,
+  capped_count,
   course_after,
   course_before,
-  detaches,
+  detach_number,
   is_download,
   is_of_image,
-  is_other,
-  is_reached,
+  is_other_device,
+  is_request_out,
   resets_after,
   silent_after,
   stalled_after,
-  watched,
+  watch_after_action,
 };
 
 use crate::watch::{DfuFacts, DfuWatch};
@@ -59,14 +59,14 @@ fn is_of_image(action: &DfuAction) -> bool
 
 /// Returns whether a request went out to the device.
 fn is_reached(action: &DfuAction, facts: &DfuFacts) -> bool
-    ensures { result ≡ is_reached action.now facts.now }
+    ensures { result ≡ is_request_out action.now facts.now }
 {
     action.what == 0 && facts.reached != 0
 }
 
-/// The next number, up to the most that counts.
+/// Returns the next number, but at most `most`.
 pub(crate) fn counted(number: u32, most: u32) -> u32
-    ensures { result ≡ counted_to number most }
+    ensures { result ≡ capped_count number most }
 {
     if number < most { number + 1 } else { number }
 }
@@ -90,7 +90,7 @@ pub extern "C" fn dfu_watch_before(watch: &DfuWatch, action: &DfuAction, by_anot
 /// request in run-time mode and no reset followed a stall yet, else 0.
 #[unsafe(no_mangle)]
 pub extern "C" fn dfu_watch_detaches(watch: &DfuWatch) -> u32
-    ensures { result ≡ detaches watch.now }
+    ensures { result ≡ detach_number watch.now }
 {
     u32::from(watch.stalled != 0 && watch.resets == 0)
 }
@@ -135,7 +135,7 @@ fn stalled_after(watch: &DfuWatch, action: &DfuAction, seen: u32, facts: &DfuFac
 
 /// Returns the record after an action.
 fn watched(watch: &DfuWatch, action: &DfuAction, seen: u32, facts: &DfuFacts) -> DfuWatch
-    ensures { result ≡ watched watch.now action.now seen facts.now }
+    ensures { result ≡ watch_after_action watch.now action.now seen facts.now }
 {
     DfuWatch {
         silent: silent_after(watch, action, seen),
@@ -149,15 +149,15 @@ fn watched(watch: &DfuWatch, action: &DfuAction, seen: u32, facts: &DfuFacts) ->
 /// Returns whether the device that is open is another one than the session's. Once a DNLOAD was sent, a device in run-time mode may run
 /// another image, and is not compared.
 fn is_other(watch: &DfuWatch, facts: &DfuFacts) -> bool
-    ensures { result ≡ is_other watch.now facts.now }
+    ensures { result ≡ is_other_device watch.now facts.now }
 {
     facts.open != 0 && facts.again == 0 && (facts.upgrade != 0 || watch.sent == 0)
 }
 
-/// Returns whether the device that is open gets no request, since it is another one than the session's: 1, or 0.
+/// Returns 1 if the open device is another one than the session's, so that it gets no request, else 0.
 #[unsafe(no_mangle)]
 pub extern "C" fn dfu_watch_is_other(watch: &DfuWatch, facts: &DfuFacts) -> u32
-    ensures { result ≡ as_number (is_other watch.now facts.now) }
+    ensures { result ≡ c_number_of_bool (is_other_device watch.now facts.now) }
 {
     u32::from(is_other(watch, facts))
 }
@@ -187,8 +187,8 @@ fn course(watch: &DfuWatch, facts: &DfuFacts) -> u32
     }
 }
 
-/// Returns the course after an action of which this was seen, and of the device these facts: 0 to go on, 1 to begin another session in
-/// place of this one, 2 to 5 for an end of the session. If it begins anew, the record has that.
+/// Returns the course after an action, by what was seen of it and by the facts of the device: 0 to go on, 1 to begin another session
+/// in place of this one, 2 to 5 for an end of the session. Course 1 is noted in the record.
 #[unsafe(no_mangle)]
 pub extern "C" fn dfu_watch_after(
     watch: &mut DfuWatch,
@@ -196,8 +196,8 @@ pub extern "C" fn dfu_watch_after(
     seen: u32,
     facts: &DfuFacts,
 ) -> u32
-    ensures course { result ≡ course_after (watched watch.old action.now seen facts.now) facts.now }
-    ensures kept { watch.new ≡ watch_restarted result (watched watch.old action.now seen facts.now) }
+    ensures course { result ≡ course_after (watch_after_action watch.old action.now seen facts.now) facts.now }
+    ensures kept { watch.new ≡ watch_restarted result (watch_after_action watch.old action.now seen facts.now) }
     // A device that has answered nothing 24 times in a row gets no further request.
     ensures silence { result < 2 → watch.new.silent < 24 }
     // Another session is begun once, and only before anything of an image was sent.

@@ -8,26 +8,26 @@ use Rattle.dfu_suffix.specs.Grammar.{Content, IsFile}
 use Rattle.dfu_host.specs.declared.fault.HostFault.{HostFault}
 use Rattle.dfu_host.specs.declared.limits.Limits.{Limits}
 use Rattle.dfu_host.specs.declared.parts.Parts.{Parts}
-use Rattle.dfu_host.specs.Goals.{Carries}
-use Rattle.dfu_host.specs.Host.{HostState, started}
+use Rattle.dfu_host.specs.Goals.{CarriesPayload}
+use Rattle.dfu_host.specs.Host.{HostState, host_for_goal}
 use Rattle.dfu_host.specs.InParts.{host_of}
 use Rattle.dfu_host.specs.Phases.{Goal}
 use Rattle.dfu_host_core.specs.Sessions.{IsRecord, IsWritten}
 use Rattle.dfu_host_core.specs.declared.session.DfuSession.{DfuSession}
 
--- The record is that of a session that begins as this host and keeps no bytes yet.
+-- The record is that of a session that begins as the host `start`, and keeps no bytes yet.
 pub record IsInitialRecord (r : DfuSession) (start : HostState) : Type 0 where
   pub parts : Parts
-  pub stands : (payload : Bor (List ℕ)) → Carries payload parts.goal → IsRecord r payload parts
+  pub stands : (payload : Bor (List ℕ)) → CarriesPayload payload parts.goal → IsRecord r payload parts
   pub written : IsWritten r parts
   pub nothing : r.kept ≡ 0
   pub begins : (memory : List ℕ) → host_of memory parts ≡ start
 
--- The bytes are a file with this content.
+-- The bytes are a file with the content.
 abbrev pub IsContent : Content → List ℕ → Type 0
 IsContent c bytes = (extra : List ℕ) × IsFile c.payload c.ids c.dfu extra bytes × (c.suffix ≡ 16 + length extra)
 
--- A session was begun on a file and a descriptor that have none of these faults. Its goal is this one, with the file's payload.
+-- A session was begun on a file and a descriptor without a fault of `first`. Its goal is the one that `to` makes of the file's payload.
 pub record BeginResult (to : List ℕ → Goal) (first : Content → Functional → Ids → Option HostFault) (file descriptor : List ℕ)
     (device : Ids)
     (limits : Limits) (result : ℤ) (r' : DfuSession) : Type 0 where
@@ -36,14 +36,14 @@ pub record BeginResult (to : List ℕ → Goal) (first : Content → Functional 
   pub is_content : IsContent content file
   pub is_functional : IsFunctional functional descriptor
   pub accepted : first content functional device ≡ None
-  pub begun : IsInitialRecord r' (started functional (to content.payload) limits)
+  pub begun : IsInitialRecord r' (host_for_goal functional (to content.payload) limits)
   pub number_is : result ≡ pos 0
 
--- An upload was begun by a descriptor that has none of these faults.
+-- An upload was begun by a descriptor without a fault of `first`.
 pub record BeginUploadResult (to : Goal) (first : Functional → Option HostFault) (descriptor : List ℕ) (limits : Limits) (result : ℤ)
     (r' : DfuSession) : Type 0 where
   pub functional : Functional
   pub is_functional : IsFunctional functional descriptor
   pub accepted : first functional ≡ None
-  pub begun : IsInitialRecord r' (started functional to limits)
+  pub begun : IsInitialRecord r' (host_for_goal functional to limits)
   pub number_is : result ≡ pos 0

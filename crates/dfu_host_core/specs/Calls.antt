@@ -1,13 +1,13 @@
--- Result of a call.
+-- Results of calls on a session in C.
 use Rattle.std.specs.Prelude.{◌≡◌, ◌⊎◌, ℕ, ℤ, pos, List, Some, None, length}
 use Rattle.std.specs.Borrow.{Bor}
 use Rattle.dfu_host.specs.declared.parts.Parts.{Parts}
 use Rattle.dfu_host.specs.declared.seen.Seen.{Seen}
-use Rattle.dfu_host.specs.Host.{HostRow, aborted}
+use Rattle.dfu_host.specs.Host.{HostRow, aborted_host}
 use Rattle.dfu_host.specs.Goals.{payload_of}
 use Rattle.dfu_host.specs.InParts.{body_offset, host_of}
 use Rattle.dfu_host.specs.Rooms.{FetchResultIn}
-use Rattle.dfu_host.specs.Storing.{Stores}
+use Rattle.dfu_host.specs.Storing.{RoomAfterSeen}
 use Rattle.dfu_host.specs.Table.{deed}
 use Rattle.dfu_host_core.specs.Actions.{ActionRecord}
 use Rattle.dfu_host_core.specs.Numbers.{no_session, no_seen}
@@ -16,8 +16,8 @@ use Rattle.dfu_host_core.specs.SeenNumbers.{seen_at}
 use Rattle.dfu_host_core.specs.declared.action.DfuAction.{DfuAction}
 use Rattle.dfu_host_core.specs.declared.session.DfuSession.{DfuSession}
 
--- The session of a record took what was seen, as a row of the host's table. A part of an upload was stored if the buffer has room for it;
--- else the host took it as a part for which there is no memory.
+-- The session of a record took a result, by a row of the host's table. A part of an upload was stored if the buffer had room for it; else
+-- the host took it as a part without memory.
 pub record TakeSeenResult (r r' : DfuSession) (payload : Bor (List ℕ)) (buffer buffer' : List ℕ) (seen : ℕ) (bytes : Bor (List ℕ)) : Type 0 where
   pub parts : Parts
   pub word : Seen
@@ -28,32 +28,32 @@ pub record TakeSeenResult (r r' : DfuSession) (payload : Bor (List ℕ)) (buffer
   pub written : IsWritten r' next
   pub row : HostRow (host_in r buffer parts) word (host_in r' buffer' next)
   pub room : FetchResultIn (length buffer) (host_in r buffer parts) (host_in r buffer parts).phase word (host_in r' buffer' next)
-  pub stores : Stores parts.transfer parts.phase word r.kept buffer r'.kept buffer'
+  pub stores : RoomAfterSeen parts.transfer parts.phase word r.kept buffer r'.kept buffer'
 
--- The record and the buffer are those of a session over this payload.
+-- The record and the buffer belong to a session over the payload.
 pub record IsSessionRecord (r : DfuSession) (payload : Bor (List ℕ)) (buffer : List ℕ) : Type 0 where
   pub parts : Parts
   pub held : IsRecordWithParts r payload buffer parts
 
--- The record and the buffer are not those of a session over this payload.
-abbrev pub IsNoRecord : DfuSession → Bor (List ℕ) → (buffer : List ℕ) → Type 0
-IsNoRecord r payload buffer = (parts : Parts) → IsRecordWithParts r payload buffer parts → ⊥
+-- The record and the buffer belong to no session over the payload.
+abbrev pub RecordOrBufferIsNoSession : DfuSession → Bor (List ℕ) → (buffer : List ℕ) → Type 0
+RecordOrBufferIsNoSession r payload buffer = (parts : Parts) → IsRecordWithParts r payload buffer parts → ⊥
 
--- The record is not that of a session over this payload.
-abbrev pub NoRecord : DfuSession → Bor (List ℕ) → Type 0
-NoRecord r payload = (parts : Parts) → IsRecord r payload parts → ⊥
+-- The record belongs to no session over the payload.
+abbrev pub RecordIsNoSession : DfuSession → Bor (List ℕ) → Type 0
+RecordIsNoSession r payload = (parts : Parts) → IsRecord r payload parts → ⊥
 
--- The session of a record was given up. It keeps as many bytes as before.
+-- The session of a record was given up. The number of bytes that it keeps stays.
 pub record AbortedRecord (r r' : DfuSession) (payload : Bor (List ℕ)) : Type 0 where
   pub parts : Parts
   pub next : Parts
   pub before : IsRecord r payload parts
   pub later : IsRecord r' payload next
   pub written : IsWritten r' next
-  pub same : (memory : List ℕ) → host_of memory next ≡ aborted (host_of memory parts)
+  pub same : (memory : List ℕ) → host_of memory next ≡ aborted_host (host_of memory parts)
   pub kept : r'.kept ≡ r.kept
 
--- The record of an action says what the session of a record does next: the body of what it sends is cut from its payload.
+-- The record of an action says what the session of a record does next; a body is cut from the payload.
 pub record IsNextAction (r : DfuSession) (payload : Bor (List ℕ)) (a : DfuAction) : Type 0 where
   pub parts : Parts
   pub stands : IsRecord r payload parts
@@ -61,17 +61,19 @@ pub record IsNextAction (r : DfuSession) (payload : Bor (List ℕ)) (a : DfuActi
       → ActionRecord (payload_of parts.goal) (body_offset parts.transfer parts.phase)
       (deed (host_of memory parts).task (host_of memory parts).phase) a
 
--- Result of dfu_host_take: the session took what was seen; or the record is no session's, or there is no such `seen`, and nothing changes.
+-- Result of dfu_host_take: the session took the result `seen`. If the record belongs to no session, or no result has the number `seen`,
+-- nothing changes.
 abbrev pub HostTakeResult : DfuSession → Bor (List ℕ) → (buffer : List ℕ) → (seen : ℕ) → Bor (List ℕ) → ℤ → DfuSession → (buffer' : List ℕ)
     → Type 0
 HostTakeResult r payload buffer seen bytes n r' buffer' = ((n ≡ pos 0) × TakeSeenResult r r' payload buffer buffer' seen bytes)
-    ⊎ ((n ≡ no_session) × IsNoRecord r payload buffer × (r' ≡ r) × (buffer' ≡ buffer))
+    ⊎ ((n ≡ no_session) × RecordOrBufferIsNoSession r payload buffer × (r' ≡ r) × (buffer' ≡ buffer))
     ⊎ ((n ≡ no_seen) × IsSessionRecord r payload buffer × (seen_at seen bytes ≡ None) × (r' ≡ r) × (buffer' ≡ buffer))
 
--- Result of dfu_host_abort: the session was given up; or the record is no session's, and nothing changes.
+-- Result of dfu_host_abort: the session was given up. If the record belongs to no session, nothing changes.
 abbrev pub HostAbortResult : DfuSession → Bor (List ℕ) → ℤ → DfuSession → Type 0
-HostAbortResult r payload n r' = ((n ≡ pos 0) × AbortedRecord r r' payload) ⊎ ((n ≡ no_session) × NoRecord r payload × (r' ≡ r))
+HostAbortResult r payload n r' = ((n ≡ pos 0) × AbortedRecord r r' payload) ⊎ ((n ≡ no_session) × RecordIsNoSession r payload × (r' ≡ r))
 
--- Result of dfu_host_next: the record of the action says what the session does next; or the record is no session's, and nothing changes.
+-- Result of dfu_host_next: the record of the action says what the session does next. If the record of the session belongs to none, nothing
+-- changes.
 abbrev pub HostNextResult : DfuSession → Bor (List ℕ) → ℤ → (a a' : DfuAction) → Type 0
-HostNextResult r payload n a a' = ((n ≡ pos 0) × IsNextAction r payload a') ⊎ ((n ≡ no_session) × NoRecord r payload × (a' ≡ a))
+HostNextResult r payload n a a' = ((n ≡ pos 0) × IsNextAction r payload a') ⊎ ((n ≡ no_session) × RecordIsNoSession r payload × (a' ≡ a))

@@ -4,12 +4,12 @@ use Rattle.dfu_host.specs.declared.phase.Phase.{Phase}
 use Rattle.dfu_host.specs.declared.phase.Phase.TheVariants as phase
 use Rattle.dfu_host_core.specs.ReportNumbers.{report_at}
 
--- The part of this number; None if it is over 65,535.
+-- The part with that number; None over 65,535.
 abbrev pub part_at : ℕ → Option ℕ
 part_at number = if nat_lt number 65536 then Some number else None
 
--- The phase of the number `which`, 0 to 24, with the block, part or report of `number`, and with the poll time or code of `more`. None if
--- there is no such phase.
+-- The phase with the number `which`, 0 to 24. `number` is its block, part or report, `more` its poll time or code. None if no phase has
+-- these numbers.
 abbrev pub phase_at : (which number more : ℕ) → Option Phase
 phase_at which number more =
     if which == 0 then Some phase.Find

@@ -13,22 +13,23 @@ status_codes =
     code.Ok ∷ code.Target ∷ code.File ∷ code.Write ∷ code.Erase ∷ code.CheckErased ∷ code.Prog ∷ code.Verify ∷ code.Address ∷
     code.NotDone ∷ code.Firmware ∷ code.Vendor ∷ code.Usbr ∷ code.Por ∷ code.Unknown ∷ code.StalledPkt ∷ []
 
--- The status code of this number; None if it is over 15.
+-- The status code with that number; None over 15.
 abbrev pub code_at : ℕ → Option Code
 code_at number = slice_get status_codes number
 
--- The reports in the order of their numbers, 1 to 11. Refused has the code of this number.
+-- The reports in the order of their numbers, 1 to 11; Refused has the code with the number `code`.
 abbrev reports : (code : ℕ) → List (Option Report)
 reports code =
     None ∷ Some report.Installed ∷ Some report.Unconfirmed ∷ Some report.Aborted ∷ Some report.GaveUp ∷
     option_map report.Refused (code_at code) ∷ Some report.RestartsSpent ∷ Some report.Uploaded ∷ Some report.TooManyBlocks ∷
     Some report.NoMemory ∷ Some report.Verified ∷ Some report.Different ∷ []
 
--- The report of this number; None if there is no such report, or if Refused has no such code.
+-- The report with that number; None if no report has it, or if the number of the code of Refused is no code's.
 abbrev pub report_at : (number code : ℕ) → Option Report
 report_at number code = slice_index_or (reports code) number None
 
--- The number of a report, as `report_at` has it, and its code. Only Refused has a code; that of the others counts as 0.
+-- The number of a report, as `report_at` reads it, and the number of its code. Only Refused has a code; for the other reports the second
+-- number is 0.
 abbrev pub report_numbers : Report → ℕ × ℕ
 report_numbers report.Installed = (1, 0)
 report_numbers report.Unconfirmed = (2, 0)

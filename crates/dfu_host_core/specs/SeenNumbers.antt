@@ -5,11 +5,11 @@ use Rattle.std.specs.Borrow.{Bor}
 use Rattle.dfu_host.specs.declared.seen.Seen.{Seen}
 use Rattle.dfu_host.specs.declared.seen.Seen.TheVariants as seen
 
--- Results in the order of the numbers of C, 0 to 7, with these bytes.
+-- Results in the order of their numbers in C, 0 to 7; the result with bytes has those given.
 abbrev seen_in_order : (bytes : Bor (List ℕ)) → List Seen
 seen_in_order bytes =
     seen.Ack ∷ seen.Bytes bytes ∷ seen.Stall ∷ seen.Nothing ∷ seen.Waited ∷ seen.WasReset ∷ seen.Restarted ∷ seen.Left ∷ []
 
--- Result of an action, by this number; None if it is over 7.
+-- Result of an action by its number; None over 7.
 abbrev pub seen_at : (number : ℕ) → (bytes : Bor (List ℕ)) → Option Seen
 seen_at number bytes = slice_get (seen_in_order bytes) number

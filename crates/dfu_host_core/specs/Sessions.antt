@@ -1,4 +1,4 @@
--- Session that a record holds.
+-- The session of a record.
 use Rattle.std.specs.Prelude.{◌≡◌, ℕ, ◌==◌, ◌≤◌, not, if◌then◌else◌, List, length, take, Option, Some, None, option_and_then, option_map}
 use Rattle.std.specs.Borrow.{Bor}
 use Rattle.dfu_host.specs.declared.goal.Goal.{Goal}
@@ -7,7 +7,7 @@ use Rattle.dfu_host.specs.declared.limits.Limits.{Limits}
 use Rattle.dfu_host.specs.declared.phase.Phase.{Phase}
 use Rattle.dfu_host.specs.declared.parts.Parts.{Parts}
 use Rattle.dfu_host.specs.Host.{HostState}
-use Rattle.dfu_host.specs.InParts.{IsSession, host_of}
+use Rattle.dfu_host.specs.InParts.{ArePartsOfSession, host_of}
 use Rattle.dfu_host_core.specs.PhaseNumbers.{phase_at}
 use Rattle.dfu_host_core.specs.WrittenNumbers.{numbers_in}
 use Rattle.dfu_host_core.specs.declared.session.DfuSession.{DfuSession}
@@ -20,7 +20,7 @@ version = 300
 abbrev pub limits_of : (actions restarts : ℕ) → Limits
 limits_of actions restarts = record { actions = actions; restarts = restarts }
 
--- Goal of a session of this number: 1 to install the payload, 2 to fetch the image, 3 to install the payload and then to compare it, 4 to
+-- Goal of a session by its number: 1 to install the payload, 2 to fetch the image, 3 to install the payload and then compare it, 4 to
 -- compare it.
 abbrev pub goal_at : ℕ → (payload : Bor (List ℕ)) → Option Goal
 goal_at number payload =
@@ -30,7 +30,7 @@ goal_at number payload =
     else if number == 4 then Some (goal.Compare payload)
     else None
 
--- The parts that a record has beside its goal and its phase.
+-- The parts of a record, with a goal and a phase.
 abbrev pub parts_in : DfuSession → Goal → Phase → Parts
 parts_in r goal phase = record {
   goal = goal;
@@ -43,28 +43,28 @@ parts_in r goal phase = record {
   restarts = r.restarts;
 }
 
--- The parts that a record has over a payload; None if there is no goal or no phase of its numbers.
+-- The parts of a record over a payload; None if its numbers are those of no goal or no phase.
 abbrev pub parts_of : DfuSession → (payload : Bor (List ℕ)) → Option Parts
 parts_of r payload = option_and_then (λ goal. option_map (parts_in r goal) (phase_at r.phase r.number r.more)) (goal_at r.goal payload)
 
--- The record is that of a session over this payload, with these parts, and was written by this version of the library.
+-- The record belongs to a session over the payload, has the given parts, and was written by this version of the library.
 pub record IsRecord (r : DfuSession) (payload : Bor (List ℕ)) (parts : Parts) : Type 0 where
   pub version_is : r.version ≡ version
   pub says : parts_of r payload ≡ Some parts
-  pub sound : IsSession parts
+  pub sound : ArePartsOfSession parts
 
--- The record of these parts has the numbers that the library writes: what a phase does not have is 0, and a bit is 0 or 1.
+-- The record has the numbers that the library writes for the parts: a number that a phase does not need is 0, and a bit is 0 or 1.
 pub record IsWritten (r : DfuSession) (parts : Parts) : Type 0 where
   pub number : r.number ≡ (numbers_in parts.phase).number
   pub more : r.more ≡ (numbers_in parts.phase).more
   pub tolerant : r.tolerant ≤ 1
   pub will_detach : r.will_detach ≤ 1
 
--- The record is that of a session over this payload, with these parts, and the buffer has the bytes that it keeps.
+-- The record belongs to a session over the payload, with the given parts, and the buffer has the bytes that the session keeps.
 pub record IsRecordWithParts (r : DfuSession) (payload : Bor (List ℕ)) (buffer : List ℕ) (parts : Parts) : Type 0 where
   pub stands : IsRecord r payload parts
   pub room : r.kept ≤ length buffer
 
--- The host of a session whose record is this: it keeps the first bytes of the buffer.
+-- The host of a record's session, which keeps the first bytes of the buffer.
 abbrev pub host_in : DfuSession → (buffer : List ℕ) → Parts → HostState
 host_in r buffer parts = host_of (take r.kept buffer) parts

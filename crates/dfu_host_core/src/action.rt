@@ -1,6 +1,6 @@
-//! Action that is to be done next, as a record for C.
+//! The next action, as a record for C.
 
-/// `struct dfu_action`: what is to be done next. The header says what each number means.
+/// `struct dfu_action`: the next action. The header says what each number means.
 #[repr(C)]
 #[derive(Drop)]
 pub struct DfuAction {

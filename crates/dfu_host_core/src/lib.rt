@@ -1,4 +1,4 @@
-//! Base of the library of the host for C: its records, the sessions that these are, the calls' effects, and the laws of any list of them.
+//! Base of the library of the host for C: its records, their sessions, the effects of its calls, and the laws of any list of calls.
 #![tactic(auto)]
 
 mod action;

@@ -16,16 +16,16 @@ pub struct DfuSession {
     pub phase: u32,
     /// A poll time in milliseconds, or the code of a report.
     pub more: u32,
-    /// The actions that are left.
+    /// Actions that are left.
     pub actions: u32,
-    /// Further restarts of the device that are taken.
+    /// Further restarts of the device that the session takes.
     pub restarts: u16,
     /// wTransferSize, 1 to 65,535.
     pub transfer: u16,
     /// wDetachTimeOut, in milliseconds.
     pub detach_ms: u16,
-    /// bitManifestationTolerant: 0, or any other number if it is set.
+    /// bitManifestationTolerant: 0 if the bit is 0, any other number if it is set.
     pub tolerant: u8,
-    /// bitWillDetach: 0, or any other number if it is set.
+    /// bitWillDetach: 0 if the bit is 0, any other number if it is set.
     pub will_detach: u8,
 }

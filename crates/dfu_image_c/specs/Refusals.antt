@@ -59,8 +59,8 @@ image_fault_place (file.TooLarge at) = at
 image_fault_place (file.TooManyElements at) = at
 image_fault_place (file.Overlaps address) = address
 
--- A refusal with the number of the fault, and with its places. A file without bytes is -126, a gap -127, and an image that is too large
--- with what fills it -128.
+-- A refusal with the number and the places of the fault. A file without bytes is -126, a gap -127, and an image that is too large, with its
+-- filling, -128.
 abbrev pub image_refusal : ImageFileFault → ImageRefusal
 image_refusal (Unread fault) = record { number = image_fault_number fault; from = image_fault_place fault; to = 0 }
 image_refusal NoData = record { number = negsuc 125; from = 0; to = 0 }
@@ -69,9 +69,9 @@ image_refusal (Unlaid (lay.Gap from to)) = record { number = negsuc 126; from = 
 image_refusal (Unlaid lay.TooLarge) = record { number = negsuc 127; from = 0; to = 0 }
 
 -- A number of no format is refused with -101.
-abbrev pub no_format : ℤ
-no_format = negsuc 100
+abbrev pub no_format_number : ℤ
+no_format_number = negsuc 100
 
 -- A room that is shorter than the image is refused with -102.
-abbrev pub room_too_short : ℤ
-room_too_short = negsuc 101
+abbrev pub room_too_short_number : ℤ
+room_too_short_number = negsuc 101

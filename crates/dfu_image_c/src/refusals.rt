@@ -5,10 +5,10 @@ ghost use Rattle.dfu_image_c.specs.Refusals.{image_fault_number, image_fault_pla
 
 use dfu_formats::images::{ImageFault, ImageFileFault, LayFault};
 
-/// There is no format of this number.
+/// Number of the refusal if no format has the given number.
 pub(crate) const NO_FORMAT: i32 = -101;
 
-/// The room is shorter than the image.
+/// Number of the refusal if the room is shorter than the image.
 pub(crate) const NO_ROOM: i32 = -102;
 
 /// A refusal: its number, and the places that it names, or 0.
@@ -22,7 +22,7 @@ pub(crate) struct ImageRefusal {
     pub(crate) to: u64,
 }
 
-/// The number of the fault of a file.
+/// Returns the number of `fault`, that of a file.
 fn image_fault_number(fault: ImageFault) -> i32
     ensures { result ≡ image_fault_number fault }
 {
@@ -53,7 +53,7 @@ fn image_fault_number(fault: ImageFault) -> i32
     }
 }
 
-/// The line, block, segment or address that the fault of a file names, or 0.
+/// Returns the line, block, segment or address that `fault`, that of a file, names, or 0.
 fn image_fault_place(fault: ImageFault) -> u64
     ensures { result ≡ image_fault_place fault }
 {
@@ -80,7 +80,7 @@ fn image_fault_place(fault: ImageFault) -> u64
     }
 }
 
-/// The refusal of a file that makes no image.
+/// Returns the refusal of a file that makes no image because of `fault`.
 pub(crate) fn image_refusal(fault: ImageFileFault) -> ImageRefusal
     ensures { result ≡ image_refusal fault }
 {

@@ -21,7 +21,7 @@ pub struct DfuTaken {
     pub address: u32,
 }
 
-/// The format of a number, 1 to 4.
+/// Returns the format with number `number`, 1 to 4; None for any other number.
 #[tactic(auto, using(std::proofs::lemmas::Bool::Decides::nat_tests))]
 fn format_of(number: u32) -> Option<Format>
     ensures { result ≡ format_of number }
@@ -35,7 +35,7 @@ fn format_of(number: u32) -> Option<Format>
     }
 }
 
-/// The byte that fills gaps; none for a number over 255.
+/// Returns the byte `number` that fills gaps; None for a number over 255.
 #[tactic(auto, using(std::proofs::lemmas::Bool::Decides::nat_tests))]
 fn filling_of(number: u32) -> Option<u8>
     ensures { result ≡ filling_of number }
@@ -47,7 +47,7 @@ fn filling_of(number: u32) -> Option<u8>
     }
 }
 
-/// Puts what was read of a file into the room, and says it.
+/// Puts the image of a file into the room, or its refusal into the record, and returns the number of the refusal.
 fn leave(read: Result<Image, ImageFileFault>, room: &mut [u8], taken: &mut DfuTaken) -> i32
     ensures { ImageCallResult read room.old room.new taken.new result }
 {
@@ -79,7 +79,7 @@ fn leave(read: Result<Image, ImageFileFault>, room: &mut [u8], taken: &mut DfuTa
     }
 }
 
-/// Lays the image of a file of a format at the front of the room, gaps filled by a byte, if one is given.
+/// Writes the image of `file`, a file of format number `format`, to the front of `room`. Gaps are filled by the byte `fill`, if it is one.
 #[unsafe(no_mangle)]
 pub extern "C" fn dfu_image_take(
     alloc: Global,

@@ -10,6 +10,10 @@ pub mod Called
 pub mod Works
 pub mod Powers
 pub mod Each
+pub mod Slots
+pub mod Opens
+pub mod SlotCalls
+pub mod SlotRuns
 pub mod Runs
 pub mod Boards
 pub mod Accepts

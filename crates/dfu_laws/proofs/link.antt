@@ -6,10 +6,13 @@ pub mod Became
 pub mod Sent
 pub mod Handed
 pub mod Marked
+pub mod InSlots
 pub mod Ended
 pub mod Played
 pub mod Ran
 pub mod Sessions
+pub mod Standing
+pub mod Told
 pub mod Stays
 pub mod Parts
 pub mod Stopped

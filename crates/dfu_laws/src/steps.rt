@@ -1,21 +1,21 @@
-//! Each call of a device that asks is a step of a board. Each function only makes the call of its name; its contract says which step
-//! that is, from the call's contract only.
-#![tactic(auto, using(dfu_asks::proofs::Room::has_room))]
+//! Each call of a device that asks is a step of a board. Each function here makes the call of its name and nothing else; its contract says
+//! which step that is, and follows from the contract of the call.
+#![tactic(auto, using(dfu_asks::proofs::Room::memory_of_256_has_room))]
 
 ghost use Rattle.std.specs.Prelude.{◌≡◌, ℕ, false, List, [], length, IfErr, IfSome, IfNone, IsSome};
 ghost use Rattle.dfu_slots.specs.Medium.{Torn};
 ghost use Rattle.dfu_slots.specs.Image.{HasImage};
 ghost use Rattle.dfu_slots.specs.StoreView.{SlotsState};
 ghost use Rattle.dfu_device.specs.Borrowed.{answer_room};
-ghost use Rattle.dfu_asks.specs.Lent.{lent, IsSetUpAs};
+ghost use Rattle.dfu_asks.specs.Lent.{lent, SameSetup};
 ghost use Rattle.dfu_asks.specs.Calls.{WritesPending};
 ghost use Rattle.dfu_asks.specs.Refused.{IsRefusedCall, ReportRefusedFor};
-ghost use Rattle.dfu_asks.specs.Mapped.{grain_of, mapped};
-ghost use Rattle.dfu_asks.specs.Jobs.{asked};
+ghost use Rattle.dfu_asks.specs.Mapped.{grain_of, mapped_medium};
+ghost use Rattle.dfu_asks.specs.Jobs.{step_of_piece};
 ghost use Rattle.dfu_laws.specs.board.Board.{Board, BoardStep, Handle, Elapse, UsbReset, RefuseClose, Refuse, Write, Took, Restart, Nothing, medium_on};
-ghost use Rattle.dfu_laws.specs.board.Happens.{IsHanded, IsPoweredOn, BoardStarts, Happens, IsRun};
+ghost use Rattle.dfu_laws.specs.board.Happens.{PieceHandedOut, IsPoweredOn, BoardStarts, EventOutcome, IsRun};
 ghost use Rattle.dfu_laws.specs.board.Counts.{PieceAdvances};
-ghost use Rattle.dfu_laws.specs.board.Steps.{board, reply_of_result, reply_of_reset, reply_of_close};
+ghost use Rattle.dfu_laws.specs.board.Steps.{board_of_parts, reply_of_result, reply_of_reset, reply_of_close};
 
 use crate::laws::boards_keep_an_image;
 use dfu_asks::{Asking, FlashOp, Refusal, Reply, Sector};
@@ -32,11 +32,12 @@ pub fn handle(
     body: &[u8],
     out: &mut [u8],
 ) -> Result<Reply, Refusal>
-    ensures step { Happens (board asking.old block.old held.old flash.now) (Handle setup.now body.now) (reply_of_result result out.new)
-        (board asking.new block.new held.new flash.now) }
+    ensures step { EventOutcome (board_of_parts asking.old block.old held.old flash.now) (Handle setup.now body.now)
+        (reply_of_result result out.new)
+        (board_of_parts asking.new block.new held.new flash.now) }
     ensures refused { IfErr result (λ e.
         IsRefusedCall e asking.old block.old held.old flash.now (answer_room asking.old.config) (length out.old)) }
-    ensures same { IsSetUpAs asking.old asking.new }
+    ensures same { SameSetup asking.old asking.new }
 {
     asking.handle(block, held, flash, setup, body, out)
 }
@@ -49,10 +50,10 @@ pub fn elapse(
     flash: &[u8],
     ms: u32,
 ) -> Result<Reply, Refusal>
-    ensures step { Happens (board asking.old block.old held.old flash.now) (Elapse ms) (reply_of_result result [])
-        (board asking.new block.new held.new flash.now) }
+    ensures step { EventOutcome (board_of_parts asking.old block.old held.old flash.now) (Elapse ms) (reply_of_result result [])
+        (board_of_parts asking.new block.new held.new flash.now) }
     ensures refused { IfErr result (λ e. IsRefusedCall e asking.old block.old held.old flash.now 0 0) }
-    ensures same { IsSetUpAs asking.old asking.new }
+    ensures same { SameSetup asking.old asking.new }
 {
     asking.elapse(block, held, flash, ms)
 }
@@ -64,10 +65,10 @@ pub fn usb_reset(
     held: &[u8; 256],
     flash: &[u8],
 ) -> Result<(), Refusal>
-    ensures step { Happens (board asking.old block.now held.now flash.now) UsbReset (reply_of_reset result)
-        (board asking.new block.now held.now flash.now) }
+    ensures step { EventOutcome (board_of_parts asking.old block.now held.now flash.now) UsbReset (reply_of_reset result)
+        (board_of_parts asking.new block.now held.now flash.now) }
     ensures refused { IfErr result (λ e. IsRefusedCall e asking.old block.now held.now flash.now 0 0) }
-    ensures same { IsSetUpAs asking.old asking.new }
+    ensures same { SameSetup asking.old asking.new }
 {
     asking.usb_reset(block, held, flash)
 }
@@ -78,20 +79,21 @@ pub fn refuse_close(
     setup: &[u8; 8],
     objection: Objection,
 ) -> Result<bool, Refusal>
-    ensures step { (block held flash : List ℕ) → Happens (board asking.old block held flash) (RefuseClose setup.now objection)
-        (reply_of_close result) (board asking.new block held flash) }
+    ensures step { (block held flash : List ℕ) → EventOutcome (board_of_parts asking.old block held flash) (RefuseClose setup.now objection)
+        (reply_of_close result) (board_of_parts asking.new block held flash) }
     ensures refused { IfErr result (λ e. (e ≡ Refusal.Asked) × IsSome asking.old.work) }
-    ensures same { IsSetUpAs asking.old asking.new }
+    ensures same { SameSetup asking.old asking.new }
 {
     asking.refuse_close(setup, objection)
 }
 
 /// `Asking::refuse` is a step of a board, with any bytes in its memories and on its flash.
 pub fn refuse(asking: &mut Asking, objection: Objection) -> Result<(), Refusal>
-    ensures step { (block held flash : List ℕ) → Happens (board asking.old block held flash) (Refuse objection) (reply_of_reset result)
-        (board asking.new block held flash) }
+    ensures step { (block held flash : List ℕ) → EventOutcome (board_of_parts asking.old block held flash) (Refuse objection)
+        (reply_of_reset result)
+        (board_of_parts asking.new block held flash) }
     ensures refused { IfErr result (λ e. (e ≡ Refusal.Asked) × IsSome asking.old.work) }
-    ensures same { IsSetUpAs asking.old asking.new }
+    ensures same { SameSetup asking.old asking.new }
 {
     asking.refuse(objection)
 }
@@ -104,9 +106,11 @@ pub fn next(
     flash: &[u8],
     out: &mut [u8; 256],
 ) -> Option<FlashOp>
-    ensures piece { IfSome result (λ p. IsHanded (board asking.now block.now held.now flash.now) (asked p out.new)) }
-    ensures written { IfSome result (λ p. (now : List ℕ) → Torn flash.now (asked p out.new).write.at (asked p out.new).write.bytes now →
-        Happens (board asking.now block.now held.now flash.now) Write Nothing (board asking.now block.now held.now now)) }
+    ensures piece { IfSome result (λ p. PieceHandedOut (board_of_parts asking.now block.now held.now flash.now) (step_of_piece p out.new)) }
+    ensures written { IfSome result (λ p. (now : List ℕ)
+        → Torn flash.now (step_of_piece p out.new).write.at (step_of_piece p out.new).write.bytes now →
+        EventOutcome (board_of_parts asking.now block.now held.now flash.now) Write Nothing
+        (board_of_parts asking.now block.now held.now now)) }
     ensures goes { IfNone result ((len : ℕ) (s : SlotsState) (was : List ℕ) →
         ¬ WritesPending (lent asking.now block.now held.now) len s was flash.now) }
 {
@@ -122,28 +126,28 @@ pub fn took(
     failed: bool,
     out: &mut [u8],
 ) -> Result<Reply, Refusal>
-    ensures step { Happens (board asking.old block.now held.old flash.now) (Took failed) (reply_of_result result out.new)
-        (board asking.new block.now held.new flash.now) }
-    ensures further { PieceAdvances (board asking.old block.now held.old flash.now) (Took failed) (reply_of_result result out.new)
-        (board asking.new block.now held.new flash.now) }
+    ensures step { EventOutcome (board_of_parts asking.old block.now held.old flash.now) (Took failed) (reply_of_result result out.new)
+        (board_of_parts asking.new block.now held.new flash.now) }
+    ensures further { PieceAdvances (board_of_parts asking.old block.now held.old flash.now) (Took failed) (reply_of_result result out.new)
+        (board_of_parts asking.new block.now held.new flash.now) }
     ensures refused { IfErr result (λ e. ReportRefusedFor e (lent asking.old block.now held.old) (length out.old)) }
-    ensures same { IsSetUpAs asking.old asking.new }
+    ensures same { SameSetup asking.old asking.new }
 {
     asking.took(block, held, flash, failed, out)
 }
 
-/// `Asking::power_on` makes a board that was just powered on and is in appIDLE, with any bytes in its memories. It does so on the flash
-/// that any steps left.
+/// `Asking::power_on` makes a board that was just powered on and is in appIDLE, with any bytes in its memories. The flash may be what any
+/// steps left.
 pub fn power_on(config: Config, unit: Unit, sector: Sector, flash: &[u8]) -> Option<Asking>
-    ensures on { (block held : List ℕ) → IfSome result (λ a. BoardStarts false (board a block held flash.now)) }
+    ensures on { (block held : List ℕ) → IfSome result (λ a. BoardStarts false (board_of_parts a block held flash.now)) }
     ensures step { (b : Board) (block held : List ℕ) → b.flash ≡ flash.now →
-        IfSome result (λ a. Happens b (Restart false) Nothing (board a block held flash.now)) }
+        IfSome result (λ a. EventOutcome b (Restart false) Nothing (board_of_parts a block held flash.now)) }
     ensures set_up { IfSome result (λ a. (a.config ≡ config) × (a.unit ≡ unit) × (a.sector ≡ sector)) }
-    ensures none { IfNone result (¬ HasImage (mapped (grain_of unit sector) flash.now)) }
+    ensures none { IfNone result (¬ HasImage (mapped_medium (grain_of unit sector) flash.now)) }
     ensures starts { (b b' : Board) (steps : List BoardStep) → IsPoweredOn b → IsRun b steps b' →
-        medium_on b' ≡ mapped (grain_of unit sector) flash.now → IsSome result }
+        medium_on b' ≡ mapped_medium (grain_of unit sector) flash.now → IsSome result }
 {
-    // Called for its clause `keeps`.
+    // The clause `starts` is proved by the clause `keeps` of this call.
     boards_keep_an_image();
     Asking::power_on(config, unit, sector, flash)
 }

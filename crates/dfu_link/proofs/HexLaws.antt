@@ -7,49 +7,54 @@ use Rattle.std.proofs.Math.Seq.{take-add}
 use Rattle.std.proofs.KnownBytes.{Appends-nil}
 use Rattle.hex.specs.Hex.{encode_with, encode_lower, lower_digits}
 use Rattle.dfu_link.specs.Texts.{hex_text}
-use Rattle.dfu_link.specs.inside.Expected.{Puts}
+use Rattle.dfu_link.specs.inside.Expected.{TextWritten}
 use Rattle.dfu_link.specs.declared.scripting.fault.ScriptFault.{ScriptFault}
-use Rattle.dfu_link.proofs.WriteLaws.{puts_then, puts_stops}
+use Rattle.dfu_link.proofs.WriteLaws.{both_texts_written, both_texts_fail}
 
+-- The digits of two lists of bytes in a row are their digits in a row.
 encode-append : (t xs ys : List ℕ) → encode_with t (xs ++ ys) ≡ encode_with t xs ++ encode_with t ys
 unfolding encode_with
 encode-append t [] ys = refl
 encode-append t (x ∷ xs) ys = ap (λ (rest : List ℕ). slice_index t (x / 16) ∷ slice_index t (x % 16) ∷ rest) (encode-append t xs ys)
 
-piece_more : (bytes : List ℕ) (at n : ℕ) → take (at + n) bytes ≡ take at bytes ++ slice_range bytes at (at + n)
-piece_more bytes at n =
+-- The first bytes followed by the next piece are the first bytes up to its end.
+prefix_with_next_piece : (bytes : List ℕ) (at n : ℕ) → take (at + n) bytes ≡ take at bytes ++ slice_range bytes at (at + n)
+prefix_with_next_piece bytes at n =
     let same : at + n - at ≡ n = omega arith in
     take-add at n bytes ∙ ap (λ (k : ℕ). take at bytes ++ take k (drop at bytes)) (sym same)
 
--- The digits of bytes with a piece more.
-digits_more : (bytes : List ℕ) (at n : ℕ) → encode_lower (take (at + n) bytes) ≡ encode_lower (take at bytes)
+-- The digits of the first bytes and the next piece are the digits of both, in their order.
+digits_with_next_piece : (bytes : List ℕ) (at n : ℕ) → encode_lower (take (at + n) bytes) ≡ encode_lower (take at bytes)
     ++ encode_lower (slice_range bytes at (at + n))
-digits_more bytes at n = ap encode_lower (piece_more bytes at n)
+digits_with_next_piece bytes at n = ap encode_lower (prefix_with_next_piece bytes at n)
     ∙ encode-append lower_digits (take at bytes) (slice_range bytes at (at + n))
 
--- The digits of bytes are those of a prefix of them, and then those of the others.
-digits_front : (bytes : List ℕ) (at : ℕ) → encode_lower bytes ≡ encode_lower (take at bytes) ++ encode_lower (drop at bytes)
-digits_front bytes at = ap encode_lower (sym (take-append-drop at bytes)) ∙ encode-append lower_digits (take at bytes) (drop at bytes)
+-- The digits of bytes are the digits of a prefix, followed by the digits of the rest.
+digits_of_prefix_and_rest : (bytes : List ℕ) (at : ℕ) → encode_lower bytes ≡ encode_lower (take at bytes) ++ encode_lower (drop at bytes)
+digits_of_prefix_and_rest bytes at = ap encode_lower (sym (take-append-drop at bytes))
+    ∙ encode-append lower_digits (take at bytes) (drop at bytes)
 
--- The digits of a piece more are out, or the writer failed in them.
-pub piece_goes : {old mid new : Option (List ℕ)} {r : Result Unit ScriptFault} (bytes : List ℕ) (at n : ℕ)
-    → Puts (encode_lower (take at bytes)) old mid (Ok tt) → Puts (encode_lower (slice_range bytes at (at + n))) mid new r
-    → Puts (encode_lower (take (at + n) bytes)) old new r
-piece_goes bytes at n told piece = puts_then told piece (digits_more bytes at n)
+-- The digits of the next piece are out after those of the first bytes, or the writer failed in them.
+pub digits_of_piece_written : {old mid new : Option (List ℕ)} {r : Result Unit ScriptFault} (bytes : List ℕ) (at n : ℕ)
+    → TextWritten (encode_lower (take at bytes)) old mid (Ok tt) → TextWritten (encode_lower (slice_range bytes at (at + n))) mid new r
+    → TextWritten (encode_lower (take (at + n) bytes)) old new r
+digits_of_piece_written bytes at n told piece = both_texts_written told piece (digits_with_next_piece bytes at n)
 
--- The writer failed in the digits of a piece: so it failed in those of all bytes.
-pub piece_stops : {old mid new : Option (List ℕ)} {f : ScriptFault} {r : Result Unit ScriptFault} (bytes : List ℕ) (at n : ℕ)
-    → Puts (encode_lower (take at bytes)) old mid (Ok tt) → Puts (encode_lower (slice_range bytes at (at + n))) mid new (Err f)
-    → IsErrAnd r (λ e. e ≡ f) → Puts (encode_lower bytes) old new r
-piece_stops bytes at n told piece same =
-    puts_stops (encode_lower (drop (at + n) bytes)) (piece_goes bytes at n told piece) same (digits_front bytes (at + n))
+-- If the digits of the first bytes are out, and the writer fails in the digits of the next piece, it failed in the digits of all bytes.
+pub digits_of_piece_stopped : {old mid new : Option (List ℕ)} {f : ScriptFault} {r : Result Unit ScriptFault} (bytes : List ℕ) (at n : ℕ)
+    → TextWritten (encode_lower (take at bytes)) old mid (Ok tt)
+    → TextWritten (encode_lower (slice_range bytes at (at + n))) mid new (Err f)
+    → IsErrAnd r (λ e. e ≡ f) → TextWritten (encode_lower bytes) old new r
+digits_of_piece_stopped bytes at n told piece same =
+    both_texts_fail (encode_lower (drop (at + n) bytes)) (digits_of_piece_written bytes at n told piece) same (digits_of_prefix_and_rest
+    bytes (at + n))
 
--- At first nothing is out.
-pub pieces_none : (old : Option (List ℕ)) → Puts (encode_lower []) old old (Ok tt)
+-- Of no bytes the digits are out without any write.
+pub pieces_none : (old : Option (List ℕ)) → TextWritten (encode_lower []) old old (Ok tt)
 unfolding encode_with
 pieces_none old = record { ok = Appends-nil old; err = tt; fault = tt }
 
--- Bytes that are not none are printed as their digits.
-pub text_some : (bytes : List ℕ) → (length bytes ≡ 0 → ⊥) → hex_text bytes ≡ encode_lower bytes
-text_some [] some = absurd (some refl)
-text_some (byte ∷ bytes) some = refl
+-- Bytes that are not empty are printed as their digits.
+pub nonempty_hex_text_is_digits : (bytes : List ℕ) → (length bytes ≡ 0 → ⊥) → hex_text bytes ≡ encode_lower bytes
+nonempty_hex_text_is_digits [] some = absurd (some refl)
+nonempty_hex_text_is_digits (byte ∷ bytes) some = refl

@@ -1,4 +1,4 @@
--- The lines of refusals, and what `show` prints before the image, as texts that hold no newline before their end.
+-- The lines of refusals, and the text of `show` before the image, have no newline before their end.
 use Rattle.std.proofs.Common.{◌≡◌, ℕ, List, ◌++◌, refl, true}
 use Rattle.std.specs.Prelude.{codes}
 use Rattle.dfu_wire.specs.declared.codes.Code.{Code}
@@ -19,62 +19,66 @@ use Rattle.dfu_sim.specs.declared.fault.OfferFault.{OfferFault}
 use Rattle.dfu_sim.specs.declared.fault.OfferFault.TheVariants as offer
 use Rattle.dfu_sim.specs.declared.fault.LinkFault.{LinkFault}
 use Rattle.dfu_sim.specs.declared.fault.LinkFault.TheVariants as link
-use Rattle.dfu_link.specs.Words.{endless}
+use Rattle.dfu_link.specs.Words.{has_no_newline}
 use Rattle.dfu_link.specs.Texts.{offer_fault_name, refusal_line, state_text}
 use Rattle.dfu_link.specs.Printed.{refused_event_line}
-use Rattle.dfu_link.proofs.LineLaws.{endless_more}
+use Rattle.dfu_link.proofs.LineLaws.{no_newline_in_both}
 
--- No name of a fault, a state or a code holds a newline: each of them computes so.
-suffix_endless : (fault : SuffixFault) → endless (suffix_fault_name fault) ≡ true
-suffix_endless suffix.TooShort = refl
-suffix_endless fault = refl
+-- No name of a fault, a state or a code has a newline, because each name computes to its letters.
+suffix_fault_name_is_one_line : (fault : SuffixFault) → has_no_newline (suffix_fault_name fault) ≡ true
+suffix_fault_name_is_one_line suffix.TooShort = refl
+suffix_fault_name_is_one_line fault = refl
 
-host_endless : (fault : HostFault) → endless (host_fault_name fault) ≡ true
-host_endless host.EmptyPayload = refl
-host_endless fault = refl
+-- The name of a session's fault has no newline.
+host_fault_name_is_one_line : (fault : HostFault) → has_no_newline (host_fault_name fault) ≡ true
+host_fault_name_is_one_line host.EmptyPayload = refl
+host_fault_name_is_one_line fault = refl
 
-offer_endless : (fault : OfferFault) → endless (offer_fault_name fault) ≡ true
-offer_endless (offer.Suffix fault) = suffix_endless fault
-offer_endless (offer.Host fault) = host_endless fault
+-- The name of an offer's fault has no newline.
+offer_fault_name_is_one_line : (fault : OfferFault) → has_no_newline (offer_fault_name fault) ≡ true
+offer_fault_name_is_one_line (offer.Suffix fault) = suffix_fault_name_is_one_line fault
+offer_fault_name_is_one_line (offer.Host fault) = host_fault_name_is_one_line fault
 
--- Why an event is refused, in a text with no newline.
+-- A refusal's line is a reason without a newline.
 pub record Refusal (fault : LinkFault) : Type 0 where
   pub reason : List ℕ
-  pub one_line : endless reason ≡ true
+  pub reason_is_one_line : has_no_newline reason ≡ true
   pub is : refusal_line fault ≡ refused_event_line reason
 
--- The line of a refusal says why.
+-- Each refusal prints a reason without a newline.
 pub refusal : (fault : LinkFault) → Refusal fault
-refusal link.HostBusy = record { reason = codes "HostBusy"; one_line = refl; is = refl }
-refusal link.NoHost = record { reason = codes "NoHost"; one_line = refl; is = refl }
+refusal link.HostBusy = record { reason = codes "HostBusy"; reason_is_one_line = refl; is = refl }
+refusal link.NoHost = record { reason = codes "NoHost"; reason_is_one_line = refl; is = refl }
 refusal (link.BadOffer fault) = record {
   reason = codes "BadOffer " ++ offer_fault_name fault;
-  one_line = endless_more (codes "BadOffer ") (offer_fault_name fault) refl (offer_endless fault);
+  reason_is_one_line = no_newline_in_both (codes "BadOffer ") (offer_fault_name fault) refl (offer_fault_name_is_one_line fault);
   is = refl;
 }
-refusal link.NoMemory = record { reason = codes "NoMemory"; one_line = refl; is = refl }
+refusal link.NoMemory = record { reason = codes "NoMemory"; reason_is_one_line = refl; is = refl }
 
-state_endless : (s : State) → endless (state_name s) ≡ true
-state_endless state.AppIdle = refl
-state_endless s = refl
+-- The name of a state has no newline.
+state_name_is_one_line : (s : State) → has_no_newline (state_name s) ≡ true
+state_name_is_one_line state.AppIdle = refl
+state_name_is_one_line s = refl
 
-pub code_endless : (c : Code) → endless (code_name c) ≡ true
-code_endless code.Ok = refl
-code_endless c = refl
+-- The name of a status code has no newline.
+pub code_name_is_one_line : (c : Code) → has_no_newline (code_name c) ≡ true
+code_name_is_one_line code.Ok = refl
+code_name_is_one_line c = refl
 
--- What `show` prints between the word `state ` and the image.
+-- The words of `show` between the word `state ` and the image.
 abbrev pub state_words : DeviceView → List ℕ
 state_words device = (state_name (state_of device.stage) ++ codes " status ") ++ (code_name (code_of device.stage) ++ codes " ")
 
--- That text follows the word.
+-- The state text of a device is the word `state ` and the words of the state.
 pub state_is : (device : DeviceView) → state_text device ≡ codes "state " ++ state_words device
 state_is device = refl
 
--- It holds no newline.
-pub state_words_endless : (device : DeviceView) → endless (state_words device) ≡ true
-state_words_endless device =
+-- The words of the state have no newline.
+pub state_words_are_one_line : (device : DeviceView) → has_no_newline (state_words device) ≡ true
+state_words_are_one_line device =
     let name = state_name (state_of device.stage) in
     let code = code_name (code_of device.stage) in
-    endless_more (name ++ codes " status ") (code ++ codes " ")
-    (endless_more name (codes " status ") (state_endless (state_of device.stage)) refl)
-    (endless_more code (codes " ") (code_endless (code_of device.stage)) refl)
+    no_newline_in_both (name ++ codes " status ") (code ++ codes " ")
+    (no_newline_in_both name (codes " status ") (state_name_is_one_line (state_of device.stage)) refl)
+    (no_newline_in_both code (codes " ") (code_name_is_one_line (code_of device.stage)) refl)

@@ -1,4 +1,4 @@
--- A line, read piece by piece.
+-- A line that is read piece by piece.
 use Rattle.std.proofs.Common.{◌≡◌, ℕ, ◌+◌, ◌-◌, ◌<◌, ◌≤◌, min, List, [], ◌∷◌, ◌++◌, length, get_or, take, drop, slice_range, Option, Some, None, refl, sym, ap, ◌∙◌, subst, arith, length-append, length-take, drop-drop, append_assoc, true, false, Bool}
 use Rattle.std.proofs.lemmas.List.{append-nil, drop-take, take-append-drop, take_more, take-take, take_min, length-take-le}
 use Rattle.std.proofs.lemmas.List.Quantifiers.{position-Some}
@@ -6,34 +6,35 @@ use Rattle.std.proofs.KnownBytes.{Consumes-trans, Consumes-kept}
 use Rattle.std.specs.Prelude.{IfSome, not, ◌==◌}
 use Rattle.std.specs.List.{position}
 use Rattle.std.specs.Io.KnownBytes.{Consumes, IsAtEnd, Keeps, prepend_known}
-use Rattle.dfu_link.specs.Words.{lines_of, endless, is_newline}
+use Rattle.dfu_link.specs.Words.{lines_of, has_no_newline, is_newline}
 use Rattle.dfu_link.specs.Lines.{read_line, line_of}
-use Rattle.dfu_link.specs.TextLimit.{ExceedsLimit, IsStopped, NoLineRead}
-use Rattle.dfu_link.specs.inside.Source.{source_state, LinesReadFrom, PieceRead, Next, SourceLine, StopsSource}
+use Rattle.dfu_link.specs.TextLimit.{ExceedsLimit, ReadingIsStopped, NoLineRead}
+use Rattle.dfu_link.specs.inside.Source.{source_state, LinesReadFrom, PieceRead, NextLineOrEnd, SourceLine, StopsSource}
 use Rattle.dfu_link.specs.declared.scripting.fault.ScriptFault.TheVariants.{BadLine}
-use Rattle.dfu_link.proofs.LineLaws.{endless_none, endless_before, endless_more, line_ended, line_last, line_long, ends_within}
+use Rattle.dfu_link.proofs.LineLaws.{no_newline_if_none_found, no_newline_before_first_one, no_newline_in_both, lines_of_text_with_newline, lines_of_text_without_newline, first_line_not_shorter, newline_within_longer_prefix}
 
 -- Pieces.
 
--- What is at hand once so many bytes were taken.
-pub ready_advanced : (xs : List ℕ) (a e n : ℕ) → n ≤ length (slice_range xs a e) → slice_range xs (a + n) e ≡ drop n (slice_range xs a e)
-ready_advanced xs a e n le =
+-- The bytes at hand after n of them were taken are the bytes without the first n.
+pub bytes_at_hand_after_advance : (xs : List ℕ) (a e n : ℕ) → n ≤ length (slice_range xs a e) → slice_range xs (a + n) e
+    ≡ drop n (slice_range xs a e)
+bytes_at_hand_after_advance xs a e n le =
     let whole : n + (e - (a + n)) ≡ e - a = omega (arith, le, length-take (e - a) (drop a xs)) in
     ap (take (e - (a + n))) (sym (drop-drop n a xs)) ∙ sym (drop-take n (e - (a + n)) (drop a xs))
     ∙ ap (λ k. drop n (take k (drop a xs))) whole
 
--- What is left is less by the bytes that were taken.
-pub front_consumed : (given : Option (List ℕ)) (ready ready' : List ℕ) (n : ℕ) → ready' ≡ drop n ready
+-- The bytes left after a piece are those before it without the piece's bytes.
+pub bytes_left_after_advance : (given : Option (List ℕ)) (ready ready' : List ℕ) (n : ℕ) → ready' ≡ drop n ready
     → Consumes (prepend_known ready given) (prepend_known ready' given) (take n ready)
-front_consumed None ready ready' n e = tt
-front_consumed (Some r) ready ready' n e = ap (λ (xs : List ℕ). xs ++ r) (sym (take-append-drop n ready))
+bytes_left_after_advance None ready ready' n e = tt
+bytes_left_after_advance (Some r) ready ready' n e = ap (λ (xs : List ℕ). xs ++ r) (sym (take-append-drop n ready))
     ∙ (append_assoc (take n ready) (drop n ready) r ∙ ap (λ (xs : List ℕ). take n ready ++ (xs ++ r)) (sym e))
 
--- A piece in which the line ends.
-pub piece_ends : (left left' : Option (List ℕ)) (line line' ready window : List ℕ) (k n : ℕ) → window ≡ take k ready
+-- A piece with a newline ends the line.
+pub piece_with_newline_ends_line : (left left' : Option (List ℕ)) (line line' ready window : List ℕ) (k n : ℕ) → window ≡ take k ready
     → position is_newline window ≡ Some n → Consumes left left' (take (n + 1) ready) → line' ≡ line ++ take n window
     → length line + k ≤ 65537 → PieceRead left line (n + 1) true left' line'
-piece_ends left left' line line' ready window k n w p taken longer le =
+piece_with_newline_ends_line left left' line line' ready window k n w p taken longer le =
     let at = position-Some is_newline window n 0 p in
     let size : length window ≡ min k (length ready) = ap length w ∙ length-take k ready in
     let len : length (take n window) ≡ n = length-take-le n window (omega (arith, at.0)) in
@@ -43,24 +44,24 @@ piece_ends left left' line line' ready window k n w p taken longer le =
     record {
       piece = take n window;
       longer = longer;
-      no_end = endless_before window n p;
+      no_end = no_newline_before_first_one window n p;
       short = omega (arith, ap length longer, length-append line (take n window), len, size, at.0, le);
       count = omega (arith, len);
       some = omega arith;
       taken = subst (λ (xs : List ℕ). Consumes left left' xs) same taken;
     }
 
--- A piece in which it doesn't.
-pub piece_goes_on : (left left' : Option (List ℕ)) (line line' ready window : List ℕ) (k : ℕ) → window ≡ take k ready
+-- A piece without a newline continues the line.
+pub piece_without_newline_read : (left left' : Option (List ℕ)) (line line' ready window : List ℕ) (k : ℕ) → window ≡ take k ready
     → position is_newline window ≡ None → Consumes left left' (take (length window) ready) → line' ≡ line ++ window
     → length line + k ≤ 65537 → 0 < k → 0 < length ready → PieceRead left line (length window) false left' line'
-piece_goes_on left left' line line' ready window k w p taken longer le some ready_some =
+piece_without_newline_read left left' line line' ready window k w p taken longer le some ready_some =
     let size : length window ≡ min k (length ready) = ap length w ∙ length-take k ready in
     let same : take (length window) ready ≡ window = ap (λ (m : ℕ). take m ready) size ∙ (take_min k ready ∙ sym w) in
     record {
       piece = window;
       longer = longer;
-      no_end = endless_none window p;
+      no_end = no_newline_if_none_found window p;
       short = omega (arith, ap length longer, length-append line window, size, le);
       count = omega arith;
       some = omega (arith, size, some, ready_some);
@@ -69,137 +70,154 @@ piece_goes_on left left' line line' ready window k w p taken longer le some read
 
 -- A line so far.
 
--- Of a line these bytes were read, and it goes on.
-pub record ReadSoFar (left : Option (List ℕ)) (room : ℕ) (left' : Option (List ℕ)) (room' : ℕ) (line : List ℕ) : Type 0 where
+-- These bytes of a line were read so far, with no newline in them, and the line goes on.
+pub record LineReadSoFar (left : Option (List ℕ)) (room : ℕ) (left' : Option (List ℕ)) (room' : ℕ) (line : List ℕ) : Type 0 where
   pub given : Consumes left left' line
   pub rooms : room ≡ length line + room'
-  pub no_end : endless line ≡ true
+  pub no_end : has_no_newline line ≡ true
   pub short : length line ≤ 65536
 
--- It was looked for more bytes.
-pub so_far_filled : {left left1 left2 : Option (List ℕ)} {room room' : ℕ} {line : List ℕ} → ReadSoFar left room left1 room' line
-    → Keeps left1 left2 → ReadSoFar left room left2 room' line
-so_far_filled {left = left} {left1 = left1} {left2 = left2} {line = line} r kept = record {
+-- A line that was read so far stays so after the reader gave more bytes.
+pub line_so_far_after_refill : {left left1 left2 : Option (List ℕ)} {room room' : ℕ} {line : List ℕ} →
+    LineReadSoFar left room left1 room' line
+    → Keeps left1 left2 → LineReadSoFar left room left2 room' line
+line_so_far_after_refill {left = left} {left1 = left1} {left2 = left2} {line = line} r kept = record {
   given = Consumes-kept left left1 left2 line r.given kept;
   rooms = r.rooms;
   no_end = r.no_end;
   short = r.short;
 }
 
--- A piece more was read.
-pub so_far_more : {left left1 left2 : Option (List ℕ)} {room room1 : ℕ} {line line' : List ℕ} {bytes : ℕ}
-    → ReadSoFar left room left1 room1 line → PieceRead left1 line bytes false left2 line' → bytes ≤ room1 → length line' ≤ 65536
-    → ReadSoFar left room left2 (room1 - bytes) line'
-so_far_more {left = left} {left1 = left1} {left2 = left2} {line = line} r t le short = record {
+-- A line that was read so far, followed by a piece without a newline, was read so far.
+pub line_so_far_with_piece : {left left1 left2 : Option (List ℕ)} {room room1 : ℕ} {line line' : List ℕ} {bytes : ℕ}
+    → LineReadSoFar left room left1 room1 line → PieceRead left1 line bytes false left2 line' → bytes ≤ room1 → length line' ≤ 65536
+    → LineReadSoFar left room left2 (room1 - bytes) line'
+line_so_far_with_piece {left = left} {left1 = left1} {left2 = left2} {line = line} r t le short = record {
   given = subst (λ (xs : List ℕ). Consumes left left2 xs) (sym t.longer)
       (Consumes-trans left left1 left2 line t.piece r.given t.taken);
   rooms = omega (arith, r.rooms, le, t.count, ap length t.longer, length-append line t.piece);
-  no_end = ap endless t.longer ∙ endless_more line t.piece r.no_end t.no_end;
+  no_end = ap has_no_newline t.longer ∙ no_newline_in_both line t.piece r.no_end t.no_end;
   short = short;
 }
 
 -- The end of a line.
 
-ends_at_newline : (a b : Option (List ℕ)) (room room' : ℕ) (line : List ℕ) → endless line ≡ true → room ≡ length line + 1 + room'
+line_ends_at_newline : (a b : Option (List ℕ)) (room room' : ℕ) (line : List ℕ) → has_no_newline line ≡ true → room
+    ≡ length line + 1 + room'
     → Consumes a b (line ++ 10 ∷ []) → LinesReadFrom a room (line ∷ []) b room' × IfSome a (λ left. ¬ ExceedsLimit room left)
-ends_at_newline None b room room' line none rooms h = (tt, tt)
-ends_at_newline (Some a) None room room' line none rooms h = absurd h
-ends_at_newline (Some a) (Some b) room room' line none rooms h =
+line_ends_at_newline None b room room' line none rooms h = (tt, tt)
+line_ends_at_newline (Some a) None room room' line none rooms h = absurd h
+line_ends_at_newline (Some a) (Some b) room room' line none rooms h =
     let whole : a ≡ line ++ 10 ∷ b = h ∙ append_assoc line (10 ∷ []) b in
-    let within = ends_within line b room (omega (arith, rooms)) in (
+    let within = newline_within_longer_prefix line b room (omega (arith, rooms)) in (
       record {
         front = line ++ 10 ∷ [];
         split = h;
-        are = ap lines_of whole ∙ line_ended line b none;
+        are = ap lines_of whole ∙ lines_of_text_with_newline line b none;
         rooms = omega (arith, rooms, length-append line (10 ∷ []));
       },
-      λ over. grind (arith, over.no_end ∙ refl, ap (λ (xs : List ℕ). endless (take room xs)) whole, within),
+      λ over. grind (arith, over.no_end ∙ refl, ap (λ (xs : List ℕ). has_no_newline (take room xs)) whole, within),
     )
 
--- A line was read up to its 0Ah.
-pub line_given : {left left1 left2 : Option (List ℕ)} {room room1 : ℕ} (n : ℕ) (x : List ℕ) {line line' : List ℕ} {bytes : ℕ}
-    → ReadSoFar left room left1 room1 line → PieceRead left1 line bytes true left2 line' → bytes ≤ room1
+-- A line is given once its newline was read.
+pub line_read_to_newline : {left left1 left2 : Option (List ℕ)} {room room1 : ℕ} (n : ℕ) (x : List ℕ) {line line' : List ℕ} {bytes : ℕ}
+    → LineReadSoFar left room left1 room1 line → PieceRead left1 line bytes true left2 line' → bytes ≤ room1
     → SourceLine (source_state left room n x) (source_state left2 (room1 - bytes) (n + 1) line')
-line_given {left = left} {left1 = left1} {left2 = left2} {room = room} {room1 = room1} n x {line = line} {line' = line'} {bytes = bytes} r t
+line_read_to_newline {left = left} {left1 = left1} {left2 = left2} {room = room} {room1 = room1} n x {line = line} {line' = line'} {bytes =
+    bytes} r t
     le =
-    let none : endless line' ≡ true = ap endless t.longer ∙ endless_more line t.piece r.no_end t.no_end in
+    let none : has_no_newline line' ≡ true = ap has_no_newline t.longer ∙ no_newline_in_both line t.piece r.no_end t.no_end in
     let size = ap length t.longer ∙ length-append line t.piece in
     let same : line ++ (t.piece ++ 10 ∷ []) ≡ line' ++ 10 ∷ [] = sym (append_assoc line t.piece (10 ∷ []))
     ∙ ap (λ (xs : List ℕ). xs ++ 10 ∷ []) (sym t.longer) in
     let given : Consumes left left2 (line' ++ 10 ∷ []) = subst (λ (xs : List ℕ). Consumes left left2 xs) same
     (Consumes-trans left left1 left2 line (t.piece ++ 10 ∷ []) r.given t.taken) in
-    let both = ends_at_newline left left2 room (room1 - bytes) line' none (omega (arith, r.rooms, le, t.count, size)) given in
+    let both = line_ends_at_newline left left2 room (room1 - bytes) line' none (omega (arith, r.rooms, le, t.count, size)) given in
     record {
       gives = record { count = refl; takes = both.0 };
       ends = both.1;
       less = omega (arith, r.rooms, le, t.some);
     }
 
-ends_with_text : (a b : Option (List ℕ)) (room room' : ℕ) (line : List ℕ) → endless line ≡ true → 0 < length line
+-- The last line of a text is read up to the end of the text.
+line_ends_with_text : (a b : Option (List ℕ)) (room room' : ℕ) (line : List ℕ) → has_no_newline line ≡ true → 0 < length line
     → room ≡ length line + room' → Consumes a b line → IsAtEnd b
     → LinesReadFrom a room (line ∷ []) b room' × IfSome a (λ left. ¬ ExceedsLimit room left)
-ends_with_text None b room room' line none some rooms h e = (tt, tt)
-ends_with_text (Some a) None room room' line none some rooms h e = absurd h
-ends_with_text (Some a) (Some b) room room' line none some rooms h e =
+line_ends_with_text None b room room' line none some rooms h e = (tt, tt)
+line_ends_with_text (Some a) None room room' line none some rooms h e = absurd h
+line_ends_with_text (Some a) (Some b) room room' line none some rooms h e =
     let whole : a ≡ line = h ∙ (ap (λ (xs : List ℕ). line ++ xs) e ∙ append-nil line) in (
       record {
         front = line;
         split = h;
-        are = ap lines_of whole ∙ (line_last line some none ∙ ap (λ (xs : List ℕ). line ∷ lines_of xs) (sym e));
+        are = ap lines_of whole ∙ (lines_of_text_without_newline line some none ∙ ap (λ (xs : List ℕ). line ∷ lines_of xs) (sym e));
         rooms = rooms;
       },
       λ over. absurd (omega (arith, over.over, rooms, ap length whole)),
     )
 
-at_end : (a b : Option (List ℕ)) → Consumes a b [] → IsAtEnd b → IsAtEnd a
-at_end None b h e = tt
-at_end (Some a) None h e = absurd h
-at_end (Some a) (Some b) h e = h ∙ e
+-- A text of which nothing was taken is at its end if it is there afterwards.
+end_reached_without_bytes : (a b : Option (List ℕ)) → Consumes a b [] → IsAtEnd b → IsAtEnd a
+end_reached_without_bytes None b h e = tt
+end_reached_without_bytes (Some a) None h e = absurd h
+end_reached_without_bytes (Some a) (Some b) h e = h ∙ e
 
 -- A list of no length is empty.
-pub nil_of_length : (xs : List ℕ) → (length xs == 0) ≡ true → xs ≡ []
-nil_of_length [] h = refl
-nil_of_length (b ∷ bs) h = absurd (grind (arith, h))
+pub empty_list_of_no_length : (xs : List ℕ) → (length xs == 0) ≡ true → xs ≡ []
+empty_list_of_no_length [] h = refl
+empty_list_of_no_length (b ∷ bs) h = absurd (grind (arith, h))
 
--- The text ended: what was read is the last line, or there is none.
-pub text_ended : (left left' : Option (List ℕ)) (room room' n : ℕ) (x line : List ℕ) → ReadSoFar left room left' room' line → IsAtEnd left'
-    → (some : Bool) → some ≡ not (length line == 0) → Next (source_state left room n x) some (source_state left' room' (n + 1) line)
-text_ended left left' room room' n x [] r e true h = cc
-text_ended left left' room room' n x [] r e false h = at_end left left' r.given e
-text_ended left left' room room' n x (b ∷ bs) r e false h = absurd (grind (arith, h))
-text_ended left left' room room' n x (b ∷ bs) r e true h =
-    let both = ends_with_text left left' room room' (b ∷ bs) r.no_end (omega arith) r.rooms r.given e in
+-- At the end of the text the bytes read so far are the last line, unless they are none.
+pub last_line_at_end_of_text : (left left' : Option (List ℕ)) (room room' n : ℕ) (x line : List ℕ) →
+    LineReadSoFar left room left' room' line → IsAtEnd left'
+    → (some : Bool) → some ≡ not (length line == 0) → NextLineOrEnd (source_state left room n x) some (source_state left' room' (n + 1)
+    line)
+last_line_at_end_of_text left left' room room' n x [] r e true h = cc
+last_line_at_end_of_text left left' room room' n x [] r e false h = end_reached_without_bytes left left' r.given e
+last_line_at_end_of_text left left' room room' n x (b ∷ bs) r e false h = absurd (grind (arith, h))
+last_line_at_end_of_text left left' room room' n x (b ∷ bs) r e true h =
+    let both = line_ends_with_text left left' room room' (b ∷ bs) r.no_end (omega arith) r.rooms r.given e in
     record {
       gives = record { count = refl; takes = both.0 };
       ends = both.1;
       less = omega (arith, r.rooms);
     }
 
--- No line.
+-- Reading that gives no line.
 
-too_long_is_none : (given : Option (List ℕ)) (line : List ℕ) → 65536 < length line → line_of given line ≡ None
+too_long_line_is_no_line : (given : Option (List ℕ)) (line : List ℕ) → 65536 < length line → line_of given line ≡ None
 unfolding line_of read_line
-too_long_is_none given line long = grind (arith, long)
+too_long_line_is_no_line given line long = grind (arith, long)
 
-long_line : (g a b : Option (List ℕ)) (room n : ℕ) (line : List ℕ) → Consumes a b line → length line ≡ 65537 → endless line ≡ true
-    → length line ≤ room → IfSome a (λ left. IsStopped room left (BadLine (n + 1)) × NoLineRead g (n + 1) (lines_of left) (BadLine (n + 1)))
-long_line g None b room n line h size none le = tt
-long_line g (Some a) None room n line h size none le = absurd h
-long_line g (Some a) (Some b) room n line h size none le =
-    let long = line_long line b (omega (arith, size)) none in
+-- A line of over 65,536 bytes stops the reading.
+too_long_line_stops_reading : (g a b : Option (List ℕ)) (room n : ℕ) (line : List ℕ) → Consumes a b line → length line ≡ 65537 →
+    has_no_newline line ≡ true
+    → length line ≤ room → IfSome a (λ left. ReadingIsStopped room left (BadLine (n + 1))
+    × NoLineRead g (n + 1) (lines_of left) (BadLine (n + 1)))
+too_long_line_stops_reading g None b room n line h size none le = tt
+too_long_line_stops_reading g (Some a) None room n line h size none le = absurd h
+too_long_line_stops_reading g (Some a) (Some b) room n line h size none le =
+    let long = first_line_not_shorter line b (omega (arith, size)) none in
     let is : lines_of a ≡ long.0 ∷ long.1 = ap lines_of h ∙ long.2 in (
       λ over. absurd (omega (arith, over.short, size, le)),
       subst (λ (ls : List (List ℕ)). NoLineRead g (n + 1) ls (BadLine (n + 1))) (sym is)
-          (refl, too_long_is_none g long.0 (omega (arith, size, long.3))),
+          (refl, too_long_line_is_no_line g long.0 (omega (arith, size, long.3))),
     )
 
--- The line has over 65,536 bytes.
-pub line_too_long : {left left1 left2 : Option (List ℕ)} {room room1 : ℕ} (n : ℕ) (x : List ℕ) {line line' : List ℕ} {bytes : ℕ}
-    → ReadSoFar left room left1 room1 line → PieceRead left1 line bytes false left2 line' → bytes ≤ room1 → 65536 < length line'
+-- A source gives no line, if the line has over 65,536 bytes.
+pub source_stops_at_too_long_line : {left left1 left2 : Option (List ℕ)} {room room1 : ℕ} (n : ℕ) (x : List ℕ) {line line' : List ℕ} {bytes
+    : ℕ}
+    → LineReadSoFar left room left1 room1 line → PieceRead left1 line bytes false left2 line' → bytes ≤ room1 → 65536 < length line'
     → (g : Option (List ℕ)) → StopsSource g (source_state left room n x) (BadLine (n + 1))
-line_too_long {left = left} {left1 = left1} {left2 = left2} {room = room} n x {line = line} {line' = line'} r t le long g =
+source_stops_at_too_long_line {left = left} {left1 = left1} {left2 = left2} {room = room} n x {line = line} {line' = line'} r t le long g =
     let size = ap length t.longer ∙ length-append line t.piece in
     let given : Consumes left left2 line' = subst (λ (xs : List ℕ). Consumes left left2 xs) (sym t.longer)
     (Consumes-trans left left1 left2 line t.piece r.given t.taken) in
-    let none : endless line' ≡ true = ap endless t.longer ∙ endless_more line t.piece r.no_end t.no_end in
-    long_line g left left2 room n line' given (omega (arith, long, t.short)) none (omega (arith, r.rooms, le, t.count, size))
+    let none : has_no_newline line' ≡ true = ap has_no_newline t.longer ∙ no_newline_in_both line t.piece r.no_end t.no_end in
+    too_long_line_stops_reading g left left2 room n line' given (omega (arith, long, t.short)) none (omega (
+      arith,
+      r.rooms,
+      le,
+      t.count,
+      size,
+    ))

@@ -1,78 +1,93 @@
--- A session that reports nothing after an action has one action fewer left.
+-- A session that reports nothing after an action has one action less.
 use Rattle.std.proofs.Common.{◌≡◌, ℕ, zero, suc, pred, ◌<◌, Bool, true, false, Option, None, Result, Ok, refl, sym, ap, ◌∙◌, subst, arith}
 use Rattle.dfu_host.specs.declared.report.Report.{Report}
 use Rattle.dfu_host.specs.declared.report.Report.TheVariants.{Unconfirmed, Aborted, RestartsSpent}
 use Rattle.dfu_host.specs.Phases.{Phase, Find, Last, GiveUp, Over, OverUploaded, Heard, WasReset, Restarted, Left}
 use Rattle.dfu_host.specs.BehindClose.{is_behind_close}
 use Rattle.dfu_host.specs.Table.{host_row}
-use Rattle.dfu_host.specs.Host.{HostState, IsOver, budgeted, restarted, host_after_leaving, host_after, after_phase, after}
+use Rattle.dfu_host.specs.Host.{HostState, IsOverPhase, phase_in_budget, host_after_restart, host_after_leaving, host_after_result, host_after_phase, after}
 use Rattle.dfu_sim.specs.declared.fault.LinkFault.{LinkFault}
-use Rattle.dfu_sim.specs.LinkView.{Session, Nobody, Hosted, LinkView, WorldView}
+use Rattle.dfu_sim.specs.LinkView.{Session, NoLiveSession, HostSession, LinkView, WorldView}
 use Rattle.dfu_sim.specs.Bytes.{BytePlay}
-use Rattle.dfu_sim.specs.Play.{Answered, settled, took}
-use Rattle.dfu_sim.specs.Happening.{Happening, Fate, Harm, Goes}
+use Rattle.dfu_sim.specs.Play.{Answered, settled_session, host_outcome}
+use Rattle.dfu_sim.specs.Happening.{Happening, Fate, WriteHarm, Goes}
 use Rattle.dfu_sim.specs.EventResults.{EventResult, refuses, happens, report_of_result, WorldEventResult}
 
--- How many actions the live session has left.
-abbrev pub actions_in : Session → ℕ
-actions_in Nobody = 0
-actions_in (Hosted h) = h.actions
+-- The actions that a live session has left, or 0 without a session.
+abbrev pub actions_left_of_session : Session → ℕ
+actions_left_of_session NoLiveSession = 0
+actions_left_of_session (HostSession h) = h.actions
 
--- A host that reports nothing stays live, and isn't done.
-stays_live : (h : HostState) (phase : Phase) → (settled h phase).answer.report ≡ None
-    → ((settled h phase).session ≡ Hosted h) × (IsOver phase → ⊥)
+-- A host that reports nothing is live, and not done.
+stays_live : (h : HostState) (phase : Phase) → (settled_session h phase).answer.report ≡ None
+    → ((settled_session h phase).session ≡ HostSession h) × (IsOverPhase phase → ⊥)
 stays_live h (Over r) e = absurd cc
 stays_live h (OverUploaded kept) e = absurd cc
 stays_live h phase e = (refl, λ over. over)
 
-spent_less : (n : ℕ) (phase : Phase) → (IsOver (budgeted (pred n) phase) → ⊥) → pred n < n
-spent_less zero (Over r) on = absurd (on tt)
-spent_less zero (OverUploaded kept) on = absurd (on tt)
-spent_less zero phase on = absurd (on tt)
-spent_less (suc n) phase on = omega arith
+-- A host that goes on after an action has fewer actions left.
+spent_action_leaves_fewer : (n : ℕ) (phase : Phase) → (IsOverPhase (phase_in_budget (pred n) phase) → ⊥) → pred n < n
+spent_action_leaves_fewer zero (Over r) on = absurd (on tt)
+spent_action_leaves_fewer zero (OverUploaded kept) on = absurd (on tt)
+spent_action_leaves_fewer zero phase on = absurd (on tt)
+spent_action_leaves_fewer (suc n) phase on = omega arith
 
-restarted_less : (h : HostState) (phase : Phase) (restarts : ℕ) → (IsOver (restarted h phase restarts).phase → ⊥)
-    → (restarted h phase restarts).actions < h.actions
-restarted_less h GiveUp restarts on = spent_less h.actions (Over Aborted) on
-restarted_less h phase zero on = spent_less h.actions (Over RestartsSpent) on
-restarted_less h phase (suc restarts) on = spent_less h.actions Find on
+-- A host that goes on after a restart has fewer actions left.
+restart_leaves_fewer_actions : (h : HostState) (phase : Phase) (restarts : ℕ) →
+    (IsOverPhase (host_after_restart h phase restarts).phase → ⊥)
+    → (host_after_restart h phase restarts).actions < h.actions
+restart_leaves_fewer_actions h GiveUp restarts on = spent_action_leaves_fewer h.actions (Over Aborted) on
+restart_leaves_fewer_actions h phase zero on = spent_action_leaves_fewer h.actions (Over RestartsSpent) on
+restart_leaves_fewer_actions h phase (suc restarts) on = spent_action_leaves_fewer h.actions Find on
 
-left_less : (h : HostState) (phase : Phase) (behind : Bool) → (IsOver (host_after_leaving h phase behind).phase → ⊥)
+-- A host that goes on after its device left has fewer actions left.
+leaving_leaves_fewer_actions : (h : HostState) (phase : Phase) (behind : Bool) → (IsOverPhase (host_after_leaving h phase behind).phase → ⊥)
     → (host_after_leaving h phase behind).actions < h.actions
-left_less h phase true on = spent_less h.actions (host_row h.task (Last Unconfirmed) WasReset) on
-left_less h phase false on = restarted_less h phase h.restarts on
+leaving_leaves_fewer_actions h phase true on = spent_action_leaves_fewer h.actions (host_row h.task (Last Unconfirmed) WasReset) on
+leaving_leaves_fewer_actions h phase false on = restart_leaves_fewer_actions h phase h.restarts on
 
-told_less : (h : HostState) (phase : Phase) (heard : Heard) → (IsOver (host_after h phase heard).phase → ⊥)
-    → (host_after h phase heard).actions < h.actions
-told_less h phase Restarted on = restarted_less h phase h.restarts on
-told_less h phase Left on = left_less h phase (is_behind_close h.task.goal phase) on
-told_less h phase heard on = spent_less h.actions (host_row h.task phase heard) on
+-- A live host that goes on after it heard something has fewer actions left.
+heard_host_has_fewer_actions : (h : HostState) (phase : Phase) (heard : Heard) → (IsOverPhase (host_after_result h phase heard).phase → ⊥)
+    → (host_after_result h phase heard).actions < h.actions
+heard_host_has_fewer_actions h phase Restarted on = restart_leaves_fewer_actions h phase h.restarts on
+heard_host_has_fewer_actions h phase Left on = leaving_leaves_fewer_actions h phase (is_behind_close h.task.goal phase) on
+heard_host_has_fewer_actions h phase heard on = spent_action_leaves_fewer h.actions (host_row h.task phase heard) on
 
-after_less : (h : HostState) (phase : Phase) (heard : Heard) → h.phase ≡ phase → (IsOver (after_phase h phase heard).phase → ⊥)
-    → (after_phase h phase heard).actions < h.actions
-after_less h (Over r) heard e on = absurd (on (subst IsOver (sym e) tt))
-after_less h (OverUploaded kept) heard e on = absurd (on (subst IsOver (sym e) tt))
-after_less h phase heard e on = told_less h phase heard on
+-- A host that goes on after it heard something in a phase has fewer actions left.
+phase_leaves_fewer_actions : (h : HostState) (phase : Phase) (heard : Heard) → h.phase ≡ phase →
+    (IsOverPhase (host_after_phase h phase heard).phase → ⊥)
+    → (host_after_phase h phase heard).actions < h.actions
+phase_leaves_fewer_actions h (Over r) heard e on = absurd (on (subst IsOverPhase (sym e) tt))
+phase_leaves_fewer_actions h (OverUploaded kept) heard e on = absurd (on (subst IsOverPhase (sym e) tt))
+phase_leaves_fewer_actions h phase heard e on = heard_host_has_fewer_actions h phase heard on
 
-took_less : (h : HostState) (heard : Heard) → (took h heard).answer.report ≡ None → actions_in (took h heard).session < h.actions
-took_less h heard e =
+-- A session without a report after its host heard something has fewer actions left.
+silent_outcome_has_fewer_actions : (h : HostState) (heard : Heard) → (host_outcome h heard).answer.report ≡ None
+    → actions_left_of_session (host_outcome h heard).session < h.actions
+silent_outcome_has_fewer_actions h heard e =
     let live = stays_live (after h heard) (after h heard).phase e in
-    subst (λ (s : Session). actions_in s < h.actions) (sym live.0) (after_less h h.phase heard refl live.1)
+    subst (λ (s : Session). actions_left_of_session s < h.actions) (sym live.0) (phase_leaves_fewer_actions h h.phase heard refl live.1)
 
-ok_same : {A E : Type 0} {x y : A} → ◌≡◌ {A = Result A E} (Ok x) (Ok y) → x ≡ y
-ok_same e = cc
+-- Equal results have equal values.
+ok_values_are_equal : {A E : Type 0} {x y : A} → ◌≡◌ {A = Result A E} (Ok x) (Ok y) → x ≡ y
+ok_values_are_equal e = cc
 
-comes_less : {b b' : LinkView} {fate : Fate} {harm : Harm} {answer : Result Answered LinkFault} → EventResult b (Goes fate harm) b' answer
-    → report_of_result answer ≡ Ok None → actions_in b'.session < actions_in b.session
-comes_less (refuses why) e = absurd cc
-comes_less {b = b} {b' = b'} (happens {answer = answer} means play) e =
+-- An action's event without a report leaves fewer actions.
+silent_event_leaves_fewer : {b b' : LinkView} {fate : Fate} {harm : WriteHarm} {answer : Result Answered LinkFault} →
+    EventResult b (Goes fate harm) b' answer
+    → report_of_result answer ≡ Ok None → actions_left_of_session b'.session < actions_left_of_session b.session
+silent_event_leaves_fewer (refuses why) e = absurd cc
+silent_event_leaves_fewer {b = b} {b' = b'} (happens {answer = answer} means play) e =
     let next = (subst (λ (event : Happening). BytePlay b event b' answer) means play).happens in
     let heard = next.gone.acted.heard in
-    let none : (took next.host heard).answer.report ≡ None = ap (λ (a : Answered). a.report) (sym next.answered) ∙ ok_same e in
-    subst (λ (s : Session). actions_in b'.session < actions_in s) (sym next.live)
-    (subst (λ (s : Session). actions_in s < next.host.actions) (sym next.session) (took_less next.host heard none))
+    let none : (host_outcome next.host heard).answer.report ≡ None = ap (λ (a : Answered). a.report) (sym next.answered)
+    ∙ ok_values_are_equal e in
+    subst (λ (s : Session). actions_left_of_session b'.session < actions_left_of_session s) (sym next.live)
+    (subst (λ (s : Session). actions_left_of_session s < next.host.actions) (sym next.session) (silent_outcome_has_fewer_actions next.host
+    heard none))
 
--- An action that is not refused and reports nothing leaves fewer.
-pub action_less : {w w' : WorldView} {fate : Fate} {harm : Harm} (host_after : Result (Option Report) LinkFault)
-    → WorldEventResult w (Goes fate harm) w' host_after → host_after ≡ Ok None → actions_in w'.bench.session < actions_in w.bench.session
-action_less host_after come e = comes_less come.comes (sym come.told ∙ e)
+-- An action that is not refused and reports nothing leaves the session fewer actions.
+pub silent_action_leaves_fewer : {w w' : WorldView} {fate : Fate} {harm : WriteHarm} (host_after_result : Result (Option Report) LinkFault)
+    → WorldEventResult w (Goes fate harm) w' host_after_result → host_after_result ≡ Ok None →
+    actions_left_of_session w'.bench.session < actions_left_of_session w.bench.session
+silent_action_leaves_fewer host_after_result come e = silent_event_leaves_fewer come.comes (sym come.told ∙ e)

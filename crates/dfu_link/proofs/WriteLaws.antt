@@ -1,4 +1,4 @@
--- What is out of texts that are written one after the other.
+-- Texts that are written in turn, and the prefixes that are out.
 use Rattle.std.proofs.Common.{◌≡◌, ℕ, List, [], ◌++◌, length-append, Option, sym, ap, ◌∙◌, subst, arith}
 use Rattle.std.proofs.lemmas.List.{append_assoc}
 use Rattle.std.specs.Io.KnownBytes.{Appends}
@@ -6,15 +6,15 @@ use Rattle.std.specs.Prelude.{Result, Ok, Err, IsErrAnd}
 use Rattle.std.proofs.KnownBytes.{Appends-nil, Appends-trans}
 use Rattle.dfu_suffix.specs.Writing.{IsOutInPart}
 use Rattle.dfu_link.specs.declared.scripting.fault.ScriptFault.{ScriptFault}
-use Rattle.dfu_link.specs.inside.Expected.{Puts}
+use Rattle.dfu_link.specs.inside.Expected.{TextWritten}
 
--- No text is out if nothing is written.
-pub puts_none : (old : Option (List ℕ)) → Puts [] old old (Ok tt)
-puts_none old = record { ok = Appends-nil old; err = tt; fault = tt }
+-- An empty text is out without any write.
+pub no_text_written : (old : Option (List ℕ)) → TextWritten [] old old (Ok tt)
+no_text_written old = record { ok = Appends-nil old; err = tt; fault = tt }
 
--- A text that broke, and would have gone on.
-pub broke_before : (old new : Option (List ℕ)) (xs ys : List ℕ) → IsOutInPart old new xs → IsOutInPart old new (xs ++ ys)
-broke_before old new xs ys b =
+-- If a text broke off, the same text with more bytes after it broke off too.
+pub broken_text_goes_on : (old new : Option (List ℕ)) (xs ys : List ℕ) → IsOutInPart old new xs → IsOutInPart old new (xs ++ ys)
+broken_text_goes_on old new xs ys b =
     record {
       front = b.front;
       rest = b.rest ++ ys;
@@ -23,10 +23,10 @@ broke_before old new xs ys b =
       told = b.told;
     }
 
--- A text that broke after another was out.
-pub broke_after : (old mid new : Option (List ℕ)) (xs ys : List ℕ) → Appends old mid xs → IsOutInPart mid new ys
+-- If one text is written whole and the next one breaks off, then the two taken as one text break off.
+pub text_broke_after : (old mid new : Option (List ℕ)) (xs ys : List ℕ) → Appends old mid xs → IsOutInPart mid new ys
     → IsOutInPart old new (xs ++ ys)
-broke_after old mid new xs ys h b =
+text_broke_after old mid new xs ys h b =
     record {
       front = xs ++ b.front;
       rest = b.rest;
@@ -35,24 +35,33 @@ broke_after old mid new xs ys h b =
       told = Appends-trans old mid new xs b.front h b.told;
     }
 
-both_put : (r : Result Unit ScriptFault) (old mid new : Option (List ℕ)) (xs ys : List ℕ) → Appends old mid xs → Puts ys mid new r
-    → Puts (xs ++ ys) old new r
-both_put (Ok done) old mid new xs ys h k = record { ok = Appends-trans old mid new xs ys h k.ok; err = tt; fault = tt }
-both_put (Err f) old mid new xs ys h k = record { ok = tt; err = broke_after old mid new xs ys h k.err; fault = k.fault }
+-- A text that is out, followed by the writing of another, is the writing of both.
+written_texts_joined : (r : Result Unit ScriptFault) (old mid new : Option (List ℕ)) (xs ys : List ℕ) → Appends old mid xs →
+    TextWritten ys mid new r
+    → TextWritten (xs ++ ys) old new r
+written_texts_joined (Ok done) old mid new xs ys h k = record { ok = Appends-trans old mid new xs ys h k.ok; err = tt; fault = tt }
+written_texts_joined (Err f) old mid new xs ys h k = record { ok = tt; err = text_broke_after old mid new xs ys h k.err; fault = k.fault }
 
--- One text is out, and then it went so with another: so it went with both.
-pub puts_then : {old mid new : Option (List ℕ)} {xs ys text : List ℕ} {done : Unit {0}} {r : Result Unit ScriptFault}
-    → Puts xs old mid (Ok done) → Puts ys mid new r → text ≡ xs ++ ys → Puts text old new r
-puts_then {old = old} {mid = mid} {new = new} {xs = xs} {ys = ys} {r = r} h k e =
-    subst (λ (zs : List ℕ). Puts zs old new r) (sym e) (both_put r old mid new xs ys h.ok k)
+-- If a text is out, the writing of a second text after it ends as the writing of both texts would.
+pub both_texts_written : {old mid new : Option (List ℕ)} {xs ys text : List ℕ} {done : Unit {0}} {r : Result Unit ScriptFault}
+    → TextWritten xs old mid (Ok done) → TextWritten ys mid new r → text ≡ xs ++ ys → TextWritten text old new r
+both_texts_written {old = old} {mid = mid} {new = new} {xs = xs} {ys = ys} {r = r} h k e =
+    subst (λ (zs : List ℕ). TextWritten zs old new r) (sym e) (written_texts_joined r old mid new xs ys h.ok k)
 
-one_stops : (r : Result Unit ScriptFault) (old new : Option (List ℕ)) (xs ys : List ℕ) (f : ScriptFault) → Puts xs old new (Err f)
-    → IsErrAnd r (λ e. e ≡ f) → Puts (xs ++ ys) old new r
-one_stops (Ok done) old new xs ys f h same = absurd same
-one_stops (Err e) old new xs ys f h same = record { ok = tt; err = broke_before old new xs ys h.err; fault = same ∙ h.fault }
+-- A failure in a text is a failure in that text followed by another.
+first_text_stops_both : (r : Result Unit ScriptFault) (old new : Option (List ℕ)) (xs ys : List ℕ) (f : ScriptFault) →
+    TextWritten xs old new (Err f)
+    → IsErrAnd r (λ e. e ≡ f) → TextWritten (xs ++ ys) old new r
+first_text_stops_both (Ok done) old new xs ys f h same = absurd same
+first_text_stops_both (Err e) old new xs ys f h same = record {
+  ok = tt;
+  err = broken_text_goes_on old new xs ys h.err;
+  fault = same
+      ∙ h.fault;
+}
 
--- The writer failed in one text, and another was to follow: so it failed in both.
-pub puts_stops : {old new : Option (List ℕ)} {xs text : List ℕ} {f : ScriptFault} {r : Result Unit ScriptFault} (ys : List ℕ)
-    → Puts xs old new (Err f) → IsErrAnd r (λ e. e ≡ f) → text ≡ xs ++ ys → Puts text old new r
-puts_stops {old = old} {new = new} {xs = xs} {f = f} {r = r} ys h same e =
-    subst (λ (zs : List ℕ). Puts zs old new r) (sym e) (one_stops r old new xs ys f h same)
+-- If the writer failed in a text, it failed in that text followed by any other.
+pub both_texts_fail : {old new : Option (List ℕ)} {xs text : List ℕ} {f : ScriptFault} {r : Result Unit ScriptFault} (ys : List ℕ)
+    → TextWritten xs old new (Err f) → IsErrAnd r (λ e. e ≡ f) → text ≡ xs ++ ys → TextWritten text old new r
+both_texts_fail {old = old} {new = new} {xs = xs} {f = f} {r = r} ys h same e =
+    subst (λ (zs : List ℕ). TextWritten zs old new r) (sym e) (first_text_stops_both r old new xs ys f h same)

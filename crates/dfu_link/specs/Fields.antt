@@ -1,25 +1,25 @@
--- The fields of a line: what a word means, if it is what its place wants.
+-- The fields of a line: the meaning of a word, if its place wants such a word.
 use Rattle.std.specs.Prelude.{ℕ, ◌%◌, ◌==◌, List, Option, Some, None, nat_le, codes, if◌then◌else◌}
 use Rattle.std.specs.Str.{bytes_eq}
 use Rattle.dfu_slots.specs.declared.layout.Unit.{Unit as WriteUnit}
 use Rattle.dfu_slots.specs.declared.layout.Unit.TheVariants.{Byte, U16, U64, U256}
 use Rattle.dfu_device.specs.declared.objection.Objection.{Objection}
 use Rattle.dfu_device.specs.declared.objection.Objection.TheVariants.{Target, File}
-use Rattle.dfu_link.specs.Words.{◌>>=◌, guard, hex_word_bytes, number_of, pair_of}
+use Rattle.dfu_link.specs.Words.{◌>>=◌, value_if, hex_word_bytes, number_of, number_of_pair}
 
--- A number that is at most this one.
+-- A number of at most `most`.
 unfoldable pub small_of : ℕ → List ℕ → Option ℕ
-small_of most word = number_of word >>= λ n. guard (nat_le n most) n
+small_of most word = number_of word >>= λ n. value_if (nat_le n most) n
 
--- A number from 1 to this one.
+-- A number from 1 to `most`.
 unfoldable pub count_of : ℕ → List ℕ → Option ℕ
-count_of most word = small_of most word >>= λ n. guard (nat_le 1 n) n
+count_of most word = small_of most word >>= λ n. value_if (nat_le 1 n) n
 
 -- Two hexadecimal digits, 00 to 0f.
 unfoldable pub attributes_of_word : List ℕ → Option ℕ
-attributes_of_word word = pair_of word >>= λ n. guard (nat_le n 15) n
+attributes_of_word word = number_of_pair word >>= λ n. value_if (nat_le n 15) n
 
--- The unit of so many bytes.
+-- The unit of that many bytes, if there is one.
 abbrev pub unit_named : ℕ → Option WriteUnit
 unit_named n =
     if n == 1 then Some Byte
@@ -34,15 +34,15 @@ unit_of_word word = number_of word >>= λ n. unit_named n
 
 -- Bytes that the medium erases at a time: 0 or a multiple of 256 up to 131,072.
 unfoldable pub sector_of : List ℕ → Option ℕ
-sector_of word = small_of 131072 word >>= λ n. guard (n % 256 == 0) n
+sector_of word = small_of 131072 word >>= λ n. value_if (n % 256 == 0) n
 
--- The word of why a program refuses an image: the status code that reports it.
+-- The objection of a word, which is the status code that reports it.
 abbrev pub objection_of : List ℕ → Option Objection
 objection_of w =
     if bytes_eq w (codes "errTARGET") then Some Target
     else if bytes_eq w (codes "errFILE") then Some File
     else None
 
--- The bytes that a word of an offer means: FILE the bytes that are given, if they are, any other word those that it spells.
+-- The bytes that a word of an offer means: FILE means the given bytes, and any other word the bytes that it spells.
 unfoldable pub named_bytes : Option (List ℕ) → List ℕ → Option (List ℕ)
 named_bytes given word = if bytes_eq word (codes "FILE") then given else hex_word_bytes word

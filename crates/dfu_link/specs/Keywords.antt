@@ -1,4 +1,4 @@
--- The words that a line or a fate begins with.
+-- The first words of lines, and the words of fates.
 use Rattle.std.specs.Prelude.{ℕ, List, Option, Some, None, codes, if◌then◌else◌}
 use Rattle.std.specs.Str.{bytes_eq}
 use Rattle.dfu_link.specs.declared.scripting.words.Keyword.{Keyword}
@@ -6,7 +6,7 @@ use Rattle.dfu_link.specs.declared.scripting.words.Keyword.TheVariants as key
 use Rattle.dfu_link.specs.declared.scripting.words.FateKeyword.{FateKeyword}
 use Rattle.dfu_link.specs.declared.scripting.words.FateKeyword.TheVariants as fate
 
--- The first word of a line that isn't a comment, and says nothing of the device and its medium.
+-- The keyword that the first word of a line is, unless it is a comment or a word of the device and its medium.
 unfoldable pub later_keyword_of : List ℕ → Option Keyword
 later_keyword_of w =
     if bytes_eq w (codes "limits") then Some key.Limits
@@ -24,7 +24,7 @@ later_keyword_of w =
     else if bytes_eq w (codes "refuse") then Some key.Refuse
     else None
 
--- The first word of a line that isn't a comment.
+-- The keyword that the first word of a line is, unless it is a comment.
 unfoldable pub keyword_of : List ℕ → Option Keyword
 keyword_of w =
     if bytes_eq w (codes "ids") then Some key.Ids
@@ -36,7 +36,7 @@ keyword_of w =
     else if bytes_eq w (codes "image") then Some key.Image
     else later_keyword_of w
 
--- The word after `go`: that of a fate, or `until`.
+-- The word after `go`: the name of a fate, or `until`.
 unfoldable pub fate_keyword_of : List ℕ → Option FateKeyword
 fate_keyword_of w =
     if bytes_eq w (codes "pass") then Some fate.Pass

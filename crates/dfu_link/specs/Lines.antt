@@ -1,14 +1,14 @@
--- The grammar of a line: its forms, what each form says, and what is wrong with a line that has none.
+-- The grammar of a line: its forms, the meaning of each form, and the fault of a line that has none of them.
 use Rattle.std.specs.Prelude.{◌≡◌, ℕ, Bool, false, length, ◌==◌, List, [], ◌∷◌, Option, Result, Ok, Err, ok_or, nat_le, codes, if◌then◌else◌}
 use Rattle.std.specs.Str.{bytes_eq}
 use Rattle.dfu_wire.specs.Functional.{functional_of}
 use Rattle.dfu_wire.specs.Identifier.{identifier_in}
 use Rattle.dfu_sim.specs.declared.offering.Purpose.{Purpose}
 use Rattle.dfu_sim.specs.declared.offering.Purpose.TheVariants.{Install, Verify}
-use Rattle.dfu_sim.specs.Happening.{Fate, Pass, LostOut, LostBack, Twice, TwiceLostBack, Slip, CutIn, Fail, Lie, unharmed, harmed}
+use Rattle.dfu_sim.specs.Happening.{Fate, Pass, LostOut, LostBack, Twice, TwiceLostBack, Slip, CutInWrite, Fail, Lie, no_write_harmed, harmed}
 use Rattle.dfu_link.specs.Words.{ok_of, hex_word_bytes, number_of, first_word, text_behind, words_of}
 use Rattle.dfu_link.specs.Fields.{small_of, count_of, attributes_of_word, unit_of_word, sector_of, objection_of, named_bytes}
-use Rattle.dfu_link.specs.LineContent.{LineContent, Blank, Sets, LimitsTo, Does, GoesOn, Show, Expects, TheIds, TheDevice, TheUnit, TheSector, ThePace, TheCapacity, TheImage, TheCheck, Offer, Upload, Abort, Go, Time, Reset, Cut, Refuse}
+use Rattle.dfu_link.specs.LineContent.{LineContent, Blank, SetsConfig, SetsLimits, Does, GoesOn, Show, ExpectsText, SetsDeviceIds, SetsDevice, SetsUnit, SetsSector, SetsPace, SetsCapacity, SetsImage, SetsCheck, Offer, Upload, Abort, Go, Time, Reset, Cut, Refuse}
 use Rattle.dfu_link.specs.Keywords.{keyword_of, fate_keyword_of}
 use Rattle.dfu_link.specs.declared.scripting.words.Keyword.{Keyword}
 use Rattle.dfu_link.specs.declared.scripting.words.Keyword.TheVariants as key
@@ -19,195 +19,195 @@ use Rattle.dfu_link.specs.declared.scripting.fault.Field.TheVariants as a
 use Rattle.dfu_link.specs.declared.scripting.fault.LineFault.{LineFault}
 use Rattle.dfu_link.specs.declared.scripting.fault.LineFault.TheVariants as wrong
 
--- Result of reading a line: its meaning, or its fault.
-abbrev pub Read : Type 0 → Type 0
-Read A = Result A LineFault
+-- Result of reading a line: the meaning of the line, or its fault.
+abbrev pub LineResult : Type 0 → Type 0
+LineResult A = Result A LineFault
 
--- One step of reading after another: what is wrong with the first is wrong with the line.
+-- A reading step after another: if the first step fails, its fault is the fault of the line.
 infixl 10 ◌>>=◌
-abbrev pub ◌>>=◌ : {A B : Type 0} → Read A → (A → Read B) → Read B
+abbrev pub ◌>>=◌ : {A B : Type 0} → LineResult A → (A → LineResult B) → LineResult B
 (Ok x) >>= f = f x
 (Err e) >>= f = Err e
 
--- The code's reading, seen for its meaning, is the reading that is wanted; and if it read nothing, the fault is the one that is wanted.
-abbrev pub ReadMatches : {X Y : Type 0} → (X → Y) → Read X → Read Y → Type 0
+-- The code's reading of a line, seen for its meaning, is the reading of the grammar; a line that the code refuses has the grammar's fault.
+abbrev pub ReadMatches : {X Y : Type 0} → (X → Y) → LineResult X → LineResult Y → Type 0
 ReadMatches view (Ok x) read = read ≡ Ok (view x)
 ReadMatches view (Err e) read = read ≡ Err e
 
--- Word n of a line of so many, as this reads it, and the words after it.
-abbrev pub field : {A : Type 0} → Field → (List ℕ → Option A) → (n of : ℕ) → List (List ℕ) → Read (A × List (List ℕ))
-field f read n of words =
+-- Word n of a line of `of` words, read as the field says, and the words after it.
+abbrev pub word_field : {A : Type 0} → Field → (List ℕ → Option A) → (n of : ℕ) → List (List ℕ) → LineResult (A × List (List ℕ))
+word_field f read n of words =
     ok_or (first_word words) (wrong.Count of) >>= λ w. ok_or (read w.0) (wrong.Word f n) >>= λ x. Ok (x, w.1)
 
 -- A number.
-unfoldable pub number_field : (n of : ℕ) → List (List ℕ) → Read (ℕ × List (List ℕ))
-number_field n of words = field a.Number number_of n of words
+unfoldable pub number_field : (n of : ℕ) → List (List ℕ) → LineResult (ℕ × List (List ℕ))
+number_field n of words = word_field a.Number number_of n of words
 
 -- A number of at most 65,535.
-unfoldable pub short_at : (n of : ℕ) → List (List ℕ) → Read (ℕ × List (List ℕ))
-short_at n of words = field a.Short (small_of 65535) n of words
+unfoldable pub short_at : (n of : ℕ) → List (List ℕ) → LineResult (ℕ × List (List ℕ))
+short_at n of words = word_field a.Short (small_of 65535) n of words
 
 -- Hexadecimal text.
-unfoldable pub hex_at : (n of : ℕ) → List (List ℕ) → Read (List ℕ × List (List ℕ))
-hex_at n of words = field a.Bytes hex_word_bytes n of words
+unfoldable pub hex_at : (n of : ℕ) → List (List ℕ) → LineResult (List ℕ × List (List ℕ))
+hex_at n of words = word_field a.Bytes hex_word_bytes n of words
 
 -- Fault of word n if it names no file.
 abbrev pub no_file : List ℕ → (n : ℕ) → LineFault
 no_file word n = if bytes_eq word (codes "FILE") then wrong.NoFile else wrong.Word a.Bytes n
 
 -- The bytes of a file that is offered.
-unfoldable pub offered_file : Option (List ℕ) → (n of : ℕ) → List (List ℕ) → Read (List ℕ × List (List ℕ))
+unfoldable pub offered_file : Option (List ℕ) → (n of : ℕ) → List (List ℕ) → LineResult (List ℕ × List (List ℕ))
 offered_file given n of words =
     ok_or (first_word words) (wrong.Count of) >>= λ w. ok_or (named_bytes given w.0) (no_file w.0 n) >>= λ x. Ok (x, w.1)
 
 -- Four hexadecimal digits.
-unfoldable pub identifier_at : (n of : ℕ) → List (List ℕ) → Read (ℕ × List (List ℕ))
-identifier_at n of words = field a.Identifier identifier_in n of words
+unfoldable pub identifier_at : (n of : ℕ) → List (List ℕ) → LineResult (ℕ × List (List ℕ))
+identifier_at n of words = word_field a.Identifier identifier_in n of words
 
 -- A line is a comment if its first word begins with `#`.
 abbrev pub is_comment : List ℕ → Bool
 is_comment [] = false
 is_comment (byte ∷ bytes) = byte == 35
 
--- This, if the line has no further word; it has to have so many.
-abbrev pub ends : {A : Type 0} → A → (of : ℕ) → List (List ℕ) → Read A
-ends x of [] = Ok x
-ends x of (word ∷ words) = Err (if is_comment word then wrong.Comment else wrong.Count of)
+-- The value, if the line has no further word. Else the fault says that the line must have `of` words, or that a comment needs a line.
+abbrev pub line_ends : {A : Type 0} → A → (of : ℕ) → List (List ℕ) → LineResult A
+line_ends x of [] = Ok x
+line_ends x of (word ∷ words) = Err (if is_comment word then wrong.Comment else wrong.Count of)
 
 -- After `ids`: the vendor, the product and the device.
-unfoldable pub ids_content : List (List ℕ) → Read LineContent
+unfoldable pub ids_content : List (List ℕ) → LineResult LineContent
 ids_content words = do
   vendor ← identifier_at 2 4 words
   product ← identifier_at 3 4 vendor.1
   device ← identifier_at 4 4 product.1
-  ends (Sets (TheIds (record { device = device.0; product = product.0; vendor = vendor.0 }))) 4 device.1
+  line_ends (SetsConfig (SetsDeviceIds (record { device = device.0; product = product.0; vendor = vendor.0 }))) 4 device.1
 
 -- After `device`: the attributes, the detach timeout, the transfer size, the fewest bytes of an image, and two times.
-unfoldable pub device_content : List (List ℕ) → Read LineContent
+unfoldable pub device_content : List (List ℕ) → LineResult LineContent
 device_content words = do
-  attributes ← field a.Attributes attributes_of_word 2 7 words
+  attributes ← word_field a.Attributes attributes_of_word 2 7 words
   detach ← short_at 3 7 attributes.1
   transfer ← short_at 4 7 detach.1
   least ← number_field 5 7 transfer.1
   busy ← number_field 6 7 least.1
   manifest ← number_field 7 7 busy.1
-  ends (Sets (TheDevice (functional_of attributes.0 detach.0 transfer.0 0x0110) least.0 busy.0 manifest.0)) 7 manifest.1
+  line_ends (SetsConfig (SetsDevice (functional_of attributes.0 detach.0 transfer.0 0x0110) least.0 busy.0 manifest.0)) 7 manifest.1
 
 -- After `unit`: how many bytes the medium writes at a time.
-unfoldable pub unit_line : List (List ℕ) → Read LineContent
+unfoldable pub unit_line : List (List ℕ) → LineResult LineContent
 unit_line words = do
-  unit ← field a.Unit unit_of_word 2 2 words
-  ends (Sets (TheUnit unit.0)) 2 unit.1
+  unit ← word_field a.Unit unit_of_word 2 2 words
+  line_ends (SetsConfig (SetsUnit unit.0)) 2 unit.1
 
 -- After `erase`: how many bytes the medium erases at a time.
-unfoldable pub erase_of : List (List ℕ) → Read LineContent
+unfoldable pub erase_of : List (List ℕ) → LineResult LineContent
 erase_of words = do
-  sector ← field a.Sector sector_of 2 2 words
-  ends (Sets (TheSector sector.0)) 2 sector.1
+  sector ← word_field a.Sector sector_of 2 2 words
+  line_ends (SetsConfig (SetsSector sector.0)) 2 sector.1
 
 -- After `pace`: how many milliseconds an erase and a program of 256 bytes take.
-unfoldable pub pace_line : List (List ℕ) → Read LineContent
+unfoldable pub pace_line : List (List ℕ) → LineResult LineContent
 pace_line words = do
   erase ← short_at 2 3 words
   program ← short_at 3 3 erase.1
-  ends (Sets (ThePace erase.0 program.0)) 3 program.1
+  line_ends (SetsConfig (SetsPace erase.0 program.0)) 3 program.1
 
 -- After `capacity`: how many bytes an image may have.
-unfoldable pub capacity_content : List (List ℕ) → Read LineContent
+unfoldable pub capacity_content : List (List ℕ) → LineResult LineContent
 capacity_content words = do
-  n ← field a.Capacity (count_of 1048576) 2 2 words
-  ends (Sets (TheCapacity n.0)) 2 n.1
+  n ← word_field a.Capacity (count_of 1048576) 2 2 words
+  line_ends (SetsConfig (SetsCapacity n.0)) 2 n.1
 
 -- After `image`: the bytes.
-unfoldable pub image_content : List (List ℕ) → Read LineContent
+unfoldable pub image_content : List (List ℕ) → LineResult LineContent
 image_content words = do
   image ← hex_at 2 2 words
-  ends (Sets (TheImage image.0)) 2 image.1
+  line_ends (SetsConfig (SetsImage image.0)) 2 image.1
 
 -- After `check`: the bytes.
-unfoldable pub check_of : List (List ℕ) → Read LineContent
+unfoldable pub check_of : List (List ℕ) → LineResult LineContent
 check_of words = do
   front ← hex_at 2 2 words
-  ends (Sets (TheCheck front.0)) 2 front.1
+  line_ends (SetsConfig (SetsCheck front.0)) 2 front.1
 
 -- After `limits`: the actions, and the restarts.
-unfoldable pub limits_content : List (List ℕ) → Read LineContent
+unfoldable pub limits_content : List (List ℕ) → LineResult LineContent
 limits_content words = do
   actions ← number_field 2 3 words
   restarts ← short_at 3 3 actions.1
-  ends (LimitsTo actions.0 restarts.0) 3 restarts.1
+  line_ends (SetsLimits actions.0 restarts.0) 3 restarts.1
 
 -- After `offer` and `verify`: the bytes of the file.
-unfoldable pub offer_of : (given : Option (List ℕ)) → Purpose → List (List ℕ) → Read LineContent
+unfoldable pub offer_of : (given : Option (List ℕ)) → Purpose → List (List ℕ) → LineResult LineContent
 offer_of given purpose words = do
   file ← offered_file given 2 2 words
-  ends (Does (Offer purpose file.0)) 2 file.1
+  line_ends (Does (Offer purpose file.0)) 2 file.1
 
 -- After `time`: the milliseconds.
-unfoldable pub time_of : List (List ℕ) → Read LineContent
+unfoldable pub time_of : List (List ℕ) → LineResult LineContent
 time_of words = do
   ms ← number_field 2 2 words
-  ends (Does (Time ms.0)) 2 ms.1
+  line_ends (Does (Time ms.0)) 2 ms.1
 
 -- After `refuse`: why.
-unfoldable pub refuse_of : List (List ℕ) → Read LineContent
+unfoldable pub refuse_of : List (List ℕ) → LineResult LineContent
 refuse_of words = do
-  why ← field a.Objection objection_of 2 2 words
-  ends (Does (Refuse why.0)) 2 why.1
+  why ← word_field a.Objection objection_of 2 2 words
+  line_ends (Does (Refuse why.0)) 2 why.1
 
 -- After `go pass`: how often, 1 to 1,000,000 times.
-unfoldable pub pass_of : List (List ℕ) → Read LineContent
+unfoldable pub pass_of : List (List ℕ) → LineResult LineContent
 pass_of words = do
-  times ← field a.Times (count_of 1000000) 3 3 words
-  ends (Does (Go Pass unharmed times.0)) 3 times.1
+  times ← word_field a.Times (count_of 1000000) 3 3 words
+  line_ends (Does (Go Pass no_write_harmed times.0)) 3 times.1
 
 -- After `go slip`: the milliseconds.
-unfoldable pub slip_of : List (List ℕ) → Read LineContent
+unfoldable pub slip_of : List (List ℕ) → LineResult LineContent
 slip_of words = do
   ms ← number_field 3 3 words
-  ends (Does (Go (Slip ms.0) unharmed 1)) 3 ms.1
+  line_ends (Does (Go (Slip ms.0) no_write_harmed 1)) 3 ms.1
 
 -- After `go cut`, `go fail` and `go lie`: how many writes work, and the tear.
-unfoldable pub harmed_of : Fate → List (List ℕ) → Read LineContent
+unfoldable pub harmed_of : Fate → List (List ℕ) → LineResult LineContent
 harmed_of f words = do
   writes ← number_field 3 4 words
   tear ← hex_at 4 4 writes.1
-  ends (Does (Go f (harmed writes.0 tear.0) 1)) 4 tear.1
+  line_ends (Does (Go f (harmed writes.0 tear.0) 1)) 4 tear.1
 
 -- After `go until`: the word `report`.
-unfoldable pub until_of : List (List ℕ) → Read LineContent
+unfoldable pub until_of : List (List ℕ) → LineResult LineContent
 until_of words = do
   word ← ok_or (first_word words) (wrong.Count 3)
-  if bytes_eq word.0 (codes "report") then ends GoesOn 3 word.1 else Err (wrong.Word a.Report 3)
+  if bytes_eq word.0 (codes "report") then line_ends GoesOn 3 word.1 else Err (wrong.Word a.Report 3)
 
--- After the word of a fate, or `until`.
-abbrev pub by_fate : FateKeyword → List (List ℕ) → Read LineContent
-by_fate fate.Pass words = pass_of words
-by_fate fate.LostOut words = ends (Does (Go LostOut unharmed 1)) 2 words
-by_fate fate.LostBack words = ends (Does (Go LostBack unharmed 1)) 2 words
-by_fate fate.Twice words = ends (Does (Go Twice unharmed 1)) 2 words
-by_fate fate.TwiceLostBack words = ends (Does (Go TwiceLostBack unharmed 1)) 2 words
-by_fate fate.Slip words = slip_of words
-by_fate fate.Cut words = harmed_of CutIn words
-by_fate fate.Fail words = harmed_of Fail words
-by_fate fate.Lie words = harmed_of Lie words
-by_fate fate.Until words = until_of words
+-- Meaning of a line by the word of its fate, or by `until`.
+abbrev pub content_by_fate : FateKeyword → List (List ℕ) → LineResult LineContent
+content_by_fate fate.Pass words = pass_of words
+content_by_fate fate.LostOut words = line_ends (Does (Go LostOut no_write_harmed 1)) 2 words
+content_by_fate fate.LostBack words = line_ends (Does (Go LostBack no_write_harmed 1)) 2 words
+content_by_fate fate.Twice words = line_ends (Does (Go Twice no_write_harmed 1)) 2 words
+content_by_fate fate.TwiceLostBack words = line_ends (Does (Go TwiceLostBack no_write_harmed 1)) 2 words
+content_by_fate fate.Slip words = slip_of words
+content_by_fate fate.Cut words = harmed_of CutInWrite words
+content_by_fate fate.Fail words = harmed_of Fail words
+content_by_fate fate.Lie words = harmed_of Lie words
+content_by_fate fate.Until words = until_of words
 
 -- After `go`: a fate, or `until`.
-unfoldable pub go_of : List (List ℕ) → Read LineContent
+unfoldable pub go_of : List (List ℕ) → LineResult LineContent
 go_of words = do
   word ← ok_or (first_word words) wrong.NoFate
   k ← ok_or (fate_keyword_of word.0) wrong.Fate
-  by_fate k word.1
+  content_by_fate k word.1
 
 -- `expect`: the line that is to be printed next, which has a byte.
-unfoldable pub expect_of : List ℕ → Read LineContent
+unfoldable pub expect_of : List ℕ → LineResult LineContent
 expect_of line = do
   text ← ok_or (text_behind line) wrong.NoText
-  if length text == 0 then Err wrong.NoText else Ok (Expects text)
+  if length text == 0 then Err wrong.NoText else Ok (ExpectsText text)
 
--- After the first word of a line, or with all of it.
-abbrev pub by_keyword : (given : Option (List ℕ)) → Keyword → (line : List ℕ) → List (List ℕ) → Read LineContent
+-- Meaning of a line by its keyword.
+abbrev pub by_keyword : (given : Option (List ℕ)) → Keyword → (line : List ℕ) → List (List ℕ) → LineResult LineContent
 by_keyword given key.Ids line words = ids_content words
 by_keyword given key.Device line words = device_content words
 by_keyword given key.Unit line words = unit_line words
@@ -218,27 +218,27 @@ by_keyword given key.Image line words = image_content words
 by_keyword given key.Limits line words = limits_content words
 by_keyword given key.Offer line words = offer_of given Install words
 by_keyword given key.Verify line words = offer_of given Verify words
-by_keyword given key.Upload line words = ends (Does Upload) 1 words
-by_keyword given key.Abort line words = ends (Does Abort) 1 words
+by_keyword given key.Upload line words = line_ends (Does Upload) 1 words
+by_keyword given key.Abort line words = line_ends (Does Abort) 1 words
 by_keyword given key.Go line words = go_of words
 by_keyword given key.Time line words = time_of words
-by_keyword given key.Reset line words = ends (Does Reset) 1 words
-by_keyword given key.Cut line words = ends (Does Cut) 1 words
-by_keyword given key.Show line words = ends Show 1 words
+by_keyword given key.Reset line words = line_ends (Does Reset) 1 words
+by_keyword given key.Cut line words = line_ends (Does Cut) 1 words
+by_keyword given key.Show line words = line_ends Show 1 words
 by_keyword given key.Expect line words = expect_of line
 by_keyword given key.Check line words = check_of words
 by_keyword given key.Refuse line words = refuse_of words
 
--- Meaning of the words of a line: nothing if there are none, or if they are a comment.
-abbrev pub says : (given : Option (List ℕ)) → (line : List ℕ) → List (List ℕ) → Read LineContent
-says given line [] = Ok Blank
-says given line (word ∷ words) =
+-- Meaning of a line by its words; without words and for a comment there is none.
+abbrev pub line_meaning : (given : Option (List ℕ)) → (line : List ℕ) → List (List ℕ) → LineResult LineContent
+line_meaning given line [] = Ok Blank
+line_meaning given line (word ∷ words) =
     if is_comment word then Ok Blank else (ok_or (keyword_of word) wrong.Keyword >>= λ k. by_keyword given k line words)
 
--- Meaning of a line, if these bytes are given, or its fault: a line over 65,536 bytes says nothing.
-unfoldable pub read_line : (given : Option (List ℕ)) → List ℕ → Read LineContent
-read_line given line = if nat_le (length line) 65536 then says given line (words_of line) else Err wrong.Long
+-- Meaning of a line, by the bytes that FILE means, or its fault. A line of over 65,536 bytes has no meaning.
+unfoldable pub read_line : (given : Option (List ℕ)) → List ℕ → LineResult LineContent
+read_line given line = if nat_le (length line) 65536 then line_meaning given line (words_of line) else Err wrong.Long
 
--- Meaning of a line, with these bytes given, if it is one of the language.
+-- Meaning of a line, by the bytes that FILE means, if the line is one of the language.
 unfoldable pub line_of : (given : Option (List ℕ)) → List ℕ → Option LineContent
 line_of given line = ok_of (read_line given line)

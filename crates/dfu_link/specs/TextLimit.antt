@@ -1,11 +1,11 @@
--- The limit of a text, and where reading it line by line ends.
+-- The limit of a text, and the line in which reading it stops.
 use Rattle.std.specs.Prelude.{◌≡◌, ℕ, ◌-◌, ◌<◌, ◌≤◌, List, ◌∷◌, ◌++◌, length, take, true, Option, None}
-use Rattle.dfu_link.specs.Words.{endless, lines_of}
+use Rattle.dfu_link.specs.Words.{has_no_newline, lines_of}
 use Rattle.dfu_link.specs.Lines.{line_of}
 use Rattle.dfu_link.specs.declared.scripting.fault.ScriptFault.{ScriptFault}
 use Rattle.dfu_link.specs.declared.scripting.fault.ScriptFault.TheVariants.{BadLine, TooLarge, Read}
 
--- A text begins with these lines, which end within its first 16,777,216 bytes, and this is left of it.
+-- The text begins with `lines`, which end within its first 16,777,216 bytes; the rest of the text is left.
 pub record HasFrontLines (text : List ℕ) (lines : List (List ℕ)) : Type 0 where
   pub front : List ℕ
   pub left : List ℕ
@@ -13,25 +13,26 @@ pub record HasFrontLines (text : List ℕ) (lines : List (List ℕ)) : Type 0 wh
   pub are : lines_of text ≡ lines ++ lines_of left
   pub within : length front ≤ 16777216
 
--- If so many bytes may be read, what is left goes over in its first line: the line doesn't end within them, and they are no more than
--- the 65,536 that a line may have.
+-- The rest of a text exceeds its limit of `room` bytes in its first line: the line doesn't end within them, and `room` is at most the
+-- 65,536 bytes of a line.
 pub record ExceedsLimit (room : ℕ) (left : List ℕ) : Type 0 where
   pub over : room < length left
   pub short : room ≤ 65536
-  pub no_end : endless (take room left) ≡ true
+  pub no_end : has_no_newline (take room left) ≡ true
 
--- Reading ends in the first line of what is left: only because it goes over, if it does; or else the reader fails, or the line has a fault.
-abbrev pub IsStopped : ℕ → List ℕ → ScriptFault → Type 0
-IsStopped room left TooLarge = ExceedsLimit room left
-IsStopped room left Read = Unit {0}
-IsStopped room left fault = ¬ ExceedsLimit room left
+-- Reading stops in the first line of the rest of a text. If the rest exceeds the limit, that is the only reason; else the reader fails, or
+-- the line has a fault.
+abbrev pub ReadingIsStopped : ℕ → List ℕ → ScriptFault → Type 0
+ReadingIsStopped room left TooLarge = ExceedsLimit room left
+ReadingIsStopped room left Read = Unit {0}
+ReadingIsStopped room left fault = ¬ ExceedsLimit room left
 
--- Reading a text ends in the line after these.
-abbrev pub StopsAfter : List ℕ → List (List ℕ) → ScriptFault → Type 0
-StopsAfter text lines fault = (b : HasFrontLines text lines) × IsStopped (16777216 - length b.front) b.left fault
+-- Reading a text stops in the line after `lines`.
+abbrev pub ReadingStopsAfter : List ℕ → List (List ℕ) → ScriptFault → Type 0
+ReadingStopsAfter text lines fault = (b : HasFrontLines text lines) × ReadingIsStopped (16777216 - length b.front) b.left fault
 
--- Reading these lines, the first of them line k, gives none of the language: the text goes over its limit, the reader fails, or line k
--- is none.
+-- Reading the rest of a text, of which the first line is line k, gives no line of the language: the text exceeds its limit, the reader
+-- fails, or line k is not of the language.
 abbrev pub NoLineRead : (given : Option (List ℕ)) → ℕ → List (List ℕ) → ScriptFault → Type 0
 NoLineRead given k lines TooLarge = Unit {0}
 NoLineRead given k lines Read = Unit {0}

@@ -18,7 +18,7 @@ use Rattle.dfu_sim.specs.declared.fault.OfferFault.TheVariants as offer
 use Rattle.dfu_sim.specs.declared.fault.LinkFault.{LinkFault}
 use Rattle.dfu_sim.specs.declared.fault.LinkFault.TheVariants as link
 
--- Bytes as they are printed: two digits each in lower case, and `-` for no bytes.
+-- Bytes in print: two digits each in lower case, and `-` for no bytes.
 abbrev pub hex_text : List ℕ → List ℕ
 hex_text [] = codes "-"
 hex_text (byte ∷ bytes) = encode_lower (byte ∷ bytes)
@@ -28,15 +28,15 @@ abbrev pub offer_fault_name : OfferFault → List ℕ
 offer_fault_name (offer.Suffix fault) = suffix_fault_name fault
 offer_fault_name (offer.Host fault) = host_fault_name fault
 
--- The line of what was uploaded.
+-- The line of uploaded bytes.
 abbrev pub uploaded_line : List ℕ → List ℕ
 uploaded_line bytes = codes "report uploaded " ++ (hex_text bytes ++ 10 ∷ [])
 
--- The line of a report that says its name and no more.
+-- The line of a report's name alone.
 abbrev pub named_line : Report → List ℕ
 named_line r = codes "report " ++ report_name r ++ 10 ∷ []
 
--- The line of a report; of an upload it shows the bytes that were uploaded.
+-- The line of a report, with the uploaded bytes if the report is Uploaded.
 abbrev pub report_line : Report → (uploaded : List ℕ) → List ℕ
 report_line report.Installed uploaded = named_line report.Installed
 report_line report.Unconfirmed uploaded = named_line report.Unconfirmed
@@ -57,13 +57,13 @@ refusal_line link.NoHost = codes "refused NoHost\n"
 refusal_line (link.BadOffer fault) = codes "refused BadOffer " ++ offer_fault_name fault ++ 10 ∷ []
 refusal_line link.NoMemory = codes "refused NoMemory\n"
 
--- Text for the result that an event's caller got: the line of its refusal or of its report, or nothing.
+-- Text of an event's answer to its caller: the line of its refusal or of its report, or no text.
 abbrev pub outcome_line : Result (Option Report) LinkFault → (uploaded : List ℕ) → List ℕ
 outcome_line (Ok None) uploaded = []
 outcome_line (Ok (Some r)) uploaded = report_line r uploaded
 outcome_line (Err fault) uploaded = refusal_line fault
 
--- Text for the result of an event.
+-- Text of an event's result.
 abbrev pub answer_line : Result Answered LinkFault → List ℕ
 answer_line answer = outcome_line (report_of_result answer) (unwrap_or (upload_of_result answer) [])
 

@@ -5,74 +5,75 @@ use Rattle.std.specs.Str.{bytes_eq}
 use Rattle.std.specs.Char.{is_ascii_digit}
 use Rattle.hex.specs.Hex.{decode_of, decode_sized}
 
--- One step of reading after another: nothing is read if the first reads nothing.
+-- A reading step after another: nothing is read if the first step reads nothing.
 infixl 10 ◌>>=◌
 abbrev pub ◌>>=◌ : {A B : Type 0} → Option A → (A → Option B) → Option B
 None >>= f = None
 (Some x) >>= f = f x
 
--- This value, if the test holds.
-abbrev pub guard : {A : Type 0} → Bool → A → Option A
-guard true x = Some x
-guard false x = None
+-- The value, if the test holds.
+abbrev pub value_if : {A : Type 0} → Bool → A → Option A
+value_if true x = Some x
+value_if false x = None
 
--- The code's reading, seen for its meaning, is the reading that is wanted, and it read nothing exactly if there is nothing.
-abbrev pub Reads : {X Y : Type 0} → (X → Y) → Option X → Option Y → Type 0
-Reads view None read = read ≡ None
-Reads view (Some x) read = read ≡ Some (view x)
+-- The code's reading, seen for its meaning, is the reading of the grammar, and None exactly if the grammar reads nothing.
+abbrev pub ReadingMatches : {X Y : Type 0} → (X → Y) → Option X → Option Y → Type 0
+ReadingMatches view None read = read ≡ None
+ReadingMatches view (Some x) read = read ≡ Some (view x)
 
--- A byte ends a line if it is 0Ah.
+-- A byte is a newline if it is 0Ah.
 abbrev pub is_newline : ℕ → Bool
 is_newline byte = byte == 10
 
--- No line ends in these bytes.
-abbrev pub endless : List ℕ → Bool
-endless [] = true
-endless (byte ∷ bytes) = if is_newline byte then false else endless bytes
+-- The bytes have no newline.
+abbrev pub has_no_newline : List ℕ → Bool
+has_no_newline [] = true
+has_no_newline (byte ∷ bytes) = if is_newline byte then false else has_no_newline bytes
 
 -- The lines of a text: each ends at a byte 0Ah, which the last may lack.
 abbrev pub lines_of : List ℕ → List (List ℕ)
 lines_of [] = []
 lines_of (byte ∷ bytes) = if is_newline byte then [] ∷ lines_of bytes else onto_first byte (lines_of bytes)
 
--- A byte parts words if it is 20h.
+-- A byte is a space between words if it is 20h.
 abbrev pub is_space : ℕ → Bool
 is_space byte = byte == 32
 
--- Any other byte belongs to a word.
+-- A byte belongs to a word if it is not 20h.
 abbrev pub is_no_space : ℕ → Bool
 is_no_space byte = not (byte == 32)
 
--- A word has at least one byte.
+-- The bytes are a word: at least one.
 abbrev pub is_word : List ℕ → Bool
 is_word [] = false
 is_word (byte ∷ bytes) = true
 
--- The words of a line: the pieces between its spaces that have a byte.
+-- The words of a line: the pieces between its spaces that have at least one byte.
 unfoldable pub words_of : List ℕ → List (List ℕ)
 words_of line = filter is_word (slice_split is_space line)
 
--- The first word, and the words after it.
+-- The first word of a list, with the words after it.
 abbrev pub first_word : List (List ℕ) → Option (List ℕ × List (List ℕ))
 first_word [] = None
 first_word (word ∷ words) = Some (word, words)
 
--- Text behind the first word of a line and one space, if there is such a space.
+-- Text behind the first word of a line and the space after it, if the line has that space.
 unfoldable pub text_behind : List ℕ → Option (List ℕ)
 text_behind line =
     position is_no_space line >>= λ start. position is_space (drop start line) >>= λ end. Some (drop (end + 1) (drop start line))
 
--- The number that decimal digits make after those that make n.
+-- The number that decimal digits make when they follow the digits of n.
 abbrev pub digits_value : ℕ → List ℕ → Option ℕ
 digits_value n [] = Some n
 digits_value n (digit ∷ digits) = if is_ascii_digit digit then digits_value (n * 10 + (digit - 48)) digits else None
 
 -- A number: 1 to 10 decimal digits, at most 4,294,967,295.
 unfoldable pub number_of : List ℕ → Option ℕ
-number_of word = if nat_le 1 (length word) && nat_le (length word) 10 then (digits_value 0 word >>= λ n. guard (nat_le n 4294967295) n) else
+number_of word =
+    if nat_le 1 (length word) && nat_le (length word) 10 then (digits_value 0 word >>= λ n. value_if (nat_le n 4294967295) n) else
     None
 
--- Value of a result without an error.
+-- The value of a result without an error.
 abbrev pub ok_of : {A E : Type 0} → Result A E → Option A
 ok_of (Ok x) = Some x
 ok_of (Err e) = None
@@ -81,6 +82,6 @@ ok_of (Err e) = None
 abbrev pub hex_word_bytes : List ℕ → Option (List ℕ)
 hex_word_bytes word = if bytes_eq word (codes "-") then Some [] else ok_of (decode_of word)
 
--- Two hexadecimal digits, the higher first.
-abbrev pub pair_of : List ℕ → Option ℕ
-pair_of word = ok_of (decode_sized word 1) >>= λ bytes. Some (slice_index bytes 0)
+-- Number of two hexadecimal digits, the higher first.
+abbrev pub number_of_pair : List ℕ → Option ℕ
+number_of_pair word = ok_of (decode_sized word 1) >>= λ bytes. Some (slice_index bytes 0)

@@ -1,11 +1,11 @@
--- What is read of a line.
+-- Meaning of a line of a log.
 use Rattle.std.specs.Prelude.{◌≡◌, ℕ, List, Option}
 use Rattle.std.proofs.Common.{subst}
 use Rattle.dfu_conformance.specs.declared.log.Line.{Line}
 use Rattle.dfu_conformance.specs.Line.{LineMeaning}
 
--- What is read of a line that is this one, and is this.
-pub says_of : (interface : ℕ) (given text : List ℕ) (o p : Option Line) → given ≡ text → o ≡ p → LineMeaning interface given o
+-- The meaning of a line is that of an equal line.
+pub reading_of_line : (interface : ℕ) (given text : List ℕ) (o p : Option Line) → given ≡ text → o ≡ p → LineMeaning interface given o
     → LineMeaning interface text p
-says_of interface given text o p same is says =
+reading_of_line interface given text o p same is says =
     subst (λ (x : Option Line). LineMeaning interface text x) is (subst (λ (t : List ℕ). LineMeaning interface t o) same says)

@@ -9,15 +9,15 @@ use Rattle.dfu_output.specs.declared.exit.Exit.{Exit}
 use Rattle.dfu_output.specs.declared.exit.Exit.TheVariants.{Done, Refused, Fault}
 
 -- A number is written in lower-case hexadecimal, filled up with zeros to a width.
-abbrev pub hex : ℕ → ℕ → List ℕ
-hex width n = padded_integral (format_spec 32 0 4 width (2 ^ 64 - 1)) false [] (digits 16 false n)
+abbrev pub hex_padded : ℕ → ℕ → List ℕ
+hex_padded width n = padded_integral (format_spec 32 0 4 width (2 ^ 64 - 1)) false [] (digits 16 false n)
 
 -- The line for a file is `ok payload P suffix S device DDDD product PPPP vendor VVVV dfu BBBB crc CCCCCCCC`.
 unfoldable pub ok_line : Summary → List ℕ
 ok_line s =
     codes "ok" ++ (codes " payload " ++ decimal s.payload) ++ (codes " suffix " ++ decimal s.suffix)
-    ++ (codes " device " ++ hex 4 s.ids.device) ++ (codes " product " ++ hex 4 s.ids.product) ++ (codes " vendor " ++ hex 4 s.ids.vendor)
-    ++ (codes " dfu " ++ hex 4 s.dfu) ++ (codes " crc " ++ hex 8 s.crc) ++ 10 ∷ []
+    ++ (codes " device " ++ hex_padded 4 s.ids.device) ++ (codes " product " ++ hex_padded 4 s.ids.product) ++ (codes " vendor " ++ hex_padded 4 s.ids.vendor)
+    ++ (codes " dfu " ++ hex_padded 4 s.dfu) ++ (codes " crc " ++ hex_padded 8 s.crc) ++ 10 ∷ []
 
 -- The line for a fault is `fault NAME` if a stream failed, and else `refused NAME`.
 unfoldable pub fault_line : SuffixFault → List ℕ
@@ -31,7 +31,7 @@ fault_exit Read = Fault
 fault_exit Write = Fault
 fault_exit f = Refused
 
--- The line for an answer is that of its value, or that of the fault.
+-- The line of the value, or that of the fault.
 abbrev pub line_or_fault : {T : Type 0} → (line : T → List ℕ) → Result T SuffixFault → List ℕ
 line_or_fault line (Ok x) = line x
 line_or_fault line (Err f) = fault_line f
@@ -41,11 +41,11 @@ abbrev pub exit_or_fault : {T : Type 0} → Result T SuffixFault → Exit
 exit_or_fault (Ok x) = Done
 exit_or_fault (Err f) = fault_exit f
 
--- The line for words that aren't understood is `bad words`.
+-- The line for words that aren't understood: `bad words`.
 abbrev pub bad_words_line : List ℕ
 bad_words_line = codes "bad words" ++ 10 ∷ []
 
--- The fault of an answer, if it is one; or, for an answer that is no fault, that there was no memory for its line.
+-- The fault of the answer, if it has one; or, if it has none, the fault that there was no memory for its line.
 abbrev pub IsFaultOf : {T : Type 0} → Result T SuffixFault → Option SuffixFault → Type 0
 IsFaultOf (Ok x) fault = (fault ≡ None) ⊎ (fault ≡ Some NoMemory)
 IsFaultOf (Err f) fault = fault ≡ Some f

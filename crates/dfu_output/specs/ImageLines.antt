@@ -13,7 +13,7 @@ use Rattle.dfu_formats.specs.declared.images.endings.Ending.{Ending}
 use Rattle.dfu_formats.specs.declared.images.endings.Ending.TheVariants as ending
 use Rattle.dfu_formats.specs.declared.images.looks.NotImage.{NotImage}
 use Rattle.dfu_formats.specs.declared.images.looks.NotImage.TheVariants.{DfuSe, Zip, Gzip, Text, Named}
-use Rattle.dfu_output.specs.AnswerLines.{hex}
+use Rattle.dfu_output.specs.AnswerLines.{hex_padded}
 
 -- The name of a format, as `--format` has it.
 abbrev pub format_name : Format → List ℕ
@@ -22,9 +22,9 @@ format_name SRecord = codes "srec"
 format_name Uf2 = codes "uf2"
 format_name Elf = codes "elf"
 
--- The line for an image is `format FORMAT address AAAAAAAA`, with the address of its first byte.
+-- The line for an image is `format FORMAT address 0xAAAAAAAA`, with the address of its first byte.
 unfoldable pub image_format_line : Format → ℕ → List ℕ
-image_format_line format address = codes "format " ++ format_name format ++ (codes " address " ++ hex 8 address) ++ 10 ∷ []
+image_format_line format address = codes "format " ++ format_name format ++ (codes " address 0x" ++ hex_padded 8 address) ++ 10 ∷ []
 
 -- A fault of a file by its name, with the line, block or segment, or the address, that it names.
 unfoldable pub unread_text : ImageFault → List ℕ
@@ -50,12 +50,12 @@ unread_text (fault.CutSegment at) = codes "CutSegment " ++ decimal at
 unread_text (fault.PastTheEnd at) = codes "PastTheEnd " ++ decimal at
 unread_text (fault.TooLarge at) = codes "TooLarge " ++ decimal at
 unread_text (fault.TooManyElements at) = codes "TooManyElements " ++ decimal at
-unread_text (fault.Overlaps address) = codes "Overlaps " ++ hex 8 address
+unread_text (fault.Overlaps address) = codes "Overlaps " ++ hex_padded 8 address
 
--- Name of the fault for which elements don't make one piece; a gap with its addresses.
+-- Name of the fault for which elements don't make one piece; for a gap its addresses follow.
 unfoldable pub unlaid_text : LayFault → List ℕ
 unlaid_text lay.NoMemory = codes "NoMemory"
-unlaid_text (lay.Gap from to) = codes "Gap " ++ hex 8 from ++ (codes " " ++ hex 8 to)
+unlaid_text (lay.Gap from to) = codes "Gap " ++ hex_padded 8 from ++ (codes " " ++ hex_padded 8 to)
 unlaid_text lay.TooLarge = codes "TooLarge"
 
 -- Name of the fault for which there is no image of a file.
@@ -64,7 +64,7 @@ fault_text (Unread fault) = unread_text fault
 fault_text NoData = codes "NoData"
 fault_text (Unlaid fault) = unlaid_text fault
 
--- The line for a file that makes no image is `refused NAME`, and what the fault names.
+-- The line for a file that makes no image: `refused NAME`, and the place that the fault names.
 unfoldable pub refused_line : ImageFileFault → List ℕ
 refused_line fault = codes "refused " ++ fault_text fault ++ 10 ∷ []
 

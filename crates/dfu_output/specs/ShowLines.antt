@@ -14,20 +14,20 @@ use Rattle.dfu_wire.specs.declared.states.State.{State}
 use Rattle.dfu_wire.specs.declared.fault.WireFault.{WireFault}
 use Rattle.dfu_wire.specs.FaultName.{wire_fault_name}
 use Rattle.dfu_suffix.specs.declared.fault.SuffixFault.TheVariants.{NoMemory}
-use Rattle.dfu_output.specs.AnswerLines.{fault_line, hex}
+use Rattle.dfu_output.specs.AnswerLines.{fault_line, hex_padded}
 
 -- A flag is written as `yes` or `no`.
-abbrev pub yes_no : Bool → List ℕ
-yes_no true = codes "yes"
-yes_no false = codes "no"
+abbrev pub flag_word : Bool → List ℕ
+flag_word true = codes "yes"
+flag_word false = codes "no"
 
 -- The line for a descriptor is `functional download Y upload Y tolerant Y will-detach Y detach N transfer N version HHHH`.
 unfoldable pub functional_line : Functional → List ℕ
 functional_line f =
-    codes "functional" ++ (codes " download " ++ yes_no f.can_download) ++ (codes " upload " ++ yes_no f.can_upload)
-    ++ (codes " tolerant " ++ yes_no f.tolerant) ++ (codes " will-detach " ++ yes_no f.will_detach)
+    codes "functional" ++ (codes " download " ++ flag_word f.can_download) ++ (codes " upload " ++ flag_word f.can_upload)
+    ++ (codes " tolerant " ++ flag_word f.tolerant) ++ (codes " will-detach " ++ flag_word f.will_detach)
     ++ (codes " detach " ++ decimal f.detach_ms) ++ (codes " transfer " ++ decimal f.transfer)
-    ++ (codes " version " ++ hex 4 f.version) ++ 10 ∷ []
+    ++ (codes " version " ++ hex_padded 4 f.version) ++ 10 ∷ []
 
 -- The line for a status is `status CODE poll N state STATE string N`.
 unfoldable pub status_line : StatusFields → ℕ → List ℕ
@@ -42,7 +42,7 @@ state_line s = codes "state " ++ state_name s ++ 10 ∷ []
 -- The line for a setup is `setup REQUEST kind HH number HH value N index N length N`.
 unfoldable pub setup_line : Setup → Request → List ℕ
 setup_line s asked =
-    codes "setup" ++ (codes " " ++ request_name asked) ++ (codes " kind " ++ hex 2 s.kind) ++ (codes " number " ++ hex 2 s.request)
+    codes "setup" ++ (codes " " ++ request_name asked) ++ (codes " kind " ++ hex_padded 2 s.kind) ++ (codes " number " ++ hex_padded 2 s.request)
     ++ (codes " value " ++ decimal s.value) ++ (codes " index " ++ decimal s.index) ++ (codes " length " ++ decimal s.length) ++ 10 ∷ []
 
 -- The line for bytes that can't be read is `refused NAME`, with the name of their fault.
@@ -53,7 +53,7 @@ wire_line f = codes "refused " ++ wire_fault_name f ++ 10 ∷ []
 abbrev pub no_hex_line : List ℕ
 no_hex_line = codes "refused BadHex" ++ 10 ∷ []
 
--- The line for a text whose bytes can't be had says that memory ran out, or that it isn't hexadecimal.
+-- The line for a text without bytes: memory ran out, or the text isn't hexadecimal.
 abbrev pub bad_hex_line : FromHexError → List ℕ
 bad_hex_line hex_error.OutOfMemory = fault_line NoMemory
 bad_hex_line e = no_hex_line

@@ -3,9 +3,9 @@ use Rattle.std.specs.Prelude.{ℕ, List, map, take, if◌then◌else◌, chars, 
 use Rattle.std.specs.Char.{is_control}
 
 -- A control character is shown as `?`, and another character as it is.
-abbrev pub plain : ℕ → ℕ
-plain c = if is_control c then 63 else c
+abbrev pub visible_character : ℕ → ℕ
+visible_character c = if is_control c then 63 else c
 
--- So many characters of a text are shown, at most.
+-- At most `most` characters of a text are shown.
 unfoldable pub visible_of : ℕ → List ℕ → List ℕ
-visible_of most text = encode_utf8_all (map plain (take most (chars text)))
+visible_of most text = encode_utf8_all (map visible_character (take most (chars text)))

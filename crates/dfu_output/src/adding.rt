@@ -12,11 +12,11 @@ use dfu_wire::Ids;
 use std::alloc::{AllocError, Global};
 use std::io::{Read, Write};
 
-/// The line for a file that was made: `wrote N`, with the number of its bytes.
+/// Returns the line for a file that was made: `wrote N`, with `count`, the number of its bytes.
 ///
 /// # Errors
 ///
-/// There is no memory for it.
+/// AllocError if there is no memory for the line.
 #[tactic(auto, unfolding(crate::specs::AddText::wrote_line))]
 pub fn wrote_line(alloc: Global, count: u32) -> Result<String, AllocError>
     ensures { IfOk result (λ t. string_bytes t ≡ wrote_line count) }
@@ -45,7 +45,7 @@ pub fn add_text<R: Read + Drop, F: Write, W: Write>(
     exit
 }
 
-/// Does what `add_text` does, and returns the end and the fault whose line was to be written.
+/// Does what `add_text` does, and returns the end, and the fault whose line was to be written, if there is one.
 pub fn add_with_fault<R: Read + Drop, F: Write, W: Write>(
     alloc: Global,
     reader: R,

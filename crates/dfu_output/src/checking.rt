@@ -43,8 +43,8 @@ pub fn check_text<R: Read + Drop, W: Write>(alloc: Global, reader: R, writer: &m
     exit
 }
 
-/// Does what `check_text` does, returns the end and the fault whose line was to be written, and leaves in
-/// `findings` what the reason of BadLength or BadCrc is made of. After TooShort, TooLarge and Read they say nothing.
+/// Does what `check_text` does, and returns the end and the fault whose line was to be written. Writes to `findings` what the reason of
+/// BadLength or BadCrc is made of. After TooShort, TooLarge and Read the findings say nothing.
 pub fn check_with_fault<R: Read + Drop, W: Write>(
     alloc: Global,
     reader: R,

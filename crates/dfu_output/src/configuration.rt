@@ -2,11 +2,10 @@
 
 ghost use Rattle.std.specs.Prelude.{◌≡◌, ◌++◌, ◌≤◌, IfOk, IfErr, OnOk, length, slice_index, Ok, Err};
 ghost use Rattle.std.specs.String.{string_bytes};
-ghost use Rattle.dfu_output.specs.Configuration.{Added, Configured, Walked, configuration_line, interface_line, mode_name};
+ghost use Rattle.dfu_output.specs.Configuration.{DescriptorTextAdded, ConfigurationText, DescriptorsTextAdded, configuration_line, interface_line, mode_name};
 
 use crate::fields::Value::{Number, Text};
-use crate::fields::line_of;
-use crate::numbers::push;
+use crate::fields::{line_of, push};
 use crate::show_lines::functional_line;
 use dfu_wire::{Functional, WireFault};
 use std::alloc::{AllocError, Global};
@@ -54,7 +53,7 @@ fn add(
     descriptor: &[u8],
 ) -> Result<Result<bool, WireFault>, AllocError>
     requires { 2 ≤ length descriptor.now }
-    ensures { IfOk result (λ r. Added inside descriptor.now (string_bytes line.old) (string_bytes line.new) r) }
+    ensures { IfOk result (λ r. DescriptorTextAdded inside descriptor.now (string_bytes line.old) (string_bytes line.new) r) }
 {
     if descriptor[1] == INTERFACE {
         if descriptor.len() < 9 {
@@ -89,7 +88,7 @@ fn configuration_line(alloc: Global, value: u8) -> Result<String, AllocError>
 
 // Adds what the descriptors in a row give.
 fn walk(alloc: Global, line: &mut String, bytes: &[u8]) -> Result<Result<(), WireFault>, AllocError>
-    ensures { IfOk result (λ r. Walked bytes.now (string_bytes line.old) (string_bytes line.new) r) }
+    ensures { IfOk result (λ r. DescriptorsTextAdded bytes.now (string_bytes line.old) (string_bytes line.new) r) }
 {
     let mut rest = bytes;
     let mut inside = false;
@@ -123,8 +122,8 @@ pub(crate) fn configuration_text(
     alloc: Global,
     bytes: &[u8],
 ) -> Result<Result<String, WireFault>, AllocError>
-    ensures text { IfOk result (λ r. IfOk r (λ t. Configured bytes.now (Ok (string_bytes t)))) }
-    ensures fault { IfOk result (λ r. IfErr r (λ e. Configured bytes.now (Err e))) }
+    ensures text { IfOk result (λ r. IfOk r (λ t. ConfigurationText bytes.now (Ok (string_bytes t)))) }
+    ensures fault { IfOk result (λ r. IfErr r (λ e. ConfigurationText bytes.now (Err e))) }
 {
     if bytes.len() < 9 {
         return Ok(Err(WireFault::Short));

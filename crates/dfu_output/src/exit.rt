@@ -3,16 +3,16 @@
 ghost use Rattle.std.specs.Prelude.{◌≡◌, max};
 ghost use Rattle.dfu_output.specs.AnswerLines.{bad_words_line, fault_line, fault_exit};
 ghost use Rattle.dfu_output.specs.Exits.{exit_status};
-ghost use Rattle.dfu_output.specs.Output.{Wrote};
+ghost use Rattle.dfu_output.specs.Output.{TextIsOut};
 
 use dfu_suffix::{SuffixFault, write_whole};
 use std::alloc::Global;
 use std::io::Write;
 
-/// Exit of a command, which is the exit status of the program.
+/// The end of a command, which is the exit status of the program.
 #[derive(Clone, Copy)]
 pub enum Exit {
-    /// It did what was asked: status 0.
+    /// The command did what was asked: status 0.
     Done,
     /// The input was refused by name: status 1.
     Refused,
@@ -23,7 +23,7 @@ pub enum Exit {
 }
 
 impl Exit {
-    /// The exit status, from 0 to 3.
+    /// Returns the exit status, from 0 to 3.
     pub fn status(self) -> u8
         ensures { result ≡ exit_status self }
     {
@@ -35,7 +35,7 @@ impl Exit {
         }
     }
 
-    /// The worse one of two ends: that of the higher status.
+    /// Returns the end of the two that has the higher status.
     pub fn worse(self, other: Exit) -> Exit
         ensures { exit_status result ≡ max (exit_status self) (exit_status other) }
     {
@@ -47,16 +47,16 @@ impl Exit {
     }
 }
 
-/// Exit of a command, and the line for standard error that says the reason, if there is one.
+/// The end of a command, and the line for standard error that says the reason, if there is one.
 #[derive(Drop)]
 pub struct Outcome {
-    /// How it ended.
+    /// The end of the command.
     pub exit: Exit,
     /// Reason, as a line, if the answer's own line doesn't say it and the reason is wanted.
     pub reason: Option<String>,
 }
 
-/// The lines of two reasons, as far as there is memory for them.
+/// Returns the lines of `first` and `second`, as far as there is memory for them; None if there is neither.
 fn both(alloc: Global, first: Option<String>, second: Option<String>) -> Option<String> {
     match (first, second) {
         (Some(first), Some(second)) => {
@@ -71,7 +71,8 @@ fn both(alloc: Global, first: Option<String>, second: Option<String>) -> Option<
 }
 
 impl Outcome {
-    /// This answer and the next one, of another file: the worse end, and the reasons of both, as far as there is memory for them.
+    /// Returns the outcome of two files, of which `next` is that of the second: the worse end, and the reasons of both, as far as there is
+    /// memory for them.
     pub fn and(self, alloc: Global, next: Outcome) -> Outcome
         ensures { exit_status result.exit ≡ max (exit_status self.exit) (exit_status next.exit) }
     {
@@ -87,7 +88,7 @@ impl Outcome {
 // Many commands call it: once in the program is enough.
 #[inline(never)]
 pub fn write_out<W: Write>(writer: &mut W, text: &[u8], exit: Exit) -> Exit
-    ensures { Wrote (W.contents writer.old) (W.contents writer.new) text.now exit result }
+    ensures { TextIsOut (W.contents writer.old) (W.contents writer.new) text.now exit result }
 {
     match write_whole(writer, text) {
         Ok(()) => exit,
@@ -119,14 +120,14 @@ fn fault_exit(fault: SuffixFault) -> Exit
 /// It returns Fault for Read and Write, else Refused; if the writer fails, Fault, and a prefix of
 /// the line is out, not all of it.
 pub fn fault_text<W: Write>(fault: SuffixFault, writer: &mut W) -> Exit
-    ensures { Wrote (W.contents writer.old) (W.contents writer.new) (fault_line fault) (fault_exit fault) result }
+    ensures { TextIsOut (W.contents writer.old) (W.contents writer.new) (fault_line fault) (fault_exit fault) result }
 {
     write_out(writer, fault_line(fault).as_bytes(), fault_exit(fault))
 }
 
 /// Writes the line for words that aren't understood.
 pub fn bad_words<W: Write>(writer: &mut W) -> Exit
-    ensures { Wrote (W.contents writer.old) (W.contents writer.new) bad_words_line Exit.BadWords result }
+    ensures { TextIsOut (W.contents writer.old) (W.contents writer.new) bad_words_line Exit.BadWords result }
 {
     write_out(writer, b"bad words\n", Exit::BadWords)
 }

@@ -1,16 +1,17 @@
-//! Lines of fields: labels, each with a value after it.
+//! Lines of fields: labels, each with a value after it; and the numbers of these values. Functions that are called often aren't inlined,
+//! which keeps the program small.
 
 ghost use Rattle.std.specs.Prelude.{◌≡◌, ◌++◌, ◌∷◌, [], IfOk, OnOk};
 ghost use Rattle.std.specs.String.{string_bytes};
-ghost use Rattle.dfu_output.specs.Fields.{value_text, with_fields};
+ghost use Rattle.dfu_output.specs.AnswerLines.{hex_padded};
+ghost use Rattle.dfu_output.specs.Fields.{value_text, text_with_fields};
 
-use crate::numbers::{field, hex2, hex4, hex8, made_field, push};
 use std::alloc::{AllocError, Global};
 
 /// The value of a field.
 #[derive(Clone, Copy)]
 pub(crate) enum Value<'v> {
-    /// This text.
+    /// The text as it is.
     Text(&'v str),
     /// `yes` or `no`.
     Flag(bool),
@@ -18,14 +19,60 @@ pub(crate) enum Value<'v> {
     Number(u64),
     /// A number in two lower-case hexadecimal digits.
     Hex2(u8),
-    /// A number in four of them.
+    /// A number in four lower-case hexadecimal digits.
     Hex4(u16),
-    /// A number in eight of them, or in nine if it is 2^32.
+    /// A number in eight lower-case hexadecimal digits, or in nine if it is 2^32.
     Hex8(u64),
 }
 
 /// A label, and the value after it.
 pub(crate) type Field<'v> = (&'v str, Value<'v>);
+
+/// Returns two lower-case hexadecimal digits of `n`.
+pub(crate) fn hex2(alloc: Global, n: u8) -> Result<String, AllocError>
+    ensures { IfOk result (λ t. string_bytes t ≡ hex_padded 2 n) }
+{
+    format!(in alloc; "{n:02x}")
+}
+
+/// Returns four lower-case hexadecimal digits of `n`.
+pub(crate) fn hex4(alloc: Global, n: u16) -> Result<String, AllocError>
+    ensures { IfOk result (λ t. string_bytes t ≡ hex_padded 4 n) }
+{
+    format!(in alloc; "{n:04x}")
+}
+
+/// Returns eight lower-case hexadecimal digits of `n`, or nine for 2^32.
+pub(crate) fn hex8(alloc: Global, n: u64) -> Result<String, AllocError>
+    ensures { IfOk result (λ t. string_bytes t ≡ hex_padded 8 n) }
+{
+    format!(in alloc; "{n:08x}")
+}
+
+/// Adds a text to a line.
+#[inline(never)]
+pub fn push(line: &mut String, text: &str) -> Result<(), AllocError>
+    ensures { OnOk result (string_bytes line.new ≡ string_bytes line.old ++ text.now) }
+{
+    line.push_str(text)
+}
+
+/// Adds a label and a value to a line.
+#[inline(never)]
+pub fn field(line: &mut String, label: &str, value: &str) -> Result<(), AllocError>
+    ensures { OnOk result (string_bytes line.new ≡ string_bytes line.old ++ (label.now ++ value.now)) }
+{
+    push(line, label)?;
+    push(line, value)
+}
+
+/// Adds a label and a value that was made for it to a line.
+#[inline(never)]
+pub fn made_field(line: &mut String, label: &str, value: String) -> Result<(), AllocError>
+    ensures { OnOk result (string_bytes line.new ≡ string_bytes line.old ++ (label.now ++ string_bytes value)) }
+{
+    field(line, label, &value)
+}
 
 /// Adds a field to a line.
 fn push_field(
@@ -53,7 +100,7 @@ pub(crate) fn push_fields(
     line: &mut String,
     fields: &[Field<'_>],
 ) -> Result<(), AllocError>
-    ensures { OnOk result (string_bytes line.new ≡ with_fields (string_bytes line.old) fields.now) }
+    ensures { OnOk result (string_bytes line.new ≡ text_with_fields (string_bytes line.old) fields.now) }
 {
     for (label, value) in fields {
         push_field(alloc, line, label, *value)?;
@@ -61,22 +108,30 @@ pub(crate) fn push_fields(
     Ok(())
 }
 
-/// The text that has these fields.
+/// Returns the text of `fields`, one after the other.
+///
+/// # Errors
+///
+/// AllocError if there is no memory for the text.
 pub(crate) fn text_of(alloc: Global, fields: &[Field<'_>]) -> Result<String, AllocError>
-    ensures { IfOk result (λ t. string_bytes t ≡ with_fields [] fields.now) }
+    ensures { IfOk result (λ t. string_bytes t ≡ text_with_fields [] fields.now) }
 {
     let mut text = String::new(alloc);
     push_fields(alloc, &mut text, fields)?;
     Ok(text)
 }
 
-/// The line that begins with this text and has these fields.
+/// Returns the line that begins with `first`, goes on with `fields`, and ends with a line feed.
+///
+/// # Errors
+///
+/// AllocError if there is no memory for the line.
 pub(crate) fn line_of(
     alloc: Global,
     first: &str,
     fields: &[Field<'_>],
 ) -> Result<String, AllocError>
-    ensures { IfOk result (λ t. string_bytes t ≡ with_fields first.now fields.now ++ 10 ∷ []) }
+    ensures { IfOk result (λ t. string_bytes t ≡ text_with_fields first.now fields.now ++ 10 ∷ []) }
 {
     let mut line = String::from_str(alloc, first)?;
     push_fields(alloc, &mut line, fields)?;

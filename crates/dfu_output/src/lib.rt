@@ -29,7 +29,6 @@ mod exit;
 mod fields;
 mod image_output;
 mod judge;
-mod numbers;
 mod reasons;
 mod show_lines;
 mod showing;
@@ -37,6 +36,7 @@ mod showing;
 pub use adding::{add_text, add_with_fault, wrote_line};
 pub use checking::{check_text, check_with_fault};
 pub use exit::{Exit, Outcome, bad_words, fault_text, write_out};
+pub use fields::{field, made_field, push};
 pub use image_output::{
     FormatChoice, fill_in, format_in, format_name, image_line, looks_like, not_image_line,
     refused_line, why, why_not,
@@ -45,6 +45,5 @@ pub use judge::{
     LogFault, LogLines, dfuse_departure_text, is_single, judge_text, judge_with_fault, stop_text,
     verdict_text,
 };
-pub use numbers::{field, made_field, push};
 pub use reasons::{name_before, reason_line};
 pub use showing::show_text;

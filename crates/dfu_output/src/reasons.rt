@@ -3,22 +3,22 @@
 ghost use Rattle.std.specs.Prelude.{◌≡◌, ◌∷◌, [], IfOk, MatchOption, chars};
 ghost use Rattle.std.specs.String.{string_bytes};
 ghost use Rattle.dfu_output.specs.ReasonLines.{name_before, reason_line};
-ghost use Rattle.dfu_output.specs.ShownText.{plain, visible_of};
+ghost use Rattle.dfu_output.specs.ShownText.{visible_character, visible_of};
 
-use crate::numbers::{field, push};
+use crate::fields::{field, push};
 use std::alloc::{AllocError, Global};
 
-/// The most characters that are shown of a text.
+/// Largest number of characters that are shown of a text.
 const SHOWN_CHARACTERS: u32 = 4096;
 
-/// A character as a terminal may show it.
+/// Returns `letter` as a terminal may show it: `?` for a control character.
 fn plain(letter: char) -> char
-    ensures { result ≡ plain letter }
+    ensures { result ≡ visible_character letter }
 {
     if letter.is_control() { '?' } else { letter }
 }
 
-/// The first character of a text, and what follows it.
+/// Returns the first character of `text`, and the text after it; None if `text` is empty.
 fn first_of(text: &str) -> Option<(char, &str)>
     ensures { MatchOption result (chars text.now ≡ []) (λ (c, rest). chars text.now ≡ c ∷ chars rest.now) }
 {
@@ -29,8 +29,8 @@ fn first_of(text: &str) -> Option<(char, &str)>
     }
 }
 
-/// The text with `?` for each control character, so that it is one line and no terminal obeys it; at most
-/// 4,096 characters of it.
+/// Returns at most the first 4,096 characters of `text`, with `?` for each control character, so that the result is one line and no
+/// terminal obeys it.
 fn shown(alloc: Global, text: &str) -> Result<String, AllocError>
     ensures { IfOk result (λ t. string_bytes t ≡ visible_of 4096 text.now) }
 {
@@ -48,7 +48,12 @@ fn shown(alloc: Global, text: &str) -> Result<String, AllocError>
     Ok(line)
 }
 
-/// The line of a reason: a label, a name as a terminal may show it, which are what it is of, and why.
+/// Returns the line of a reason, `dfu: LABELNAME: WHY`: `label` and `name`, as a terminal may show it, say what the reason is of, and
+/// `why` is the reason.
+///
+/// # Errors
+///
+/// AllocError if there is no memory for the line.
 #[tactic(auto, unfolding(crate::specs::ReasonLines::reason_line))]
 pub fn reason_line(alloc: Global, label: &str, name: &str, why: &str) -> Result<String, AllocError>
     ensures { IfOk result (λ t. string_bytes t ≡ reason_line label.now name.now why.now) }
@@ -61,12 +66,12 @@ pub fn reason_line(alloc: Global, label: &str, name: &str, why: &str) -> Result<
     Ok(line)
 }
 
-/// Returns the text in front of a line of one of several files: its name as a terminal may show it, at most 4,096 characters of it, and a
-/// colon.
+/// Returns the text in front of a line of file `name`, one of several: the name as a terminal may show it, at most 4,096 characters of it,
+/// and a colon.
 ///
 /// # Errors
 ///
-/// There is no memory for it.
+/// AllocError if there is no memory for the text.
 #[tactic(auto, unfolding(crate::specs::ReasonLines::name_before))]
 pub fn name_before(alloc: Global, name: &str) -> Result<String, AllocError>
     ensures { IfOk result (λ t. string_bytes t ≡ name_before name.now) }

@@ -1,7 +1,7 @@
 //! `dfu show`: the fields of bytes that go over the wire.
 
 ghost use Rattle.std.specs.Prelude.{◌≡◌, codes};
-ghost use Rattle.dfu_output.specs.Output.{Wrote};
+ghost use Rattle.dfu_output.specs.Output.{TextIsOut};
 ghost use Rattle.dfu_output.specs.AnswerLines.{bad_words_line};
 ghost use Rattle.dfu_output.specs.ShowText.{WritesFunctional, WritesStatus, WritesState, WritesSetup, WritesConfiguration, WritesBytes, IsNoKind, ReadsStateBytes, ReadsSetup};
 
@@ -175,7 +175,7 @@ pub fn show_text<W: Write>(alloc: Global, kind: &str, hex: &str, writer: &mut W)
         → WritesBytes WritesSetup hex.now (W.contents writer.old) (W.contents writer.new) result }
     ensures configuration { kind.now ≡ codes "configuration"
         → WritesBytes WritesConfiguration hex.now (W.contents writer.old) (W.contents writer.new) result }
-    ensures other { IsNoKind kind.now → Wrote (W.contents writer.old) (W.contents writer.new) bad_words_line Exit.BadWords result }
+    ensures other { IsNoKind kind.now → TextIsOut (W.contents writer.old) (W.contents writer.new) bad_words_line Exit.BadWords result }
 {
     match kind {
         "functional" => show_functional(alloc, hex, writer),

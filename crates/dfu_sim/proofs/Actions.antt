@@ -4,18 +4,18 @@ use Rattle.dfu_wire.specs.declared.setups.Setup.{Setup}
 use Rattle.dfu_wire.specs.declared.requests.Request.{Request as Asked}
 use Rattle.dfu_wire.specs.Setup.{IsSetup}
 use Rattle.dfu_wire.specs.Request.{SetupRequest}
-use Rattle.dfu_wire.specs.OneRequest.{SetupRequest-one}
-use Rattle.dfu_wire.specs.OneValue.{IsSetup-one}
+use Rattle.dfu_wire.specs.OneRequest.{setup_asks_once}
+use Rattle.dfu_wire.specs.OneValue.{setup_bytes_one_value}
 use Rattle.dfu_slots.specs.Medium.{Fuse}
 use Rattle.dfu_slots.specs.Medium.Fuse.{Whole}
-use Rattle.dfu_slots.specs.StoreView.{image_of, same_visible}
+use Rattle.dfu_slots.specs.StoreView.{image_of, fuse_changes_nothing_visible}
 use Rattle.dfu_device.specs.declared.answer.Answer.{Answer}
 use Rattle.dfu_device.specs.declared.objection.Objection.{Objection}
 use Rattle.dfu_device.specs.Stage.{Profile, Reply}
-use Rattle.dfu_device.specs.Table.{Plan, error, plan, objection_code}
-use Rattle.dfu_device.specs.Outcome.{Situation, Luck, Works, Outcome, outcome, handled, elapsed}
+use Rattle.dfu_device.specs.Table.{Plan, error_plan, plan, objection_code}
+use Rattle.dfu_device.specs.Outcome.{Situation, Luck, Works, Outcome, plan_outcome, handled, situation_after_ms}
 use Rattle.dfu_device.specs.DeviceView.{DeviceView, profile, situation}
-use Rattle.dfu_device.specs.Rows.{meant, asked_length, Answers, Done as RowDone, is_close, IsCloseSetup, ClosesDownload, Handles}
+use Rattle.dfu_device.specs.Rows.{request_for_table, asked_length, ReplyAnswer, Done as RowDone, is_close, IsCloseSetup, ClosesDownload, Handles}
 use Rattle.dfu_device.specs.PlanOutcomes.{PlanOutcome, came, row_of, times_have_outcomes}
 use Rattle.dfu_host.specs.Phases.{Deed, Send, Wait, Reset, Done, Heard, Waited, WasReset}
 use Rattle.dfu_host.specs.Wire.{IsSetupOf}
@@ -25,204 +25,250 @@ use Rattle.dfu_sim.specs.declared.delivery.Handled.TheVariants.{Late}
 use Rattle.dfu_sim.specs.declared.delivery.MediumFault.{MediumFault}
 use Rattle.dfu_sim.specs.declared.delivery.MediumFault.TheVariants.{CutsPower}
 use Rattle.dfu_sim.specs.Delivery.{Delivery}
-use Rattle.dfu_sim.specs.Play.{heard_as, remembered, reached, heard_back, heard_over, over, waits_for, slipped, plan_by, acted}
-use Rattle.dfu_sim.specs.Bytes.{armed, bus_was_reset, HeardOfAnswer, HeardOfResponse, SetupResult, ReachesDevice, unseen, once, again, late, response_if_delivered, response_if_powered, Sends, Waits, Slips, ResetsBus, Acts}
-use Rattle.dfu_sim.proofs.Fates.{all_remembered}
-use Rattle.dfu_sim.proofs.Replies.{IsHosts, HostsDeed, plan_heard, served}
-use Rattle.dfu_sim.proofs.Closing.{by_table, by_objection, host_closes, host_open}
+use Rattle.dfu_sim.specs.Play.{heard_of_reply, heard_with_room, reached, heard_back, heard_after_action, situation_after_harm, wait_by_handling, situation_after_slip, plan_with_refusal, action_result}
+use Rattle.dfu_sim.specs.Bytes.{armed_device, device_after_bus_reset, HeardOfAnswer, HeardOfResponse, SetupResult, ReachesDevice, unseen, once, again, late, response_if_delivered, response_if_powered, RequestDelivered, WaitDelivered, SlipsTime, BusResetDelivered, ActionDelivered}
+use Rattle.dfu_sim.proofs.Fates.{heard_with_memory_unchanged}
+use Rattle.dfu_sim.proofs.Replies.{IsHostRequest, IsHostDeed, plan_answer_is_heard, served}
+use Rattle.dfu_sim.proofs.Closing.{request_without_close_by_table, refused_close_is_error, host_close_request_closes, other_host_request_closes_nothing}
 
--- The fuse of the medium is no part of what is shown.
-pub armed_profile : (w : DeviceView) (fuse : Fuse) → profile (armed w fuse) ≡ profile w
-armed_profile w fuse = λ k. record (profile w) { capacity = (same_visible w.slots fuse w.slots.held w.slots.put_end).room k }
+-- Arming a medium leaves the device's profile as it is.
+pub profile_of_armed_device : (w : DeviceView) (fuse : Fuse) → profile (armed_device w fuse) ≡ profile w
+profile_of_armed_device w fuse = λ k. record (profile w) {
+  capacity = (fuse_changes_nothing_visible w.slots fuse w.slots.held
+      w.slots.put_end).room k;
+}
 
--- To arm a medium changes nothing in a device's situation.
-pub armed_situation : (w : DeviceView) (fuse : Fuse) → situation (armed w fuse) ≡ situation w
-armed_situation w fuse = λ k. record { image = (same_visible w.slots fuse w.slots.held w.slots.put_end).image k; stage = w.stage }
+-- Arming a medium leaves the device's situation as it is.
+pub situation_of_armed_device : (w : DeviceView) (fuse : Fuse) → situation (armed_device w fuse) ≡ situation w
+situation_of_armed_device w fuse = λ k. record {
+  image = (fuse_changes_nothing_visible w.slots fuse w.slots.held w.slots.put_end).image k;
+  stage = w.stage;
+}
 
--- The device went through what its situation goes through by the table; with a medium that is not armed, at the luck that it works.
+-- The device went as its situation goes by the table, at some luck; if the fuse is whole, at the luck that the medium works.
 pub record Went (fuse : Fuse) (c : Profile) (s : Situation) (d : Deed) (delivery : Delivery) (w' : DeviceView) (heard : Heard)
     : Type 0 where
   pub first : Luck
   pub second : Luck
   pub room : Bool
-  pub device : (acted c s d delivery first second).device ≡ over delivery.harming (situation w')
-  pub hears : heard ≡ remembered (acted c s d delivery first second).heard room
+  pub device : (action_result c s d delivery first second).device ≡ situation_after_harm delivery.harming (situation w')
+  pub hears : heard ≡ heard_with_room (action_result c s d delivery first second).heard room
   pub fixed : profile w' ≡ c
-  pub lucky : fuse ≡ Whole → (first ≡ Works) × (second ≡ Works)
+  pub works_with_whole_fuse : fuse ≡ Whole → (first ≡ Works) × (second ≡ Works)
 
--- The response is heard, or nothing, or the restart.
-heard_by_delivery : (d : Deed) (harming : MediumFault) (back : Bool) (came : Response) (out : List ℕ) (heard x : Heard)
-    → ((h : Heard) → HeardOfResponse d came out h → (room : Bool) × (h ≡ remembered x room))
+-- The host hears the response, or nothing if it was lost, or the restart if the power was cut.
+heard_through_delivery : (d : Deed) (harming : MediumFault) (back : Bool) (came : Response) (out : List ℕ) (heard x : Heard)
+    → ((h : Heard) → HeardOfResponse d came out h → (room : Bool) × (h ≡ heard_with_room x room))
     → HeardOfResponse d (response_if_powered harming (response_if_delivered back came)) out heard
-    → (room : Bool) × (heard ≡ remembered (heard_over harming (heard_back back x)) room)
-heard_by_delivery d CutsPower back came out heard x f h = (true, h)
-heard_by_delivery d harming true came out heard x f h = f heard h
-heard_by_delivery d harming false came out heard x f h = (true, h)
+    → (room : Bool) × (heard ≡ heard_with_room (heard_after_action harming (heard_back back x)) room)
+heard_through_delivery d CutsPower back came out heard x f h = (true, h)
+heard_through_delivery d harming true came out heard x f h = f heard h
+heard_through_delivery d harming false came out heard x f h = (true, h)
 
--- A setup that closes a download asks for a DNLOAD of no bytes, whichever request it is read as.
-close_read : (setup : List ℕ) (p : Setup) (q : Asked) → IsSetup p setup → SetupRequest p q → IsCloseSetup setup → is_close q ≡ true
-close_read setup p q reads asks (p2, q2, reads2, asks2, close) =
-    let same : p2 ≡ p = IsSetup-one p2 p setup reads2 reads in
-    subst (λ (r : Asked). is_close r ≡ true) (SetupRequest-one p q2 q (subst (λ (x : Setup). SetupRequest x q2) same asks2) asks) close
+-- A setup that closes a download asks for a DNLOAD of no bytes, by each request that its eight bytes can be read as.
+closing_setup_asks_for_close : (setup : List ℕ) (p : Setup) (q : Asked) → IsSetup p setup → SetupRequest p q → IsCloseSetup setup →
+    is_close q ≡ true
+closing_setup_asks_for_close setup p q reads asks (p2, q2, reads2, asks2, close) =
+    let same : p2 ≡ p = setup_bytes_one_value p2 p setup reads2 reads in
+    subst (λ (r : Asked). is_close r ≡ true) (setup_asks_once p q2 q (subst (λ (x : Setup). SetupRequest x q2) same asks2) asks) close
 
 -- The plan of a request on a device whose program refuses the image that it closes, or refuses none.
-abbrev pub plan_on : Asked → (body : List ℕ) → Option Objection → DeviceView → Plan
-plan_on q body x w = plan_by x (profile w) (image_of w.slots) w.stage (meant q body)
+abbrev pub plan_with_objection : Asked → (body : List ℕ) → Option Objection → DeviceView → Plan
+plan_with_objection q body x w = plan_with_refusal x (profile w) (image_of w.slots) w.stage (request_for_table q body)
 
-module _ (q : Asked) (setup body : List ℕ) (is : IsHosts q body) (asked : IsSetupOf q setup) where
-  closed_plan : (why : Objection) (w : DeviceView) → ClosesDownload setup w → plan_on q body (Some why) w ≡ error (objection_code why)
-  closed_plan why w (close, may) =
-      by_objection why (profile w) (image_of w.slots) w.stage (meant q body)
-      (host_closes q body w.config.least w.stage is (close_read setup asked.setup q asked.fields asked.asks close) may)
+module _ (q : Asked) (setup body : List ℕ) (is : IsHostRequest q body) (asked : IsSetupOf q setup) where
+  -- If the setup closes the download, and the program refuses the image, the plan is an error.
+  plan_of_refused_close : (why : Objection) (w : DeviceView) → ClosesDownload setup w → plan_with_objection q body (Some why) w
+      ≡ error_plan (objection_code why)
+  plan_of_refused_close why w (close, may) =
+      refused_close_is_error why (profile w) (image_of w.slots) w.stage (request_for_table q body)
+      (host_close_request_closes q body w.config.least w.stage is (closing_setup_asks_for_close setup asked.setup q asked.fields asked.asks
+      close) may)
 
-  open_plan : (why : Objection) (w : DeviceView) → (ClosesDownload setup w → ⊥)
-      → plan_on q body (Some why) w ≡ plan (profile w) (image_of w.slots) w.stage (meant q body)
-  open_plan why w other =
-      by_table (Some why) (profile w) (image_of w.slots) w.stage (meant q body)
-      (host_open q body w.config.least w.stage is (λ close may. other ((asked.setup, q, asked.fields, asked.asks, close), may)))
+  -- If the setup does not close the download, the plan is the table's.
+  plan_without_close : (why : Objection) (w : DeviceView) → (ClosesDownload setup w → ⊥)
+      → plan_with_objection q body (Some why) w ≡ plan (profile w) (image_of w.slots) w.stage (request_for_table q body)
+  plan_without_close why w other =
+      request_without_close_by_table (Some why) (profile w) (image_of w.slots) w.stage (request_for_table q body)
+      (other_host_request_closes_nothing q body w.config.least w.stage is (λ close may. other (
+        (
+          asked.setup,
+          q,
+          asked.fields,
+          asked.asks,
+          close,
+        ),
+        may,
+      )))
 
-  -- A request goes by its plan, whatever bytes ask for it.
-  goes_by : (w w' : DeviceView) (a : Answer) (out : List ℕ) → Handles setup body w a out w'
-      → RowDone (plan (profile w) (image_of w.slots) w.stage (meant q body)) (asked_length q) w a out w'
-  goes_by w w' a out h =
+  -- A request makes the row of its plan, by any eight bytes that ask for it.
+  request_makes_row_of_plan : (w w' : DeviceView) (a : Answer) (out : List ℕ) → Handles setup body w a out w'
+      → RowDone (plan (profile w) (image_of w.slots) w.stage (request_for_table q body)) (asked_length q) w a out w'
+  request_makes_row_of_plan w w' a out h =
       rw (served asked.setup q body is asked.asks) at (row_of asked.setup q setup body w a out w' asked.fields asked.asks h)
 
-  -- And so does one that the program of the device may refuse.
-  pub takes_by : (x : Option Objection) (w w' : DeviceView) (a : Answer) (out : List ℕ) → SetupResult x setup body w a out w'
-      → RowDone (plan_on q body x w) (asked_length q) w a out w'
-  takes_by None w w' a out h = goes_by w w' a out h
-  takes_by (Some why) w w' a out (inl (stalls, none, closing, same)) =
-      subst (λ (p : Plan). RowDone p (asked_length q) w a out w') (sym (closed_plan why w closing)) ((stalls, none), same)
-  takes_by (Some why) w w' a out (inr (other, h)) =
-      subst (λ (p : Plan). RowDone p (asked_length q) w a out w') (sym (open_plan why w other)) (goes_by w w' a out h)
+  -- A setup, whose image the device's program may refuse, makes a row of the plan that `plan_with_objection` gives.
+  pub setup_result_is_row : (x : Option Objection) (w w' : DeviceView) (a : Answer) (out : List ℕ) → SetupResult x setup body w a out w'
+      → RowDone (plan_with_objection q body x w) (asked_length q) w a out w'
+  setup_result_is_row None w w' a out h = request_makes_row_of_plan w w' a out h
+  setup_result_is_row (Some why) w w' a out (inl (stalls, none, closing, same)) =
+      subst (λ (p : Plan). RowDone p (asked_length q) w a out w') (sym (plan_of_refused_close why w closing)) ((stalls, none), same)
+  setup_result_is_row (Some why) w w' a out (inr (other, h)) =
+      subst (λ (p : Plan). RowDone p (asked_length q) w a out w') (sym (plan_without_close why w other)) (request_makes_row_of_plan w w' a
+      out h)
 
-  takes_came : (x : Option Objection) (w w' : DeviceView) (a : Answer) (out : List ℕ) → SetupResult x setup body w a out w'
-      → PlanOutcome (plan_on q body x w) (asked_length q) w a out w'
-  takes_came x w w' a out h = came (plan_on q body x w) (asked_length q) w a out w' (takes_by x w w' a out h)
+  -- The result of a setup is the outcome of its plan at some luck.
+  setup_result_has_outcome : (x : Option Objection) (w w' : DeviceView) (a : Answer) (out : List ℕ) → SetupResult x setup body w a out w'
+      → PlanOutcome (plan_with_objection q body x w) (asked_length q) w a out w'
+  setup_result_has_outcome x w w' a out h = came (plan_with_objection q body x w) (asked_length q) w a out w' (setup_result_is_row x w w' a
+      out h)
 
-  -- Meaning that was heard of a row.
-  heard_by : (x : Option Objection) (w w' : DeviceView) (a : Answer) (out : List ℕ) (heard : Heard)
-      (y : PlanOutcome (plan_on q body x w) (asked_length q) w a out w')
+  -- The meaning of a row's answer is the meaning of the reply of its plan.
+  row_answer_is_heard : (x : Option Objection) (w w' : DeviceView) (a : Answer) (out : List ℕ) (heard : Heard)
+      (y : PlanOutcome (plan_with_objection q body x w) (asked_length q) w a out w')
       → HeardOfAnswer (Send q body) a out heard
-      → (room : Bool) × (heard ≡ remembered (heard_as (outcome (image_of w.slots) (plan_on q body x w) y.luck).reply) room)
-  heard_by x w w' a out heard y h =
-      plan_heard x q body (profile w) (image_of w.slots) w.stage y.luck a out heard is
-      (subst (λ (r : Reply). Answers (asked_length q) r a out) (sym (ap (λ (o : Outcome). o.reply) y.same)) y.answers) h
+      → (room : Bool) × (heard ≡ heard_with_room (heard_of_reply (plan_outcome (image_of w.slots) (plan_with_objection q body x w)
+      y.luck).reply) room)
+  row_answer_is_heard x w w' a out heard y h =
+      plan_answer_is_heard x q body (profile w) (image_of w.slots) w.stage y.luck a out heard is
+      (subst (λ (r : Reply). ReplyAnswer (asked_length q) r a out) (sym (ap (λ (o : Outcome). o.reply) y.same)) y.answers) h
 
-  -- The device treats a request as its situation does.
-  record Arrives (x : Option Objection) (w w' : DeviceView) (how : Handled) (came : Response) (out : List ℕ) : Type 0 where
+  -- A request that reaches a device moves the device's situation as the table says, at some luck.
+  record ArrivesAsSituation (x : Option Objection) (w w' : DeviceView) (how : Handled) (came : Response) (out : List ℕ) : Type 0 where
     first : Luck
     second : Luck
-    device : (reached (profile w) (situation w) (meant q body) (plan_on q body x w) how first second).device ≡ situation w'
-    hears : (heard : Heard) → HeardOfResponse (Send q body) came out heard → (room : Bool) × (heard ≡ remembered (reached (profile w)
-        (situation w) (meant q body) (plan_on q body x w) how first second).heard room)
+    device : (reached (profile w) (situation w) (request_for_table q body) (plan_with_objection q body x w) how first second).device
+        ≡ situation w'
+    hears : (heard : Heard) → HeardOfResponse (Send q body) came out heard → (room : Bool) × (heard ≡ heard_with_room (reached (profile w)
+        (situation w) (request_for_table q body) (plan_with_objection q body x w) how first second).heard room)
     fixed : profile w' ≡ profile w
-    lucky : w.slots.medium.fuse ≡ Whole → (first ≡ Works) × (second ≡ Works)
+    works_with_whole_fuse : w.slots.medium.fuse ≡ Whole → (first ≡ Works) × (second ≡ Works)
 
-  reaches_go : {x : Option Objection} {w w' : DeviceView} {how : Handled} {came : Response} {out : List ℕ}
-      → ReachesDevice x setup body how w came out w' → Arrives x w w' how came out
-  reaches_go unseen = record {
+  -- A request that reaches the device moves its situation as the table says.
+  reach_arrives : {x : Option Objection} {w w' : DeviceView} {how : Handled} {came : Response} {out : List ℕ}
+      → ReachesDevice x setup body how w came out w' → ArrivesAsSituation x w w' how came out
+  reach_arrives unseen = record {
     first = Works;
     second = Works;
     device = refl;
     hears = λ heard h. (true, h);
     fixed = refl;
-    lucky = λ e. (refl, refl);
+    works_with_whole_fuse = λ e. (refl, refl);
   }
-  reaches_go {x = x} (once {w = w} {w' = w'} {a = a} {out = out} h) =
-      let y = takes_came x w w' a out h in
+  reach_arrives {x = x} (once {w = w} {w' = w'} {a = a} {out = out} h) =
+      let y = setup_result_has_outcome x w w' a out h in
       record {
         first = y.luck;
         second = Works;
         device = ap (λ (o : Outcome). o.after) y.same;
-        hears = λ heard r. heard_by x w w' a out heard y r;
+        hears = λ heard r. row_answer_is_heard x w w' a out heard y r;
         fixed = y.fixed;
-        lucky = λ e. ((y.unarmed e).0, refl);
+        works_with_whole_fuse = λ e. ((y.unarmed e).0, refl);
       }
-  reaches_go {x = x} (again {w = w} {w' = w'} {b = b} {last = last} mid a out h k) =
-      let y = takes_came x w mid a out h in
-      let z = takes_came None mid w' b last k in
-      let again : handled (profile w) (outcome (image_of w.slots) (plan_on q body x w) y.luck).after (meant q body) z.luck
-      ≡ handled (profile mid) (situation mid) (meant q body) z.luck =
-      λ j. handled (sym y.fixed j) (y.same j).after (meant q body) z.luck in
+  reach_arrives {x = x} (again {w = w} {w' = w'} {b = b} {last = last} mid a out h k) =
+      let y = setup_result_has_outcome x w mid a out h in
+      let z = setup_result_has_outcome None mid w' b last k in
+      let again : handled (profile w) (plan_outcome (image_of w.slots) (plan_with_objection q body x w) y.luck).after (request_for_table q
+      body) z.luck
+      ≡ handled (profile mid) (situation mid) (request_for_table q body) z.luck =
+      λ j. handled (sym y.fixed j) (y.same j).after (request_for_table q body) z.luck in
       record {
         first = y.luck;
         second = z.luck;
         device = ap (λ (o : Outcome). o.after) again ∙ ap (λ (o : Outcome). o.after) z.same;
-        hears = λ heard r. let said = heard_by None mid w' b last heard z r in
-            (said.0, said.1 ∙ sym (ap (λ (o : Outcome). remembered (heard_as o.reply) said.0) again));
+        hears = λ heard r. let said = row_answer_is_heard None mid w' b last heard z r in
+            (said.0, said.1 ∙ sym (ap (λ (o : Outcome). heard_with_room (heard_of_reply o.reply) said.0) again));
         fixed = z.fixed ∙ y.fixed;
-        lucky = λ e. let k = y.unarmed e in (k.0, (z.unarmed k.1).0);
+        works_with_whole_fuse = λ e. let k = y.unarmed e in (k.0, (z.unarmed k.1).0);
       }
-  reaches_go {x = x} (late {w = w} {w' = w'} {a = a} {out = out} {ms = ms} mid h e) =
-      let y = takes_came x w mid a out h in
+  reach_arrives {x = x} (late {w = w} {w' = w'} {a = a} {out = out} {ms = ms} mid h e) =
+      let y = setup_result_has_outcome x w mid a out h in
       let z = times_have_outcomes ms mid w' e in
       record {
         first = y.luck;
         second = z.luck;
-        device = (λ j. elapsed (sym y.fixed j) (y.same j).after ms z.luck) ∙ ap (λ (o : Outcome). o.after) z.same;
-        hears = λ heard r. heard_by x w mid a out heard y r;
+        device = (λ j. situation_after_ms (sym y.fixed j) (y.same j).after ms z.luck) ∙ ap (λ (o : Outcome). o.after) z.same;
+        hears = λ heard r. row_answer_is_heard x w mid a out heard y r;
         fixed = z.fixed ∙ y.fixed;
-        lucky = λ e. let k = y.unarmed e in (k.0, (z.unarmed k.1).0);
+        works_with_whole_fuse = λ e. let k = y.unarmed e in (k.0, (z.unarmed k.1).0);
       }
 
-  sends_go : (delivery : Delivery) (w w' : DeviceView) (heard : Heard) → Sends q setup body delivery w w' heard
+  -- A delivered request moves the situation as the table says.
+  delivered_request_went : (delivery : Delivery) (w w' : DeviceView) (heard : Heard) → RequestDelivered q setup body delivery w w' heard
       → Went w.slots.medium.fuse (profile w) (situation w) (Send q body) delivery w' heard
-  sends_go delivery w w' heard s =
-      let x = reaches_go s.reaches in
-      let h = heard_by_delivery (Send q body) delivery.harming delivery.back s.came s.out heard _ x.hears s.hears in
+  delivered_request_went delivery w w' heard s =
+      let x = reach_arrives s.reaches in
+      let h = heard_through_delivery (Send q body) delivery.harming delivery.back s.came s.out heard _ x.hears s.hears in
       record {
         first = x.first;
         second = x.second;
         room = h.0;
-        device = ap (over delivery.harming) x.device;
+        device = ap (situation_after_harm delivery.harming) x.device;
         hears = h.1;
         fixed = x.fixed;
-        lucky = x.lucky;
+        works_with_whole_fuse = x.works_with_whole_fuse;
       }
 
-waits_go : (ms : ℕ) (delivery : Delivery) (w w' : DeviceView) (heard : Heard) → Waits ms delivery w w' heard
+-- A delivered wait moves the situation as the table says.
+delivered_wait_went : (ms : ℕ) (delivery : Delivery) (w w' : DeviceView) (heard : Heard) → WaitDelivered ms delivery w w' heard
     → Went w.slots.medium.fuse (profile w) (situation w) (Wait ms) delivery w' heard
-waits_go ms delivery w w' heard (e, h) = let y = times_have_outcomes (waits_for delivery.handling ms) w w' e in
+delivered_wait_went ms delivery w w' heard (e, h) = let y = times_have_outcomes (wait_by_handling delivery.handling ms) w w' e in
     record {
       first = y.luck;
       second = Works;
       room = true;
-      device = ap (λ (o : Outcome). over delivery.harming o.after) y.same;
-      hears = h ∙ all_remembered (heard_over delivery.harming Waited);
+      device = ap (λ (o : Outcome). situation_after_harm delivery.harming o.after) y.same;
+      hears = h ∙ heard_with_memory_unchanged (heard_after_action delivery.harming Waited);
       fixed = y.fixed;
-      lucky = λ whole. ((y.unarmed whole).0, refl);
+      works_with_whole_fuse = λ whole. ((y.unarmed whole).0, refl);
     }
 
--- The time that slips in.
-record Slid (fuse : Fuse) (c : Profile) (s : Situation) (how : Handled) (w' : DeviceView) : Type 0 where
+-- Time that slips in moves the device's situation as the table says, at some luck.
+record SlippedTime (fuse : Fuse) (c : Profile) (s : Situation) (how : Handled) (w' : DeviceView) : Type 0 where
   luck : Luck
-  device : slipped c s how luck ≡ situation w'
+  device : situation_after_slip c s how luck ≡ situation w'
   fixed : profile w' ≡ c
-  lucky : fuse ≡ Whole → luck ≡ Works
+  works_with_whole_fuse : fuse ≡ Whole → luck ≡ Works
 
-slips_go : (how : Handled) (w w' : DeviceView) → Slips how w w' → Slid w.slots.medium.fuse (profile w) (situation w) how w'
-slips_go (Late ms) w w' e = let y = times_have_outcomes ms w w' e in
-    record { luck = y.luck; device = ap (λ (o : Outcome). o.after) y.same; fixed = y.fixed; lucky = λ whole. (y.unarmed whole).0 }
-slips_go how w w' e = record { luck = Works; device = sym (ap situation e); fixed = ap profile e; lucky = λ whole. refl }
+-- The time that slips in moves the situation as the table says.
+slipped_time_has_luck : (how : Handled) (w w' : DeviceView) → SlipsTime how w w' →
+    SlippedTime w.slots.medium.fuse (profile w) (situation w) how w'
+slipped_time_has_luck (Late ms) w w' e = let y = times_have_outcomes ms w w' e in
+    record {
+      luck = y.luck;
+      device = ap (λ (o : Outcome). o.after) y.same;
+      fixed = y.fixed;
+      works_with_whole_fuse = λ whole. (y.unarmed
+          whole).0;
+    }
+slipped_time_has_luck how w w' e = record {
+  luck = Works;
+  device = sym (ap situation e);
+  fixed = ap profile e;
+  works_with_whole_fuse = λ
+      whole. refl;
+}
 
-resets_go : (delivery : Delivery) (w w' : DeviceView) (heard : Heard) → ResetsBus delivery w w' heard
+-- A delivered reset of the bus moves the situation as the table says.
+delivered_reset_went : (delivery : Delivery) (w w' : DeviceView) (heard : Heard) → BusResetDelivered delivery w w' heard
     → Went w.slots.medium.fuse (profile w) (situation w) Reset delivery w' heard
-resets_go delivery w w' heard (e, h) = let y = slips_go delivery.handling (bus_was_reset w) w' e in
+delivered_reset_went delivery w w' heard (e, h) = let y = slipped_time_has_luck delivery.handling (device_after_bus_reset w) w' e in
     record {
       first = y.luck;
       second = Works;
       room = true;
-      device = ap (over delivery.harming) y.device;
-      hears = h ∙ all_remembered (heard_over delivery.harming WasReset);
+      device = ap (situation_after_harm delivery.harming) y.device;
+      hears = h ∙ heard_with_memory_unchanged (heard_after_action delivery.harming WasReset);
       fixed = y.fixed;
-      lucky = λ whole. (y.lucky whole, refl);
+      works_with_whole_fuse = λ whole. (y.works_with_whole_fuse whole, refl);
     }
 
--- An action with its bytes goes as the table of its delivery has it.
-pub acts_go : (d : Deed) (delivery : Delivery) (w w' : DeviceView) (heard : Heard) → HostsDeed d → Acts d delivery w w' heard
+-- An action in bytes goes as the table says for its delivery.
+pub delivered_action_went : (d : Deed) (delivery : Delivery) (w w' : DeviceView) (heard : Heard) → IsHostDeed d →
+    ActionDelivered d delivery w w' heard
     → Went w.slots.medium.fuse (profile w) (situation w) d delivery w' heard
-acts_go (Send q body) delivery w w' heard is (setup, asked, h) = sends_go q setup body is asked delivery w w' heard h
-acts_go (Wait ms) delivery w w' heard is h = waits_go ms delivery w w' heard h
-acts_go Reset delivery w w' heard is h = resets_go delivery w w' heard h
-acts_go (Done report) delivery w w' heard is h = elim h [ ]
+delivered_action_went (Send q body) delivery w w' heard is (setup, asked, h) = delivered_request_went q setup body is asked delivery w w'
+    heard h
+delivered_action_went (Wait ms) delivery w w' heard is h = delivered_wait_went ms delivery w w' heard h
+delivered_action_went Reset delivery w w' heard is h = delivered_reset_went delivery w w' heard h
+delivered_action_went (Done report) delivery w w' heard is h = elim h [ ]

@@ -6,26 +6,26 @@ use Rattle.std.proofs.lemmas.Slice.Eq.{bytes_eq-Decides}
 use Rattle.std.specs.Str.{bytes_eq}
 use Rattle.dfu_device.specs.Stage.{Data, Upload, Profile, Stage, InAppIdle, InDfuIdle, InUploadIdle}
 use Rattle.dfu_device.specs.Table.{Plan, Sure, plan, next_number}
-use Rattle.dfu_device.specs.Outcome.{Works, outcome}
+use Rattle.dfu_device.specs.Outcome.{Works, plan_outcome}
 use Rattle.dfu_host.specs.declared.report.Report.TheVariants.{TooManyBlocks, Verified}
 use Rattle.dfu_host.specs.Blocks.{blocks}
-use Rattle.dfu_host.specs.BlockLaws.{block_at}
-use Rattle.dfu_host.specs.Phases.{ToCompare, Phase, Find, Compare, Last, Over, Part}
+use Rattle.dfu_host.specs.BlockLaws.{nth_block_is_slice}
+use Rattle.dfu_host.specs.Phases.{CompareGoal, Phase, Find, Compare, Last, Over, Part}
 use Rattle.dfu_host.specs.Table.{compared_phase}
-use Rattle.dfu_host.specs.Host.{IsOn}
-use Rattle.dfu_sim.specs.Play.{heard_as, Passed}
-use Rattle.dfu_sim.proofs.Passes.{Leads, leads_on, none, one, one_by}
-use Rattle.dfu_sim.proofs.Finding.{find_app, detach, enter}
+use Rattle.dfu_host.specs.Host.{IsOnPhase}
+use Rattle.dfu_sim.specs.Play.{heard_of_reply, ActionResult}
+use Rattle.dfu_sim.proofs.Passes.{Leads, passes_lead_on, none, one, action_leads_to_phase}
+use Rattle.dfu_sim.proofs.Finding.{host_finds_app_idle, detach, host_enters_dfu_idle}
 
 module _ (c : Profile) (p : List ℕ) (again : ℕ) where
   abbrev GoesWell : Stage → Phase → ℕ → Stage → Phase → Type 0
-  GoesWell s phase k t next = Leads c (ToCompare p) again p s phase k p t next
+  GoesWell s phase k t next = Leads c (CompareGoal p) again p s phase k p t next
 
   -- The host finds the device in dfuIDLE.
-  find_idle : GoesWell InDfuIdle Find 1 InDfuIdle (Compare 0)
-  find_idle = one c (ToCompare p) again (λ l k room. refl)
+  compare_finds_dfu_idle : GoesWell InDfuIdle Find 1 InDfuIdle (Compare 0)
+  compare_finds_dfu_idle = one c (CompareGoal p) again (λ l k room. refl)
 
-  -- When k full parts were given.
+  -- Stage of the device after it gave k full parts.
   abbrev Given : ℕ → Stage
   Given zero = InDfuIdle
   Given (suc k) = InUploadIdle (suc k * c.transfer) (suc k % 65536)
@@ -36,7 +36,7 @@ module _ (c : Profile) (p : List ℕ) (again : ℕ) where
   abbrev block : ℕ → List ℕ
   block k = slice_index_or (blocks p c.transfer) k []
 
-  -- The device's answer to UPLOAD of part k: the bytes at its place, of a part that is full or not.
+  -- The device answers UPLOAD of part k with the bytes at its place, both for a full part and for a shorter one.
   gives : (k : ℕ) → c.can_upload ≡ true → 0 < c.transfer → plan c p (Given k) (Upload (k % 65536) c.transfer)
       ≡ (if nat_lt (length (part k)) c.transfer then Sure (Data (part k)) InDfuIdle else Sure (Data (part k)) (Given (suc k)))
   gives zero can sized =
@@ -53,59 +53,65 @@ module _ (c : Profile) (p : List ℕ) (again : ℕ) where
       let n : next_number (suc k % 65536) ≡ suc (suc k) % 65536 = omega arith in
       rw (e, f, g, z, n) refl
 
-  answered : (q : Plan) (stage : Stage) (bytes : List ℕ) → q ≡ Sure (Data bytes) stage
-      → ◌≡◌ {A = Passed} (let o = outcome p q Works in record { device = o.after; heard = heard_as o.reply })
+  part_answer_is_heard : (q : Plan) (stage : Stage) (bytes : List ℕ) → q ≡ Sure (Data bytes) stage
+      → ◌≡◌ {A = ActionResult} (let o = plan_outcome p q Works in record { device = o.after; heard = heard_of_reply o.reply })
       (record { device = record { image = p; stage = stage }; heard = Part bytes })
-  answered q stage bytes e = ap (λ (x : Plan). let o = outcome p x Works in record { device = o.after; heard = heard_as o.reply }) e
+  part_answer_is_heard q stage bytes e = ap (λ (x : Plan). let o = plan_outcome p x Works in record {
+    device = o.after;
+    heard =
+        heard_of_reply o.reply;
+  }) e
 
   module _ (can : c.can_upload ≡ true) (sized : 0 < c.transfer) where
     same : (k : ℕ) → bytes_eq (part k) (block k) ≡ true
-    same k = (bytes_eq-Decides (part k) (block k)).1 (sym (block_at p c.transfer k sized))
+    same k = (bytes_eq-Decides (part k) (block k)).1 (sym (nth_block_is_slice p c.transfer k sized))
 
     fits : (k : ℕ) → nat_lt c.transfer (length (part k)) ≡ false
     fits k = let e : length (part k) ≤ c.transfer = omega (arith, length-take c.transfer (drop (k * c.transfer) p)) in
         grind (arith, nat_tests)
 
-    -- Length of a part.
+    -- Part k has the transfer size, or the rest of the payload if that is less.
     size : (k : ℕ) → length (part k) ≡ min c.transfer (length p - k * c.transfer)
     size k = omega (arith, length-take c.transfer (drop (k * c.transfer) p), length-drop (k * c.transfer) p)
 
-    -- One part, full or not.
-    part_goes : (k : ℕ) (short : Bool) (stage : Stage) (next : Phase) → nat_lt (length (part k)) c.transfer ≡ short
+    -- In a clean run the request for part k leads on, both for a full part and for a shorter one.
+    compared_part_goes_well : (k : ℕ) (short : Bool) (stage : Stage) (next : Phase) → nat_lt (length (part k)) c.transfer ≡ short
         → (if short then Sure (Data (part k)) InDfuIdle else Sure (Data (part k)) (Given (suc k))) ≡ Sure (Data (part k)) stage
-        → (if short then Last Verified else if suc k == 65535 then Over TooManyBlocks else Compare (suc k)) ≡ next → IsOn next
+        → (if short then Last Verified else if suc k == 65535 then Over TooManyBlocks else Compare (suc k)) ≡ next → IsOnPhase next
         → GoesWell (Given k) (Compare k) 1 stage next
-    part_goes k short stage next e gave row on =
-        one_by c (ToCompare p) again (Part (part k)) (compared_phase c.transfer k (block k) (part k))
-        (λ l. answered _ stage (part k) (gives k can sized ∙ rw e gave)) (λ l room. refl) (rw (fits k, same k, e) row) on
+    compared_part_goes_well k short stage next e gave row on =
+        action_leads_to_phase c (CompareGoal p) again (Part (part k)) (compared_phase c.transfer k (block k) (part k))
+        (λ l. part_answer_is_heard _ stage (part k) (gives k can sized ∙ rw e gave)) (λ l room. refl) (rw (fits k, same k, e) row) on
 
-    -- A full part.
+    -- A full part k leads to the next part.
     full : (k : ℕ) → suc k < 65535 → suc k * c.transfer ≤ length p → GoesWell (Given k) (Compare k) 1 (Given (suc k)) (Compare (suc k))
     full k less inside =
         let long : nat_lt (length (part k)) c.transfer ≡ false = grind (arith, nat_tests, size k, suc-mul k c.transfer) in
         let more : (suc k == 65535) ≡ false = grind (arith, nat_tests) in
-        part_goes k false (Given (suc k)) (Compare (suc k)) long refl (rw more refl) tt
+        compared_part_goes_well k false (Given (suc k)) (Compare (suc k)) long refl (rw more refl) tt
 
-    -- The last one.
+    -- The last part, which is shorter, leads to the last phase.
     last : (k : ℕ) → length p < suc k * c.transfer → GoesWell (Given k) (Compare k) 1 InDfuIdle (Last Verified)
     last k past =
         let short : nat_lt (length (part k)) c.transfer ≡ true = grind (arith, nat_tests, size k, suc-mul k c.transfer) in
-        part_goes k true InDfuIdle (Last Verified) short refl refl tt
+        compared_part_goes_well k true InDfuIdle (Last Verified) short refl refl tt
 
     parts : (k : ℕ) → k < 65535 → k * c.transfer ≤ length p → GoesWell InDfuIdle (Compare 0) k (Given k) (Compare k)
-    parts zero less inside = none c (ToCompare p) again
+    parts zero less inside = none c (CompareGoal p) again
     parts (suc k) less inside =
         let n : k + 1 ≡ suc k = omega arith in
         subst (λ z. GoesWell InDfuIdle (Compare 0) z (Given (suc k)) (Compare (suc k))) n
-        (leads_on (parts k (omega (arith, less)) (omega (arith, inside, suc-mul k c.transfer))) (full k less inside))
+        (passes_lead_on (parts k (omega (arith, less)) (omega (arith, inside, suc-mul k c.transfer))) (full k less inside))
 
-    -- From appIDLE to the last phase.
-    pub whole_comparison : length p / c.transfer < 65535 → GoesWell InAppIdle Find (1 + (1 + (1 + (1 + (length p / c.transfer + 1)))))
+    -- A whole comparison leads from appIDLE to the last phase, in one pass for each full block and five more.
+    pub whole_comparison_goes_well : length p / c.transfer < 65535 →
+        GoesWell InAppIdle Find (1 + (1 + (1 + (1 + (length p / c.transfer + 1)))))
         InDfuIdle (Last Verified)
-    whole_comparison less =
+    whole_comparison_goes_well less =
         let q = length p / c.transfer in
         let low : q * c.transfer ≤ length p = div-mul-le_self (length p) c.transfer in
         let high : length p < q * c.transfer + c.transfer = lt-div-mul-add {a = length p} sized in
         let past : length p < suc q * c.transfer = omega (arith, high, suc-mul q c.transfer) in
-        leads_on (find_app c (ToCompare p) again p) (leads_on (detach c (ToCompare p) again p)
-        (leads_on (enter c (ToCompare p) again p _) (leads_on find_idle (leads_on (parts q less low) (last q past)))))
+        passes_lead_on (host_finds_app_idle c (CompareGoal p) again p) (passes_lead_on (detach c (CompareGoal p) again p)
+        (passes_lead_on (host_enters_dfu_idle c (CompareGoal p) again p _) (passes_lead_on compare_finds_dfu_idle (passes_lead_on (parts q
+        less low) (last q past)))))

@@ -1,4 +1,4 @@
--- The program of a device refuses the image that a request closes: the plan of the request.
+-- Plan of a request on a device whose program refuses the image that the request closes.
 use Rattle.std.proofs.Common.{◌≡◌, ℕ, ◌==◌, nat_le, Bool, true, false, cond, List, [], ◌∷◌, length, Option, Some, None, refl, ap, arith}
 use Rattle.std.proofs.lemmas.Bool.Decides.{nat_tests}
 use Rattle.dfu_wire.specs.declared.codes.Code.{Code}
@@ -7,61 +7,63 @@ use Rattle.dfu_wire.specs.declared.requests.Request.{Request as Asked}
 use Rattle.dfu_wire.specs.declared.requests.Request.TheVariants as request
 use Rattle.dfu_device.specs.declared.objection.Objection.{Objection}
 use Rattle.dfu_device.specs.Stage.{Request, Dnload, Ack, Profile, Stage, InDownloadIdle, InManifestSync}
-use Rattle.dfu_device.specs.Table.{Plan, Sure, error, plan, has_no_bytes, may_close, objection_code}
-use Rattle.dfu_device.specs.Rows.{meant, is_close}
+use Rattle.dfu_device.specs.Table.{Plan, Sure, error_plan, plan, has_no_bytes, may_close, objection_code}
+use Rattle.dfu_device.specs.Rows.{request_for_table, is_close}
 use Rattle.dfu_device.specs.Cases.{either_way}
-use Rattle.dfu_sim.specs.Play.{closes, plan_by}
-use Rattle.dfu_sim.proofs.Quiet.{IsPolite}
-use Rattle.dfu_sim.proofs.Replies.{IsHosts}
+use Rattle.dfu_sim.specs.Play.{request_closes, plan_with_refusal}
+use Rattle.dfu_sim.proofs.Quiet.{IsBlocklessRequest}
+use Rattle.dfu_sim.proofs.Replies.{IsHostRequest}
 
--- A request that closes nothing goes by the table, whatever the program refuses.
-pub by_table : (x : Option Objection) (c : Profile) (i : List ℕ) (stage : Stage) (r : Request) → closes c.least stage r ≡ false
-    → plan_by x c i stage r ≡ plan c i stage r
-by_table None c i stage r e = refl
-by_table (Some why) c i stage r e = ap (λ (t : Bool). cond t (error (objection_code why)) (plan c i stage r)) e
+-- A request that closes nothing has the table's plan, whatever the program refuses.
+pub request_without_close_by_table : (x : Option Objection) (c : Profile) (i : List ℕ) (stage : Stage) (r : Request) →
+    request_closes c.least stage r ≡ false
+    → plan_with_refusal x c i stage r ≡ plan c i stage r
+request_without_close_by_table None c i stage r e = refl
+request_without_close_by_table (Some why) c i stage r e = ap (λ (t : Bool). cond t (error_plan (objection_code why)) (plan c i stage r)) e
 
--- If it closes one that the program refuses, it is an error.
-pub by_objection : (why : Objection) (c : Profile) (i : List ℕ) (stage : Stage) (r : Request) → closes c.least stage r ≡ true
-    → plan_by (Some why) c i stage r ≡ error (objection_code why)
-by_objection why c i stage r e = ap (λ (t : Bool). cond t (error (objection_code why)) (plan c i stage r)) e
+-- A request that closes a download, whose image the program refuses, is an error with the code of the objection.
+pub refused_close_is_error : (why : Objection) (c : Profile) (i : List ℕ) (stage : Stage) (r : Request) →
+    request_closes c.least stage r ≡ true
+    → plan_with_refusal (Some why) c i stage r ≡ error_plan (objection_code why)
+refused_close_is_error why c i stage r e = ap (λ (t : Bool). cond t (error_plan (objection_code why)) (plan c i stage r)) e
 
--- Requests that bring no block close nothing.
-pub polite_closes : (least : ℕ) (stage : Stage) (r : Request) → IsPolite r → closes least stage r ≡ false
-polite_closes least stage (Dnload number body) p = elim p [ ]
-polite_closes least stage r p = refl
+-- A request that brings no block closes nothing.
+pub polite_request_closes_nothing : (least : ℕ) (stage : Stage) (r : Request) → IsBlocklessRequest r → request_closes least stage r ≡ false
+polite_request_closes_nothing least stage (Dnload number body) p = elim p [ ]
+polite_request_closes_nothing least stage r p = refl
 
--- A block that has a byte closes nothing.
+-- A DNLOAD with a body that is not empty closes nothing.
 pub block_closes : (least : ℕ) (stage : Stage) (number : ℕ) (body : List ℕ) → has_no_bytes body ≡ false
-    → closes least stage (Dnload number body) ≡ false
+    → request_closes least stage (Dnload number body) ≡ false
 block_closes least stage number body e = ap (λ (t : Bool). cond t (may_close least stage) false) e
 
--- Cases on the plan of a request that closes: it is an error, or the bytes taken are closed.
-pub close_cases : (P : Plan → Type 0) (x : Option Objection) (c : Profile) (i taken : List ℕ) (expected number : ℕ)
-    → ((code : Code) → P (error code)) → P (Sure Ack (InManifestSync taken))
-    → P (plan_by x c i (InDownloadIdle taken expected) (Dnload number []))
-close_cases P None c i taken expected number pf pt = either_way P (nat_le c.least (length taken)) _ _ pt (pf ErrNotDone)
-close_cases P (Some why) c i taken expected number pf pt =
+-- Cases of the plan of a closing request: an error with some code, or the bytes taken are closed.
+pub cases_of_close_plan : (P : Plan → Type 0) (x : Option Objection) (c : Profile) (i taken : List ℕ) (expected number : ℕ)
+    → ((code : Code) → P (error_plan code)) → P (Sure Ack (InManifestSync taken))
+    → P (plan_with_refusal x c i (InDownloadIdle taken expected) (Dnload number []))
+cases_of_close_plan P None c i taken expected number pf pt = either_way P (nat_le c.least (length taken)) _ _ pt (pf ErrNotDone)
+cases_of_close_plan P (Some why) c i taken expected number pf pt =
     either_way P (nat_le c.least (length taken)) _ _ (pf (objection_code why))
     (either_way P (nat_le c.least (length taken)) _ _ pt (pf ErrNotDone))
 
--- Requests as they are sent.
+-- Requests as hosts send them.
 
-not_true : (b : Bool) → (b ≡ true → ⊥) → b ≡ false
-not_true true f = absurd (f refl)
-not_true false f = refl
+not_true_is_false : (b : Bool) → (b ≡ true → ⊥) → b ≡ false
+not_true_is_false true f = absurd (f refl)
+not_true_is_false false f = refl
 
--- The request that a host sends to close a download closes it, if it may be closed.
-pub host_closes : (q : Asked) (body : List ℕ) (least : ℕ) (stage : Stage) → IsHosts q body → is_close q ≡ true
-    → may_close least stage ≡ true → closes least stage (meant q body) ≡ true
-host_closes (request.Dnload block len) [] least stage i e may = may
-host_closes (request.Dnload block len) (x ∷ xs) least stage i e may =
+-- The request with which a host closes a download closes it, if the download may be closed.
+pub host_close_request_closes : (q : Asked) (body : List ℕ) (least : ℕ) (stage : Stage) → IsHostRequest q body → is_close q ≡ true
+    → may_close least stage ≡ true → request_closes least stage (request_for_table q body) ≡ true
+host_close_request_closes (request.Dnload block len) [] least stage i e may = may
+host_close_request_closes (request.Dnload block len) (x ∷ xs) least stage i e may =
     let none : len ≡ 0 = grind (arith, nat_tests) in absurd (omega (arith, none, i))
-host_closes q body least stage i e may = absurd cc
+host_close_request_closes q body least stage i e may = absurd cc
 
--- A request that is no such request, or comes when the download may not be closed, closes nothing.
-pub host_open : (q : Asked) (body : List ℕ) (least : ℕ) (stage : Stage) → IsHosts q body
-    → (is_close q ≡ true → may_close least stage ≡ true → ⊥) → closes least stage (meant q body) ≡ false
-host_open (request.Dnload block len) [] least stage i closes =
-    not_true (may_close least stage) (λ may. closes (ap (λ (n : ℕ). n == 0) i) may)
-host_open (request.Dnload block len) (x ∷ xs) least stage i closes = refl
-host_open q body least stage i closes = refl
+-- A request closes nothing if it is not the one that closes a download, or if the download may not be closed then.
+pub other_host_request_closes_nothing : (q : Asked) (body : List ℕ) (least : ℕ) (stage : Stage) → IsHostRequest q body
+    → (is_close q ≡ true → may_close least stage ≡ true → ⊥) → request_closes least stage (request_for_table q body) ≡ false
+other_host_request_closes_nothing (request.Dnload block len) [] least stage i request_closes =
+    not_true_is_false (may_close least stage) (λ may. request_closes (ap (λ (n : ℕ). n == 0) i) may)
+other_host_request_closes_nothing (request.Dnload block len) (x ∷ xs) least stage i request_closes = refl
+other_host_request_closes_nothing q body least stage i request_closes = refl

@@ -1,56 +1,61 @@
--- Facts that are known in the phases that each session has: nothing, for each goal; and in dfuIDLE the session's work may begin.
+-- Nothing has to be known of the device in the phases that every session has; and in dfuIDLE the work of a session may begin.
 use Rattle.std.proofs.Common.{ℕ, List, [], refl, arith}
 use Rattle.dfu_wire.specs.declared.states.State.TheVariants.{DfuIdle}
 use Rattle.dfu_device.specs.Stage.{Profile, Stage, InDfuIdle}
 use Rattle.dfu_device.specs.Outcome.{Situation}
 use Rattle.dfu_host.specs.declared.report.Report.{Report}
 use Rattle.dfu_host.specs.declared.report.Report.TheVariants.{Installed, Aborted, Refused}
-use Rattle.dfu_host.specs.Phases.{Goal, ToLoad, ToFetch, ToVerify, ToCompare, Phase, Find, Over}
+use Rattle.dfu_host.specs.Phases.{Goal, LoadGoal, FetchGoal, VerifyGoal, CompareGoal, Phase, Find, Over}
 use Rattle.dfu_host.specs.Table.{work_start}
-use Rattle.dfu_host.specs.CommonPhases.{IsCommon, CommonInvariant}
+use Rattle.dfu_host.specs.CommonPhases.{IsCommonPhase, CommonInvariant}
 use Rattle.dfu_sim.specs.Opening.{task_for}
 use Rattle.dfu_sim.specs.Session.{PromisesNothing}
-use Rattle.dfu_sim.specs.Fact.{IsInApp, AtBlock, ReportMeaning, Fetches, GoalFact, HasBlocks}
-use Rattle.dfu_sim.proofs.Tells.{Tells, ToldBy}
+use Rattle.dfu_sim.specs.Fact.{IsAppIdle, IsAtBlock, ReportMeaning, FetchedSoFar, GoalFact, HasBlocks}
+use Rattle.dfu_sim.proofs.Tells.{Tells, ToldByHeard}
 
 module _ (c : Profile) where
-  -- Nothing has to be known of the device in a common phase.
-  pub goal_anywhere : (g : Goal) (d : Situation) (phase : Phase) → IsCommon phase → GoalFact c g phase d
-  goal_anywhere ToFetch d Find h = tt
-  goal_anywhere g d Find h = tt
-  goal_anywhere g d phase h = search
+  -- In a common phase the fact of each goal holds of each device.
+  pub common_phase_has_goal_fact : (g : Goal) (d : Situation) (phase : Phase) → IsCommonPhase phase → GoalFact c g phase d
+  common_phase_has_goal_fact FetchGoal d Find h = tt
+  common_phase_has_goal_fact g d Find h = tt
+  common_phase_has_goal_fact g d phase h = search
 
-  load_begins : (p : List ℕ) (stage : Stage) → Tells DfuIdle stage → AtBlock p c.transfer 0 stage
-  load_begins p InDfuIdle h = refl
-  load_begins p stage h = elim h [ ]
+  -- In dfuIDLE a download is at its first block.
+  download_fact_in_dfu_idle : (p : List ℕ) (stage : Stage) → Tells DfuIdle stage → IsAtBlock p c.transfer 0 stage
+  download_fact_in_dfu_idle p InDfuIdle h = refl
+  download_fact_in_dfu_idle p stage h = elim h [ ]
 
-  fetch_begins : (image : List ℕ) (stage : Stage) → Tells DfuIdle stage → Fetches 0 [] image stage
-  fetch_begins image InDfuIdle h = (refl, refl)
-  fetch_begins image stage h = elim h [ ]
+  -- In dfuIDLE an upload is at its first part.
+  upload_fact_in_dfu_idle : (image : List ℕ) (stage : Stage) → Tells DfuIdle stage → FetchedSoFar 0 [] image stage
+  upload_fact_in_dfu_idle image InDfuIdle h = (refl, refl)
+  upload_fact_in_dfu_idle image stage h = elim h [ ]
 
-  -- The facts of a session with this goal, of this device, are such as hold after the common phases.
+  -- In a situation the fact of a goal holds in each common phase, and in the first phase of its work once the host heard dfuIDLE.
   abbrev pub CommonFacts : Goal → Situation → Type 0
-  CommonFacts g d = CommonInvariant (task_for c g) (λ phase. GoalFact c g phase d) (λ heard. ToldBy heard d.stage)
+  CommonFacts g d = CommonInvariant (task_for c g) (λ phase. GoalFact c g phase d) (λ heard. ToldByHeard heard d.stage)
 
-  goal_begins : (g : Goal) → HasBlocks c g → (d : Situation) → Tells DfuIdle d.stage → GoalFact c g (work_start g) d
-  goal_begins ToFetch some d t = (omega arith, fetch_begins d.image d.stage t)
-  goal_begins (ToCompare p) some d t = (omega arith, fetch_begins d.image d.stage t)
-  goal_begins (ToLoad p) some d t = (some, load_begins p d.stage t)
-  goal_begins (ToVerify p) some d t = (some, load_begins p d.stage t)
+  -- In dfuIDLE the fact of the first phase of the work holds.
+  goal_fact_at_work_start : (g : Goal) → HasBlocks c g → (d : Situation) → Tells DfuIdle d.stage → GoalFact c g (work_start g) d
+  goal_fact_at_work_start FetchGoal some d t = (omega arith, upload_fact_in_dfu_idle d.image d.stage t)
+  goal_fact_at_work_start (CompareGoal p) some d t = (omega arith, upload_fact_in_dfu_idle d.image d.stage t)
+  goal_fact_at_work_start (LoadGoal p) some d t = (some, download_fact_in_dfu_idle p d.stage t)
+  goal_fact_at_work_start (VerifyGoal p) some d t = (some, download_fact_in_dfu_idle p d.stage t)
 
-  ends_plain : (p : List ℕ) (d : Situation) (report : Report) → PromisesNothing report → ReportMeaning c p d IsInApp report
-  ends_plain p d Installed h = elim h [ ]
-  ends_plain p d report h = search
+  -- A report that promises nothing has its meaning in each situation.
+  plain_report_has_meaning : (p : List ℕ) (d : Situation) (report : Report) → PromisesNothing report → ReportMeaning c p d IsAppIdle report
+  plain_report_has_meaning p d Installed h = elim h [ ]
+  plain_report_has_meaning p d report h = search
 
-  over_plain : (g : Goal) (d : Situation) (report : Report) → PromisesNothing report → GoalFact c g (Over report) d
-  over_plain ToFetch d report h = h
-  over_plain g d report h = ends_plain _ d report h
+  -- The end with a report that promises nothing has its fact in each situation.
+  plain_end_has_goal_fact : (g : Goal) (d : Situation) (report : Report) → PromisesNothing report → GoalFact c g (Over report) d
+  plain_end_has_goal_fact FetchGoal d report h = h
+  plain_end_has_goal_fact g d report h = plain_report_has_meaning _ d report h
 
-  -- The facts of each session are.
-  pub common_facts : (g : Goal) → HasBlocks c g → (d : Situation) → CommonFacts g d
-  common_facts g some d = record {
-    anywhere = goal_anywhere g d;
-    begins = λ code poll t. goal_begins g some d t;
-    refused = λ code. over_plain g d (Refused code) tt;
-    aborted = over_plain g d Aborted tt;
+  -- The common facts hold of each goal and each situation.
+  pub goal_has_common_facts : (g : Goal) → HasBlocks c g → (d : Situation) → CommonFacts g d
+  goal_has_common_facts g some d = record {
+    holds_in_each_phase = common_phase_has_goal_fact g d;
+    begins = λ code poll t. goal_fact_at_work_start g some d t;
+    refused = λ code. plain_end_has_goal_fact g d (Refused code) tt;
+    aborted = plain_end_has_goal_fact g d Aborted tt;
   }

@@ -1,142 +1,157 @@
--- Effect on the device of an action that asks, waits or resets, whatever its fate.
+-- Effect on the device of an action that asks, waits or resets, for each fate.
 use Rattle.std.proofs.Common.{◌≡◌, ℕ, Bool, true, false, List, refl, sym, subst}
 use Rattle.dfu_device.specs.Stage.{Request, Profile}
 use Rattle.dfu_device.specs.Table.{Plan, plan, reset_stage}
-use Rattle.dfu_device.specs.Outcome.{Situation, Luck, handled, was_reset, powered}
+use Rattle.dfu_device.specs.Outcome.{Situation, Luck, handled, after_reset, situation_after_power}
 use Rattle.dfu_host.specs.Phases.{Phase, Heard, Part, Nothing, Restarted}
 use Rattle.dfu_sim.specs.declared.delivery.Handled.{Handled}
 use Rattle.dfu_sim.specs.declared.delivery.Handled.TheVariants.{Unseen, Once, Again, Late}
 use Rattle.dfu_sim.specs.declared.delivery.MediumFault.{MediumFault}
 use Rattle.dfu_sim.specs.declared.delivery.MediumFault.TheVariants.{CutsPower}
 use Rattle.dfu_sim.specs.Delivery.{Delivery}
-use Rattle.dfu_sim.specs.Play.{heard_as, remembered, Passed, reached, heard_back, over, ends_by, slipped, waits_for, sent_by, sent, waited, bus_reset}
-use Rattle.dfu_sim.specs.LinkAgreement.{IsSound}
-use Rattle.dfu_sim.specs.Fact.{Fact}
-use Rattle.dfu_sim.proofs.Quiet.{stays, forgets, IsQuiet, IsPolite, quiet_polite, quiet_time, quiet_reset, quiet_then}
-use Rattle.dfu_sim.proofs.Tells.{ToldBy, Asks, told_time, told_asked}
-use Rattle.dfu_sim.proofs.Kept.{fact_asked, fact_time}
-use Rattle.dfu_sim.proofs.Closing.{by_table, polite_closes}
+use Rattle.dfu_sim.specs.Play.{heard_of_reply, heard_with_room, ActionResult, reached, heard_back, situation_after_harm, action_end_by_harm, situation_after_slip, wait_by_handling, send_result_by, send_result, waited, bus_reset}
+use Rattle.dfu_sim.specs.LinkAgreement.{ClosedWasOffered}
+use Rattle.dfu_sim.specs.Fact.{PhaseFact}
+use Rattle.dfu_sim.proofs.Quiet.{stays, pending_forgotten, IsQuiet, IsBlocklessRequest, blockless_request_is_quiet, passing_time_is_quiet, bus_reset_is_quiet, quiet_situations_compose}
+use Rattle.dfu_sim.proofs.Tells.{ToldByHeard, Asks, heard_state_through_time, asked_answer_tells_state}
+use Rattle.dfu_sim.proofs.Kept.{phase_fact_through_request, phase_fact_through_time}
+use Rattle.dfu_sim.proofs.Closing.{request_without_close_by_table, polite_request_closes_nothing}
 
--- The host hears anything but a restart.
-abbrev pub IfHeard : Heard → (Heard → Type 0) → Type 0
-IfHeard Restarted P = Unit {0}
-IfHeard heard P = P heard
+-- The property holds of what a host hears, unless that is a restart.
+abbrev pub UnlessRestarted : Heard → (Heard → Type 0) → Type 0
+UnlessRestarted Restarted P = Unit {0}
+UnlessRestarted heard P = P heard
 
--- A fact of all that is heard holds if that is no restart.
-pub if_some : (heard : Heard) (P : Heard → Type 0) → P heard → IfHeard heard P
+-- A property of what is heard holds unless a restart is heard.
+pub if_some : (heard : Heard) (P : Heard → Type 0) → P heard → UnlessRestarted heard P
 if_some Restarted P h = tt
 if_some heard P h = h
 
--- A fact before the end of an action holds after it, if the host hears of no restart.
-pub if_ended : (harming : MediumFault) (d : Passed) (P : Heard → Situation → Type 0) → P d.heard d.device
-    → IfHeard (ends_by harming d).heard (λ heard. P heard (ends_by harming d).device)
-if_ended CutsPower d P h = tt
-if_ended harming d P h = if_some d.heard (λ heard. P heard d.device) h
+-- A property that holds before the end of an action holds after it, unless the host hears of a restart.
+pub fact_after_action_end : (harming : MediumFault) (d : ActionResult) (P : Heard → Situation → Type 0) → P d.heard d.device
+    → UnlessRestarted (action_end_by_harm harming d).heard (λ heard. P heard (action_end_by_harm harming d).device)
+fact_after_action_end CutsPower d P h = tt
+fact_after_action_end harming d P h = if_some d.heard (λ heard. P heard d.device) h
 
--- A fact of what is heard may be weakened.
-pub if_heard : {P Q : Heard → Type 0} (heard : Heard) → ((x : Heard) → P x → Q x) → IfHeard heard P → IfHeard heard Q
-if_heard Restarted f h = tt
-if_heard heard f h = f heard h
+-- A property of what is heard may be weakened.
+pub weakened_heard_fact : {P Q : Heard → Type 0} (heard : Heard) → ((x : Heard) → P x → Q x) → UnlessRestarted heard P →
+    UnlessRestarted heard Q
+weakened_heard_fact Restarted f h = tt
+weakened_heard_fact heard f h = f heard h
 
--- A fact of all that may be heard holds of what is heard.
-pub any_heard : (heard : Heard) (P : Heard → Type 0) → ((x : Heard) → P x) → IfHeard heard P
-any_heard Restarted P f = tt
-any_heard heard P f = f heard
+-- A property of everything that may be heard holds of what is heard.
+pub fact_of_all_heard : (heard : Heard) (P : Heard → Type 0) → ((x : Heard) → P x) → UnlessRestarted heard P
+fact_of_all_heard Restarted P f = tt
+fact_of_all_heard heard P f = f heard
 
--- With memory all is heard unchanged.
-pub all_remembered : (x : Heard) → x ≡ remembered x true
-all_remembered (Part bytes) = refl
-all_remembered x = refl
+-- With memory a host hears each meaning unchanged.
+pub heard_with_memory_unchanged : (x : Heard) → x ≡ heard_with_room x true
+heard_with_memory_unchanged (Part bytes) = refl
+heard_with_memory_unchanged x = refl
 
 module _ (c : Profile) (offers : List (List ℕ)) where
   -- A cut of the power is quiet.
-  pub quiet_power : (s : Situation) → IsQuiet offers s (powered s)
-  quiet_power s = record { moves = forgets; sound = tt }
+  pub power_cut_is_quiet : (s : Situation) → IsQuiet offers s (situation_after_power s)
+  power_cut_is_quiet s = record { moves = pending_forgotten; sound = tt }
 
-  -- Hearing nothing is quiet.
-  pub quiet_none : (s : Situation) → IsSound offers s.stage → IsQuiet offers s s
-  quiet_none s h = record { moves = stays; sound = h }
+  -- A situation that stays is a quiet move.
+  pub unchanged_situation_is_quiet : (s : Situation) → ClosedWasOffered offers s.stage → IsQuiet offers s s
+  unchanged_situation_is_quiet s h = record { moves = stays; sound = h }
 
-  -- The end of an action is quiet.
-  ended_quiet : (s d : Situation) (harming : MediumFault) → IsQuiet offers s d → IsQuiet offers s (over harming d)
-  ended_quiet s d CutsPower q = quiet_then q (quiet_power _)
-  ended_quiet s d harming q = q
+  -- An action that is quiet is still quiet at its end, even if the power is cut there.
+  action_end_is_quiet : (s d : Situation) (harming : MediumFault) → IsQuiet offers s d → IsQuiet offers s (situation_after_harm harming d)
+  action_end_is_quiet s d CutsPower q = quiet_situations_compose q (power_cut_is_quiet _)
+  action_end_is_quiet s d harming q = q
 
-  reached_quiet : (s : Situation) (r : Request) (how : Handled) (l k : Luck) → IsPolite r → IsSound offers s.stage
+  -- A request that brings no block is quiet, however the device handles it.
+  polite_request_reached_quietly : (s : Situation) (r : Request) (how : Handled) (l k : Luck) → IsBlocklessRequest r →
+      ClosedWasOffered offers s.stage
       → IsQuiet offers s (reached c s r (plan c s.image s.stage r) how l k).device
-  reached_quiet s r Unseen l k p h = quiet_none s h
-  reached_quiet s r Once l k p h = quiet_polite c offers s.image r s.stage p h l
-  reached_quiet s r Again l k p h = let q = quiet_polite c offers s.image r s.stage p h l in let o = (handled c s r l).after in
-      quiet_then q (quiet_polite c offers o.image r o.stage p q.sound k)
-  reached_quiet s r (Late ms) l k p h = let q = quiet_polite c offers s.image r s.stage p h l in let o = (handled c s r l).after in
-      quiet_then q (quiet_time c offers o.image ms o.stage q.sound k)
+  polite_request_reached_quietly s r Unseen l k p h = unchanged_situation_is_quiet s h
+  polite_request_reached_quietly s r Once l k p h = blockless_request_is_quiet c offers s.image r s.stage p h l
+  polite_request_reached_quietly s r Again l k p h = let q = blockless_request_is_quiet c offers s.image r s.stage p h l in let o =
+      (handled c s r l).after in
+      quiet_situations_compose q (blockless_request_is_quiet c offers o.image r o.stage p q.sound k)
+  polite_request_reached_quietly s r (Late ms) l k p h = let q = blockless_request_is_quiet c offers s.image r s.stage p h l in let o =
+      (handled c s r l).after in
+      quiet_situations_compose q (passing_time_is_quiet c offers o.image ms o.stage q.sound k)
 
-  slipped_quiet : (s : Situation) (how : Handled) (l : Luck) → IsQuiet offers s (slipped c (was_reset s) how l)
-  slipped_quiet s (Late ms) l = let q = quiet_reset c offers s.image s.stage in let o = was_reset s in
-      quiet_then q (quiet_time c offers o.image ms o.stage q.sound l)
-  slipped_quiet s how l = quiet_reset c offers s.image s.stage
+  -- A time that slips in after a reset is quiet.
+  slipped_time_is_quiet : (s : Situation) (how : Handled) (l : Luck) → IsQuiet offers s (situation_after_slip c (after_reset s) how l)
+  slipped_time_is_quiet s (Late ms) l = let q = bus_reset_is_quiet c offers s.image s.stage in let o = after_reset s in
+      quiet_situations_compose q (passing_time_is_quiet c offers o.image ms o.stage q.sound l)
+  slipped_time_is_quiet s how l = bus_reset_is_quiet c offers s.image s.stage
 
-  -- A request that is polite is quiet by each delivery.
-  pub sent_quiet : (s : Situation) (r : Request) (delivery : Delivery) (l k : Luck) → IsPolite r → IsSound offers s.stage
-      → IsQuiet offers s (sent c s r delivery l k).device
-  sent_quiet s r delivery l k p h =
-      subst (λ (x : Plan). IsQuiet offers s (sent_by c s r x delivery l k).device)
-      (sym (by_table delivery.refusing c s.image s.stage r (polite_closes c.least s.stage r p)))
-      (ended_quiet s _ delivery.harming (reached_quiet s r delivery.handling l k p h))
+  -- A request that brings no block is quiet, whatever its delivery.
+  pub polite_delivery_is_quiet : (s : Situation) (r : Request) (delivery : Delivery) (l k : Luck) → IsBlocklessRequest r →
+      ClosedWasOffered offers s.stage
+      → IsQuiet offers s (send_result c s r delivery l k).device
+  polite_delivery_is_quiet s r delivery l k p h =
+      subst (λ (x : Plan). IsQuiet offers s (send_result_by c s r x delivery l k).device)
+      (sym (request_without_close_by_table delivery.refusing c s.image s.stage r (polite_request_closes_nothing c.least s.stage r p)))
+      (action_end_is_quiet s _ delivery.harming (polite_request_reached_quietly s r delivery.handling l k p h))
 
-  -- A wait is quiet by each delivery.
-  pub waited_quiet : (s : Situation) (ms : ℕ) (delivery : Delivery) (l : Luck) → IsSound offers s.stage
+  -- A wait is quiet, whatever its delivery.
+  pub delivered_wait_is_quiet : (s : Situation) (ms : ℕ) (delivery : Delivery) (l : Luck) → ClosedWasOffered offers s.stage
       → IsQuiet offers s (waited c s ms delivery l).device
-  waited_quiet s ms delivery l h =
-      ended_quiet s _ delivery.harming (quiet_time c offers s.image (waits_for delivery.handling ms) s.stage h l)
+  delivered_wait_is_quiet s ms delivery l h =
+      action_end_is_quiet s _ delivery.harming (passing_time_is_quiet c offers s.image (wait_by_handling delivery.handling ms) s.stage h l)
 
-  -- A reset of the bus is quiet by each delivery.
-  pub bus_reset_quiet : (s : Situation) (delivery : Delivery) (l : Luck) → IsQuiet offers s (bus_reset c s delivery l).device
-  bus_reset_quiet s delivery l = ended_quiet s _ delivery.harming (slipped_quiet s delivery.handling l)
+  -- A reset of the bus is quiet, whatever its delivery.
+  pub delivered_reset_is_quiet : (s : Situation) (delivery : Delivery) (l : Luck) → IsQuiet offers s (bus_reset c s delivery l).device
+  delivered_reset_is_quiet s delivery l = action_end_is_quiet s _ delivery.harming (slipped_time_is_quiet s delivery.handling l)
 
-  -- Facts of the device and of what was seen that an asking phase knows.
+  -- Facts of the device and of the answer that a phase knows once it asked.
   pub record Knows (p : List ℕ) (phase : Phase) (d : Situation) (heard : Heard) : Type 0 where
-    pub fact : Fact c p phase d
-    pub told : ToldBy heard d.stage
+    pub fact : PhaseFact c p phase d
+    pub told : ToldByHeard heard d.stage
 
-  -- So it is of what was heard after an action, but for a restart.
-  abbrev pub KnowsIf : List ℕ → Phase → Passed → Type 0
-  KnowsIf p phase d = IfHeard d.heard (λ heard. Knows p phase d.device heard)
+  -- The phase knows what it must after an action, unless the host hears of a restart.
+  abbrev pub KnowsUnlessRestarted : List ℕ → Phase → ActionResult → Type 0
+  KnowsUnlessRestarted p phase d = UnlessRestarted d.heard (λ heard. Knows p phase d.device heard)
 
-  sent_knows : (p : List ℕ) (phase : Phase) (harming : MediumFault) (back : Bool) (d : Passed) → Knows p phase d.device d.heard
-      → KnowsIf p phase (ends_by harming (record { device = d.device; heard = heard_back back d.heard }))
-  sent_knows p phase harming true d k = if_ended harming d (λ heard x. Knows p phase x heard) k
-  sent_knows p phase harming false d k = if_ended harming (record { device = d.device; heard = Nothing })
+  -- The facts that a phase knows stay at the end of its action.
+  sent_request_keeps_knowledge : (p : List ℕ) (phase : Phase) (harming : MediumFault) (back : Bool) (d : ActionResult) →
+      Knows p phase d.device d.heard
+      → KnowsUnlessRestarted p phase (action_end_by_harm harming (record { device = d.device; heard = heard_back back d.heard }))
+  sent_request_keeps_knowledge p phase harming true d k = fact_after_action_end harming d (λ heard x. Knows p phase x heard) k
+  sent_request_keeps_knowledge p phase harming false d k = fact_after_action_end harming (record { device = d.device; heard = Nothing })
       (λ heard x. Knows p phase x heard) (record { fact = k.fact; told = tt })
 
-  asked_reached : (r : Request) (p : List ℕ) (phase : Phase) (s : Situation) (how : Handled) (l k : Luck) → Asks r phase
-      → Fact c p phase s → let d = reached c s r (plan c s.image s.stage r) how l k in Knows p phase d.device d.heard
-  asked_reached r p phase s Unseen l k a h = record { fact = h; told = tt }
-  asked_reached r p phase s Once l k a h = record {
-    fact = fact_asked c s.image r p phase s.stage a h l;
-    told = told_asked c s.image r phase s.stage a l;
+  -- The answer to a phase's request gives the facts that it must know.
+  asked_request_reaches_knowledge : (r : Request) (p : List ℕ) (phase : Phase) (s : Situation) (how : Handled) (l k : Luck) → Asks r phase
+      → PhaseFact c p phase s → let d = reached c s r (plan c s.image s.stage r) how l k in Knows p phase d.device d.heard
+  asked_request_reaches_knowledge r p phase s Unseen l k a h = record { fact = h; told = tt }
+  asked_request_reaches_knowledge r p phase s Once l k a h = record {
+    fact = phase_fact_through_request c s.image r p phase s.stage a h l;
+    told = asked_answer_tells_state c s.image r phase s.stage a l;
   }
-  asked_reached r p phase s Again l k a h = let o = (handled c s r l).after in
+  asked_request_reaches_knowledge r p phase s Again l k a h = let o = (handled c s r l).after in
       record {
-        fact = fact_asked c o.image r p phase o.stage a (fact_asked c s.image r p phase s.stage a h l) k;
-        told = told_asked c o.image r phase o.stage a k;
+        fact = phase_fact_through_request c o.image r p phase o.stage a (phase_fact_through_request c s.image r p phase s.stage a h l) k;
+        told = asked_answer_tells_state c o.image r phase o.stage a k;
       }
-  asked_reached r p phase s (Late ms) l k a h = let o = handled c s r l in
+  asked_request_reaches_knowledge r p phase s (Late ms) l k a h = let o = handled c s r l in
       record {
-        fact = fact_time c o.after.image p phase ms o.after.stage (fact_asked c s.image r p phase s.stage a h l) k;
-        told = told_time c o.after.image (heard_as o.reply) o.after.stage ms k (told_asked c s.image r phase s.stage a l);
+        fact = phase_fact_through_time c o.after.image p phase ms o.after.stage (phase_fact_through_request c s.image r p phase s.stage a h
+            l) k;
+        told = heard_state_through_time c o.after.image (heard_of_reply o.reply) o.after.stage ms k (asked_answer_tells_state c s.image r
+            phase s.stage a l);
       }
 
-  -- The request that a phase asks for keeps what is known, by each delivery.
-  pub asked_knows : (r : Request) (p : List ℕ) (phase : Phase) (s : Situation) (delivery : Delivery) (l k : Luck) → IsPolite r
-      → Asks r phase → Fact c p phase s → KnowsIf p phase (sent c s r delivery l k)
-  asked_knows r p phase s delivery l k polite a h =
-      subst (λ (x : Plan). KnowsIf p phase (sent_by c s r x delivery l k))
-      (sym (by_table delivery.refusing c s.image s.stage r (polite_closes c.least s.stage r polite)))
-      (sent_knows p phase delivery.harming delivery.back _ (asked_reached r p phase s delivery.handling l k a h))
+  -- The request for which a phase asks leaves the facts that the phase must know, whatever its delivery.
+  pub asked_delivery_keeps_knowledge : (r : Request) (p : List ℕ) (phase : Phase) (s : Situation) (delivery : Delivery) (l k : Luck) →
+      IsBlocklessRequest r
+      → Asks r phase → PhaseFact c p phase s → KnowsUnlessRestarted p phase (send_result c s r delivery l k)
+  asked_delivery_keeps_knowledge r p phase s delivery l k polite a h =
+      subst (λ (x : Plan). KnowsUnlessRestarted p phase (send_result_by c s r x delivery l k))
+      (sym (request_without_close_by_table delivery.refusing c s.image s.stage r (polite_request_closes_nothing c.least s.stage r polite)))
+      (sent_request_keeps_knowledge p phase delivery.harming delivery.back _ (asked_request_reaches_knowledge r p phase s delivery.handling
+      l k a h))
 
-  -- After a reset of the bus.
-  pub slipped_fact : (p : List ℕ) (phase : Phase) (s : Situation) (how : Handled) (l : Luck) → Fact c p phase (was_reset s)
-      → Fact c p phase (slipped c (was_reset s) how l)
-  slipped_fact p phase s (Late ms) l h = fact_time c s.image p phase ms (reset_stage s.stage) h l
-  slipped_fact p phase s how l h = h
+  -- The fact of a phase after a reset of the bus holds after the time that slips in.
+  pub phase_fact_after_slipped_time : (p : List ℕ) (phase : Phase) (s : Situation) (how : Handled) (l : Luck) →
+      PhaseFact c p phase (after_reset s)
+      → PhaseFact c p phase (situation_after_slip c (after_reset s) how l)
+  phase_fact_after_slipped_time p phase s (Late ms) l h = phase_fact_through_time c s.image p phase ms (reset_stage s.stage) h l
+  phase_fact_after_slipped_time p phase s how l h = h

@@ -1,92 +1,110 @@
--- One action of a download's host, in each phase and with each fate.
+-- One action of a download's host, in each phase and with each fate: it goes well.
 use Rattle.std.proofs.Common.{◌≡◌, ℕ, ◌%◌, ◌<◌, List, length}
 use Rattle.dfu_device.specs.Stage.{Request, GetStatus, GetState, Profile, Stage, InDfuIdle}
 use Rattle.dfu_device.specs.Table.{reset_stage}
-use Rattle.dfu_device.specs.Outcome.{Situation, Luck, elapsed, was_reset}
+use Rattle.dfu_device.specs.Outcome.{Situation, Luck, situation_after_ms, after_reset}
 use Rattle.dfu_host.specs.declared.report.Report.{Report}
 use Rattle.dfu_host.specs.declared.report.Report.TheVariants.{Installed, Unconfirmed, Verified}
 use Rattle.dfu_host.specs.Blocks.{blocks}
-use Rattle.dfu_host.specs.Phases.{ToLoad, Phase, Block, Ask, Poll, WaitPoll, Close, AskLast, Manifest, WaitManifest, WaitLast, Trouble, Last, Over, Heard}
-use Rattle.dfu_host.specs.Table.{deed, polled_phase, manifested, asked_phase, asked_last, host_row}
-use Rattle.dfu_host.specs.RowLaws.{after_status, after_state}
-use Rattle.dfu_host.specs.Host.{IsOn}
+use Rattle.dfu_host.specs.Phases.{LoadGoal, Phase, Block, Ask, Poll, WaitPoll, Close, AskLast, Manifest, WaitManifest, WaitLast, Trouble, Last, Over, Heard}
+use Rattle.dfu_host.specs.Table.{deed, polled_phase, manifest_phase, asked_phase, asked_last_phase, host_row}
+use Rattle.dfu_host.specs.RowLaws.{property_after_status, property_after_state}
+use Rattle.dfu_host.specs.Host.{IsOnPhase}
 use Rattle.dfu_sim.specs.Session.{IsOneOf}
 use Rattle.dfu_sim.specs.Delivery.{Delivery}
 use Rattle.dfu_sim.specs.declared.delivery.Handled.{Handled}
 use Rattle.dfu_sim.specs.Opening.{task_for}
-use Rattle.dfu_sim.specs.Play.{Passed, waits_for, slipped, sent, acted}
-use Rattle.dfu_sim.specs.LinkAgreement.{IsSound}
-use Rattle.dfu_sim.specs.Fact.{IsDfuIdle, IsInApp, ReportMeaning, Fact}
-use Rattle.dfu_sim.proofs.Quiet.{IsPolite}
-use Rattle.dfu_sim.proofs.Tells.{ToldBy, Asks}
-use Rattle.dfu_sim.proofs.Kept.{fact_time}
-use Rattle.dfu_sim.proofs.Fates.{Knows, slipped_fact}
-use Rattle.dfu_sim.proofs.Next.{polled_fact, manifested_fact, asked_fact, asked_last_fact}
-use Rattle.dfu_sim.proofs.GoCommon.{GoesQuietly, go_wait, go_asking, go_reset, go_common}
-use Rattle.dfu_sim.proofs.Blocks.{quietly, GoesWell, go_block, go_close}
+use Rattle.dfu_sim.specs.Play.{ActionResult, wait_by_handling, situation_after_slip, send_result, action_result}
+use Rattle.dfu_sim.specs.LinkAgreement.{ClosedWasOffered}
+use Rattle.dfu_sim.specs.Fact.{IsDfuIdle, IsAppIdle, ReportMeaning, PhaseFact}
+use Rattle.dfu_sim.proofs.Quiet.{IsBlocklessRequest}
+use Rattle.dfu_sim.proofs.Tells.{ToldByHeard, Asks}
+use Rattle.dfu_sim.proofs.Kept.{phase_fact_through_time}
+use Rattle.dfu_sim.proofs.Fates.{Knows, phase_fact_after_slipped_time}
+use Rattle.dfu_sim.proofs.Next.{phase_fact_after_poll, phase_fact_after_manifest_poll, phase_fact_after_block_question, phase_fact_after_last_question}
+use Rattle.dfu_sim.proofs.GoCommon.{GoesQuietly, wait_goes_quietly, asking_phase_goes_quietly, reset_goes_quietly, common_phase_goes_quietly}
+use Rattle.dfu_sim.proofs.Blocks.{moves_quietly, GoesWell, block_phase_goes_well, close_phase_goes_well}
 
 module _ (c : Profile) (offers : List (List ℕ)) (p : List ℕ) (some : 0 < length (blocks p c.transfer)) (sized : 0 < c.transfer) where
   abbrev b : ℕ
   b = length (blocks p c.transfer)
 
   -- An action of a download that goes quietly goes well.
-  well : (phase : Phase) {s : Situation} {d : Passed} → GoesQuietly c offers (ToLoad p) (host_row (task_for c (ToLoad p)) phase) s d
+  quiet_download_goes_well : (phase : Phase) {s : Situation} {d : ActionResult} →
+      GoesQuietly c offers (LoadGoal p) (host_row (task_for c (LoadGoal p)) phase) s d
       → GoesWell c offers p phase s d
-  well phase g = record { moves = quietly g.quiet.moves; sound = g.quiet.sound; next = g.next }
+  quiet_download_goes_well phase g = record { moves = moves_quietly g.quiet.moves; sound = g.quiet.sound; next = g.next }
 
-  -- A phase that asks goes well, if the fact of the phase after it comes of what is known then.
-  asks : (r : Request) (phase : Phase) (s : Situation) → IsPolite r → Asks r phase → Fact c p phase s → IsSound offers s.stage
+  -- A phase that asks goes well, if what it knows after the answer gives the fact of the next phase.
+  asking_download_goes_well : (r : Request) (phase : Phase) (s : Situation) → IsBlocklessRequest r → Asks r phase →
+      PhaseFact c p phase s → ClosedWasOffered offers s.stage
       → (delivery : Delivery) (l k : Luck) → ((d : Situation) (heard : Heard) → Knows c offers p phase d heard
-      → Fact c p (host_row (task_for c (ToLoad p)) phase heard) d) → GoesWell c offers p phase s (sent c s r delivery l k)
-  asks r phase s polite a h q delivery l k f =
-      well phase (go_asking c offers (ToLoad p) r p phase (host_row (task_for c (ToLoad p)) phase) s polite a h q delivery l k f)
+      → PhaseFact c p (host_row (task_for c (LoadGoal p)) phase heard) d) → GoesWell c offers p phase s (send_result c s r delivery l k)
+  asking_download_goes_well r phase s polite a h q delivery l k f =
+      quiet_download_goes_well phase (asking_phase_goes_quietly c offers (LoadGoal p) r p phase (host_row (task_for c (LoadGoal p)) phase)
+      s polite a h q delivery l k f)
 
-  reset_in_place : (s : Situation) (stage : Stage) → (s.image ≡ p) × IsDfuIdle stage → (s.image ≡ p) × IsInApp (reset_stage stage)
-  reset_in_place s InDfuIdle h = h
-  reset_in_place s stage h = elim h.1 [ ]
+  -- An image that is in place stays there in appIDLE.
+  reset_keeps_image_in_place : (s : Situation) (stage : Stage) → (s.image ≡ p) × IsDfuIdle stage → (s.image ≡ p)
+      × IsAppIdle (reset_stage stage)
+  reset_keeps_image_in_place s InDfuIdle h = h
+  reset_keeps_image_in_place s stage h = elim h.1 [ ]
 
-  reset_ends : (s : Situation) (stage : Stage) (report : Report)
+  -- The meaning of a report stays after the last reset.
+  reset_keeps_report_meaning : (s : Situation) (stage : Stage) (report : Report)
       → ReportMeaning c p (record { image = s.image; stage = stage }) IsDfuIdle report
-      → ReportMeaning c p (record { image = s.image; stage = reset_stage stage }) IsInApp report
-  reset_ends s stage Installed h = let x = reset_in_place s stage (h.1, h.2) in (h.0, x.0, x.1)
-  reset_ends s stage Verified h = reset_in_place s stage h
-  reset_ends s stage report h = h
+      → ReportMeaning c p (record { image = s.image; stage = reset_stage stage }) IsAppIdle report
+  reset_keeps_report_meaning s stage Installed h = let x = reset_keeps_image_in_place s stage (h.1, h.2) in (h.0, x.0, x.1)
+  reset_keeps_report_meaning s stage Verified h = reset_keeps_image_in_place s stage h
+  reset_keeps_report_meaning s stage report h = h
 
   -- A session that ends in dfuIDLE ends in appIDLE after the last reset, whatever time slips in.
-  pub last_ends : (s : Situation) (report : Report) (how : Handled) (l : Luck) → ReportMeaning c p s IsDfuIdle report
-      → ReportMeaning c p (slipped c (was_reset s) how l) IsInApp report
-  last_ends s report how l h = slipped_fact c offers p (Over report) s how l (reset_ends s s.stage report h)
+  pub last_reset_keeps_report_meaning : (s : Situation) (report : Report) (how : Handled) (l : Luck) → ReportMeaning c p s IsDfuIdle report
+      → ReportMeaning c p (situation_after_slip c (after_reset s) how l) IsAppIdle report
+  last_reset_keeps_report_meaning s report how l h = phase_fact_after_slipped_time c offers p (Over report) s how l
+      (reset_keeps_report_meaning s s.stage report h)
 
-  passes : (phase : Phase) (s : Situation) (ms : ℕ) (delivery : Delivery) (l : Luck) → Fact c p phase s
-      → Fact c p phase (elapsed c s (waits_for delivery.handling ms) l)
-  passes phase s ms delivery l h = fact_time c s.image p phase (waits_for delivery.handling ms) s.stage h l
+  -- The fact of a phase stays while the time of a wait passes.
+  download_fact_through_wait : (phase : Phase) (s : Situation) (ms : ℕ) (delivery : Delivery) (l : Luck) → PhaseFact c p phase s
+      → PhaseFact c p phase (situation_after_ms c s (wait_by_handling delivery.handling ms) l)
+  download_fact_through_wait phase s ms delivery l h = phase_fact_through_time c s.image p phase (wait_by_handling delivery.handling ms)
+      s.stage h l
 
-  -- Each phase of a download's host that is not done goes well by each delivery.
-  pub go_download : (phase : Phase) (s : Situation) → IsOn phase → Fact c p phase s → IsSound offers s.stage → IsOneOf p offers
-      → (delivery : Delivery) (l k : Luck) → GoesWell c offers p phase s (acted c s (deed (task_for c (ToLoad p)) phase) delivery l k)
-  go_download (Block n) s on h q o delivery l k = go_block c sized offers p n s.image s.stage h.0 h.1 q delivery l k
-  go_download (Ask n) s on h q o delivery l k = asks GetState (Ask n) s tt tt h q delivery l k
-      (λ d heard w. after_state (λ x. Fact c p x d) (λ x. ToldBy x d.stage) heard (asked_phase n) Trouble (Ask n)
-      (λ state. asked_fact c p some sized n state d.image d.stage w.fact.0 w.fact.1) tt w.fact w.told)
-  go_download (Poll n) s on h q o delivery l k = asks GetStatus (Poll n) s tt tt h q delivery l k
-      (λ d heard w. after_status (λ x. Fact c p x d) (λ x. ToldBy x d.stage) heard (polled_phase (Block 0) b n) Trouble (Poll n)
-      (λ code poll state. polled_fact c p some sized n code poll state d.image d.stage w.fact.0 w.fact.1) tt w.fact w.told)
-  go_download (WaitPoll n poll) s on h q o delivery l k = well (WaitPoll n poll)
-      (go_wait c offers (ToLoad p) (Poll n) (WaitPoll n poll) s poll delivery l (passes (Poll n) s poll delivery l h) q)
-  go_download Close s on h q o delivery l k =
-      go_close c sized offers p (length (blocks p c.transfer) % 65536) s.image s.stage h q o delivery l k
-  go_download AskLast s on h q o delivery l k = asks GetState AskLast s tt tt h q delivery l k
-      (λ d heard w. after_state (λ x. Fact c p x d) (λ x. ToldBy x d.stage) heard asked_last Trouble AskLast
-      (λ state. asked_last_fact c p some sized state d.image d.stage w.fact) tt w.fact w.told)
-  go_download Manifest s on h q o delivery l k = asks GetStatus Manifest s tt tt h q delivery l k
-      (λ d heard w. after_status (λ x. Fact c p x d) (λ x. ToldBy x d.stage) heard (manifested (Block 0) c.tolerant) Trouble Manifest
-      (λ code poll state. manifested_fact c p some sized c.tolerant code poll state d.image d.stage (λ x. x) w.fact) tt w.fact w.told)
-  go_download (WaitManifest poll) s on h q o delivery l k = well (WaitManifest poll)
-      (go_wait c offers (ToLoad p) Manifest (WaitManifest poll) s poll delivery l (passes Manifest s poll delivery l h) q)
-  go_download (WaitLast poll) s on h q o delivery l k = well (WaitLast poll)
-      (go_wait c offers (ToLoad p) (Last Unconfirmed) (WaitLast poll) s poll delivery l tt q)
-  go_download (Last report) s on h q o delivery l k = well (Last report)
-      (go_reset c offers (ToLoad p) (Over report) (Last report) s delivery l
-      (last_ends s report delivery.handling l h))
-  go_download (Over report) s on h q o delivery l k = elim on [ ]
-  go_download phase s on h q o delivery l k = well phase (go_common c offers (ToLoad p) some phase s h q delivery l k)
+  -- Each phase of a download goes well until its host is done, whatever the delivery.
+  pub download_phase_goes_well : (phase : Phase) (s : Situation) → IsOnPhase phase → PhaseFact c p phase s → ClosedWasOffered offers s.stage
+      → IsOneOf p offers
+      → (delivery : Delivery) (l k : Luck) → GoesWell c offers p phase s
+      (action_result c s (deed (task_for c (LoadGoal p)) phase) delivery l k)
+  download_phase_goes_well (Block n) s on h q o delivery l k = block_phase_goes_well c sized offers p n s.image s.stage h.0 h.1 q delivery
+      l k
+  download_phase_goes_well (Ask n) s on h q o delivery l k = asking_download_goes_well GetState (Ask n) s tt tt h q delivery l k
+      (λ d heard w. property_after_state (λ x. PhaseFact c p x d) (λ x. ToldByHeard x d.stage) heard (asked_phase n) Trouble (Ask n)
+      (λ state. phase_fact_after_block_question c p some sized n state d.image d.stage w.fact.0 w.fact.1) tt w.fact w.told)
+  download_phase_goes_well (Poll n) s on h q o delivery l k = asking_download_goes_well GetStatus (Poll n) s tt tt h q delivery l k
+      (λ d heard w. property_after_status (λ x. PhaseFact c p x d) (λ x. ToldByHeard x d.stage) heard (polled_phase (Block 0) b n) Trouble
+      (Poll n)
+      (λ code poll state. phase_fact_after_poll c p some sized n code poll state d.image d.stage w.fact.0 w.fact.1) tt w.fact w.told)
+  download_phase_goes_well (WaitPoll n poll) s on h q o delivery l k = quiet_download_goes_well (WaitPoll n poll)
+      (wait_goes_quietly c offers (LoadGoal p) (Poll n) (WaitPoll n poll) s poll delivery l (download_fact_through_wait (Poll n) s poll
+      delivery l h) q)
+  download_phase_goes_well Close s on h q o delivery l k =
+      close_phase_goes_well c sized offers p (length (blocks p c.transfer) % 65536) s.image s.stage h q o delivery l k
+  download_phase_goes_well AskLast s on h q o delivery l k = asking_download_goes_well GetState AskLast s tt tt h q delivery l k
+      (λ d heard w. property_after_state (λ x. PhaseFact c p x d) (λ x. ToldByHeard x d.stage) heard asked_last_phase Trouble AskLast
+      (λ state. phase_fact_after_last_question c p some sized state d.image d.stage w.fact) tt w.fact w.told)
+  download_phase_goes_well Manifest s on h q o delivery l k = asking_download_goes_well GetStatus Manifest s tt tt h q delivery l k
+      (λ d heard w. property_after_status (λ x. PhaseFact c p x d) (λ x. ToldByHeard x d.stage) heard
+      (manifest_phase (Block 0) c.tolerant) Trouble Manifest
+      (λ code poll state. phase_fact_after_manifest_poll c p some sized c.tolerant code poll state d.image d.stage (λ x. x) w.fact) tt
+      w.fact w.told)
+  download_phase_goes_well (WaitManifest poll) s on h q o delivery l k = quiet_download_goes_well (WaitManifest poll)
+      (wait_goes_quietly c offers (LoadGoal p) Manifest (WaitManifest poll) s poll delivery l (download_fact_through_wait Manifest s poll
+      delivery l h) q)
+  download_phase_goes_well (WaitLast poll) s on h q o delivery l k = quiet_download_goes_well (WaitLast poll)
+      (wait_goes_quietly c offers (LoadGoal p) (Last Unconfirmed) (WaitLast poll) s poll delivery l tt q)
+  download_phase_goes_well (Last report) s on h q o delivery l k = quiet_download_goes_well (Last report)
+      (reset_goes_quietly c offers (LoadGoal p) (Over report) (Last report) s delivery l
+      (last_reset_keeps_report_meaning s report delivery.handling l h))
+  download_phase_goes_well (Over report) s on h q o delivery l k = elim on [ ]
+  download_phase_goes_well phase s on h q o delivery l k = quiet_download_goes_well phase (common_phase_goes_quietly c offers (LoadGoal p)
+      some phase s h q delivery l k)

@@ -1,38 +1,43 @@
--- One action of an upload's host, in each phase and with each fate.
+-- One action of an upload's host, in each phase and with each fate: it goes quietly.
 use Rattle.std.proofs.Common.{◌≡◌, ℕ, List, refl, sym, ◌∙◌}
 use Rattle.dfu_device.specs.Stage.{Profile, Stage, InAppDetach}
 use Rattle.dfu_device.specs.Table.{reset_stage}
-use Rattle.dfu_device.specs.Outcome.{Situation, Luck, elapsed, was_reset}
-use Rattle.dfu_host.specs.Phases.{ToFetch, Phase, Fetch, LastUploaded, Over, OverUploaded}
+use Rattle.dfu_device.specs.Outcome.{Situation, Luck, situation_after_ms, after_reset}
+use Rattle.dfu_host.specs.Phases.{FetchGoal, Phase, Fetch, LastUploaded, Over, OverUploaded}
 use Rattle.dfu_host.specs.Table.{deed, host_row}
-use Rattle.dfu_host.specs.Host.{IsOn}
+use Rattle.dfu_host.specs.Host.{IsOnPhase}
 use Rattle.dfu_sim.specs.declared.delivery.Handled.{Handled}
 use Rattle.dfu_sim.specs.declared.delivery.Handled.TheVariants.{Late}
 use Rattle.dfu_sim.specs.Delivery.{Delivery}
 use Rattle.dfu_sim.specs.Opening.{task_for}
-use Rattle.dfu_sim.specs.Play.{slipped, acted}
-use Rattle.dfu_sim.specs.LinkAgreement.{IsSound}
+use Rattle.dfu_sim.specs.Play.{situation_after_slip, action_result}
+use Rattle.dfu_sim.specs.LinkAgreement.{ClosedWasOffered}
 use Rattle.dfu_sim.specs.Fact.{FetchFact}
-use Rattle.dfu_sim.proofs.Fetch.{go_fetch}
-use Rattle.dfu_sim.proofs.GoCommon.{GoesQuietly, go_reset, go_common}
+use Rattle.dfu_sim.proofs.Fetch.{fetch_phase_goes_quietly}
+use Rattle.dfu_sim.proofs.GoCommon.{GoesQuietly, reset_goes_quietly, common_phase_goes_quietly}
 
 module _ (c : Profile) (offers : List (List ℕ)) where
-  time_image : (image : List ℕ) (stage : Stage) (ms : ℕ) (l : Luck)
-      → (elapsed c (record { image = image; stage = reset_stage stage }) ms l).image ≡ image
-  time_image image (InAppDetach timer passed) ms l = refl
-  time_image image stage ms l = refl
+  -- A time after a reset leaves the image.
+  time_after_reset_keeps_image : (image : List ℕ) (stage : Stage) (ms : ℕ) (l : Luck)
+      → (situation_after_ms c (record { image = image; stage = reset_stage stage }) ms l).image ≡ image
+  time_after_reset_keeps_image image (InAppDetach timer passed) ms l = refl
+  time_after_reset_keeps_image image stage ms l = refl
 
-  slipped_image : (s : Situation) (how : Handled) (l : Luck) → (slipped c (was_reset s) how l).image ≡ s.image
-  slipped_image s (Late ms) l = time_image s.image s.stage ms l
-  slipped_image s how l = refl
+  -- A time that slips in after a reset leaves the image.
+  slipped_time_keeps_image : (s : Situation) (how : Handled) (l : Luck) → (situation_after_slip c (after_reset s) how l).image ≡ s.image
+  slipped_time_keeps_image s (Late ms) l = time_after_reset_keeps_image s.image s.stage ms l
+  slipped_time_keeps_image s how l = refl
 
-  -- Each phase of an upload's host that is not done goes quietly by each delivery.
-  pub go_upload : (phase : Phase) (s : Situation) → IsOn phase → FetchFact phase s → IsSound offers s.stage
+  -- Each phase of an upload goes quietly until its host is done, whatever the delivery.
+  pub upload_phase_goes_quietly : (phase : Phase) (s : Situation) → IsOnPhase phase → FetchFact phase s → ClosedWasOffered offers s.stage
       → (delivery : Delivery) (l k : Luck)
-      → GoesQuietly c offers ToFetch (host_row (task_for c ToFetch) phase) s (acted c s (deed (task_for c ToFetch) phase) delivery l k)
-  go_upload (Fetch n kept) s on h q delivery l k = go_fetch c offers n kept s.image s.stage h.0 h.1 q delivery l k
-  go_upload (LastUploaded kept) s on h q delivery l k = go_reset c offers ToFetch (OverUploaded kept) (LastUploaded kept) s delivery l
-      (h.0 ∙ sym (slipped_image s delivery.handling l))
-  go_upload (Over report) s on h q delivery l k = elim on [ ]
-  go_upload (OverUploaded kept) s on h q delivery l k = elim on [ ]
-  go_upload phase s on h q delivery l k = go_common c offers ToFetch tt phase s h q delivery l k
+      → GoesQuietly c offers FetchGoal (host_row (task_for c FetchGoal) phase) s
+      (action_result c s (deed (task_for c FetchGoal) phase) delivery l k)
+  upload_phase_goes_quietly (Fetch n kept) s on h q delivery l k = fetch_phase_goes_quietly c offers n kept s.image s.stage h.0 h.1 q
+      delivery l k
+  upload_phase_goes_quietly (LastUploaded kept) s on h q delivery l k = reset_goes_quietly c offers FetchGoal (OverUploaded kept)
+      (LastUploaded kept) s delivery l
+      (h.0 ∙ sym (slipped_time_keeps_image s delivery.handling l))
+  upload_phase_goes_quietly (Over report) s on h q delivery l k = elim on [ ]
+  upload_phase_goes_quietly (OverUploaded kept) s on h q delivery l k = elim on [ ]
+  upload_phase_goes_quietly phase s on h q delivery l k = common_phase_goes_quietly c offers FetchGoal tt phase s h q delivery l k

@@ -1,168 +1,192 @@
--- The headline holds after each event, by the session machines that follow it.
+-- The headline holds after each event, because session machines follow each event.
 use Rattle.std.proofs.Common.{◌≡◌, ◌⊎◌, inl, inr, ℕ, List, [], ◌∷◌, ◌++◌, map, take, Option, Result, Ok, Err, refl, sym, ◌∙◌, subst}
 use Rattle.std.proofs.lemmas.List.{take-map}
 use Rattle.dfu_device.specs.Stage.{Stage, InAppIdle, InManifestSync, InManifest}
-use Rattle.dfu_host.specs.Phases.{Goal, ToFetch}
+use Rattle.dfu_host.specs.Phases.{Goal, FetchGoal}
 use Rattle.dfu_host.specs.declared.report.Report.{Report}
 use Rattle.dfu_sim.specs.declared.event.Event.{Event}
 use Rattle.dfu_sim.specs.declared.event.Event.TheVariants.{Abort}
 use Rattle.dfu_sim.specs.declared.fault.LinkFault.{LinkFault}
-use Rattle.dfu_sim.specs.Session.{Machine, Loading, IsOneOf, IsInPlaceReport}
-use Rattle.dfu_sim.specs.Agreement.{AgreesOn, intake_of, live_of, live_goal, IsShutOffer}
-use Rattle.dfu_sim.specs.LinkView.{Session, Nobody, Hosted, LinkView, WorldView}
+use Rattle.dfu_sim.specs.Session.{Machine, LoadingPayload, IsOneOf, IsInPlaceReport}
+use Rattle.dfu_sim.specs.Agreement.{AgreesOn, intake_of_stage, live_session_of, live_session_of_goal, IsClosedOffer}
+use Rattle.dfu_sim.specs.LinkView.{Session, NoLiveSession, HostSession, LinkView, WorldView}
 use Rattle.dfu_sim.specs.Happening.{Happening, happening}
-use Rattle.dfu_sim.specs.Following.{IsFollowed, AllFollow}
-use Rattle.dfu_sim.specs.Headline.{Begun, WithOffer, AsUpload, sessions_now, WasOffered, IsLastPayload, IsWaiting, IsGoalPayload, IsLivePayload, HeadlineInvariant, StepPreservesHeadline, no_event, one_event, EventsPreserveHeadline, HeadlineAtStart}
-use Rattle.dfu_sim.specs.SessionStarts.{sessions_by}
-use Rattle.dfu_sim.proofs.Offered.{IsOfPast, past_on, in_place_on}
-use Rattle.dfu_sim.proofs.Agreeing.{closed_in, goal_in, session_in, closed_sound, live_offered, machine_with}
-use Rattle.dfu_sim.proofs.Chains.{Chain, no_more, one_more}
+use Rattle.dfu_sim.specs.Following.{MachineFollows, AllMachinesFollow}
+use Rattle.dfu_sim.specs.Headline.{SessionBeginning, BeginningWithOffer, BeginningAsUpload, sessions_now, WasOffered, IsLastPayload, IsWaiting, IsGoalPayload, IsLivePayload, HeadlineInvariant, StepPreservesHeadline, no_event, one_event, EventsPreserveHeadline, HeadlineAtStart}
+use Rattle.dfu_sim.specs.SessionStarts.{sessions_after_event}
+use Rattle.dfu_sim.proofs.Offered.{MachineHasPastOffers, past_after_event, reported_image_is_last_payload}
+use Rattle.dfu_sim.proofs.Agreeing.{closed_bytes_in, goal_payload_in, session_in, closed_bytes_are_offer, live_payload_is_offer, machine_from_parts}
+use Rattle.dfu_sim.proofs.Chains.{EventChain, empty_chain, one_more}
 
 -- Lists of offers.
 
-one_apart : (a b : List (List ℕ)) (x : List ℕ) → IsOneOf x (a ++ b) → IsOneOf x a ⊎ IsOneOf x b
-one_apart [] b x one = inr one
-one_apart (y ∷ a) b x one = elim one [
+offer_in_either_list : (a b : List (List ℕ)) (x : List ℕ) → IsOneOf x (a ++ b) → IsOneOf x a ⊎ IsOneOf x b
+offer_in_either_list [] b x one = inr one
+offer_in_either_list (y ∷ a) b x one = elim one [
   | inl e ↦ inl (inl e)
-  | inr more ↦ elim (one_apart a b x more) [
+  | inr more ↦ elim (offer_in_either_list a b x more) [
     | inl left ↦ inl (inr left)
     | inr right ↦ inr right
   ]
 ]
 
-the_one : (x y : List ℕ) → IsOneOf x (y ∷ []) → x ≡ y
-the_one x y (inl e) = e
-the_one x y (inr none) = absurd none
+-- An element of a list of one is that one.
+offer_in_single_list : (x y : List ℕ) → IsOneOf x (y ∷ []) → x ≡ y
+offer_in_single_list x y (inl e) = e
+offer_in_single_list x y (inr none) = absurd none
 
-last_was : (past : List Begun) (x : List ℕ) → IsLastPayload past x → WasOffered past x
-last_was [] x last = last
-last_was (WithOffer file ∷ past) x last = inl last
-last_was (AsUpload ∷ past) x last = absurd last
+-- The last session's payload was offered.
+last_payload_was_offered : (past : List SessionBeginning) (x : List ℕ) → IsLastPayload past x → WasOffered past x
+last_payload_was_offered [] x last = last
+last_payload_was_offered (BeginningWithOffer file ∷ past) x last = inl last
+last_payload_was_offered (BeginningAsUpload ∷ past) x last = absurd last
 
 -- Payloads that a device and a session hold, as offers.
 
-waits_in : (stage : Stage) (x : List ℕ) → IsOneOf x (closed_in stage) → IsWaiting stage x
-waits_in (InManifestSync taken) x one = the_one x taken one
-waits_in (InManifest taken passed) x one = the_one x taken one
-waits_in stage x one = absurd one
+closed_bytes_are_waiting : (stage : Stage) (x : List ℕ) → IsOneOf x (closed_bytes_in stage) → IsWaiting stage x
+closed_bytes_are_waiting (InManifestSync taken) x one = offer_in_single_list x taken one
+closed_bytes_are_waiting (InManifest taken passed) x one = offer_in_single_list x taken one
+closed_bytes_are_waiting stage x one = absurd one
 
 -- An image that waits to be put in place is one of the machine's offers.
-pub waits_offered : (stage : Stage) (offers : List (List ℕ)) (x : List ℕ) → IsShutOffer offers (intake_of stage) → IsWaiting stage x
+pub waiting_image_is_offer : (stage : Stage) (offers : List (List ℕ)) (x : List ℕ) → IsClosedOffer offers (intake_of_stage stage) →
+    IsWaiting stage x
     → IsOneOf x offers
-waits_offered (InManifestSync taken) offers x one is = subst (λ (y : List ℕ). IsOneOf y offers) (sym is) one
-waits_offered (InManifest taken passed) offers x one is = subst (λ (y : List ℕ). IsOneOf y offers) (sym is) one
-waits_offered stage offers x one is = absurd is
+waiting_image_is_offer (InManifestSync taken) offers x one is = subst (λ (y : List ℕ). IsOneOf y offers) (sym is) one
+waiting_image_is_offer (InManifest taken passed) offers x one is = subst (λ (y : List ℕ). IsOneOf y offers) (sym is) one
+waiting_image_is_offer stage offers x one is = absurd is
 
-lives_in_goal : (goal : Goal) (x : List ℕ) → IsOneOf x (goal_in goal) → IsGoalPayload goal x
-lives_in_goal ToFetch x one = one
-lives_in_goal goal x one = the_one x _ one
+-- The payload that a goal holds as an offer is its payload.
+goal_offer_is_payload : (goal : Goal) (x : List ℕ) → IsOneOf x (goal_payload_in goal) → IsGoalPayload goal x
+goal_offer_is_payload FetchGoal x one = one
+goal_offer_is_payload goal x one = offer_in_single_list x _ one
 
-lives_in : (session : Session) (x : List ℕ) → IsOneOf x (session_in session) → IsLivePayload session x
-lives_in Nobody x one = one
-lives_in (Hosted h) x one = lives_in_goal h.task.goal x one
+-- The payload that a session holds as an offer is its live payload.
+session_offer_is_live_payload : (session : Session) (x : List ℕ) → IsOneOf x (session_in session) → IsLivePayload session x
+session_offer_is_live_payload NoLiveSession x one = one
+session_offer_is_live_payload (HostSession h) x one = goal_offer_is_payload h.task.goal x one
 
-goal_loads : (goal : Goal) (x : List ℕ) → live_goal goal ≡ Loading x → IsGoalPayload goal x
-goal_loads ToFetch x e = absurd cc
-goal_loads goal x e = cc
+-- The payload that a goal loads is its payload.
+loaded_goal_is_payload : (goal : Goal) (x : List ℕ) → live_session_of_goal goal ≡ LoadingPayload x → IsGoalPayload goal x
+loaded_goal_is_payload FetchGoal x e = absurd cc
+loaded_goal_is_payload goal x e = cc
 
-session_loads : (session : Session) (x : List ℕ) → live_of session ≡ Loading x → IsLivePayload session x
-session_loads Nobody x e = absurd cc
-session_loads (Hosted h) x e = goal_loads h.task.goal x e
+-- The payload that a session loads is its live payload.
+loaded_session_is_live_payload : (session : Session) (x : List ℕ) → live_session_of session ≡ LoadingPayload x → IsLivePayload session x
+loaded_session_is_live_payload NoLiveSession x e = absurd cc
+loaded_session_is_live_payload (HostSession h) x e = loaded_goal_is_payload h.task.goal x e
 
-loads_goal : (goal : Goal) (x : List ℕ) → IsGoalPayload goal x → live_goal goal ≡ Loading x
-loads_goal ToFetch x is = absurd is
-loads_goal goal x is = cc
+-- The payload of a goal is the one that it loads.
+goal_payload_is_loaded : (goal : Goal) (x : List ℕ) → IsGoalPayload goal x → live_session_of_goal goal ≡ LoadingPayload x
+goal_payload_is_loaded FetchGoal x is = absurd is
+goal_payload_is_loaded goal x is = cc
 
--- The payload of a live session is the one that the machine loads.
-pub loads_session : (session : Session) (x : List ℕ) → IsLivePayload session x → live_of session ≡ Loading x
-loads_session Nobody x is = absurd is
-loads_session (Hosted h) x is = loads_goal h.task.goal x is
+-- If a payload belongs to a live session, the session machine loads that payload.
+pub live_payload_is_loaded : (session : Session) (x : List ℕ) → IsLivePayload session x → live_session_of session ≡ LoadingPayload x
+live_payload_is_loaded NoLiveSession x is = absurd is
+live_payload_is_loaded (HostSession h) x is = goal_payload_is_loaded h.task.goal x is
 
 -- The session machine of a link for which the headline holds.
-abbrev machine_at : WorldView → List ℕ → Machine
-machine_at w image = machine_with image w.bench.device.stage w.bench.session w.up
+abbrev machine_of_headline : WorldView → List ℕ → Machine
+machine_of_headline w image = machine_from_parts image w.bench.device.stage w.bench.session w.up
 
-agrees_then : {factory : List ℕ} {past : List Begun} {before : Option Report} {w : WorldView}
-    (k : HeadlineInvariant factory past before w.bench) → AgreesOn w.bench w.up (machine_at w k.says.image)
-agrees_then {w = w} k = record {
+-- While the headline holds, its session machine agrees with the world.
+headline_machine_agrees : {factory : List ℕ} {past : List SessionBeginning} {before : Option Report} {w : WorldView}
+    (k : HeadlineInvariant factory past before w.bench) → AgreesOn w.bench w.up (machine_of_headline w k.says.image)
+headline_machine_agrees {w = w} k = record {
   active = k.says.active;
   pending = refl;
   live = refl;
   up_is = refl;
-  sound = closed_sound w.bench.device.stage (session_in w.bench.session);
-  offered = live_offered w.bench.session (closed_in w.bench.device.stage);
+  sound = closed_bytes_are_offer w.bench.device.stage (session_in w.bench.session);
+  offered = live_payload_is_offer w.bench.session (closed_bytes_in w.bench.device.stage);
 }
 
-past_then : {factory : List ℕ} {past : List Begun} {before : Option Report} {w : WorldView}
-    (k : HeadlineInvariant factory past before w.bench) → IsOfPast factory past (machine_at w k.says.image)
-past_then {past = past} {w = w} k = record {
+-- While the headline holds, the offers of its session machine were offered.
+headline_machine_is_of_past : {factory : List ℕ} {past : List SessionBeginning} {before : Option Report} {w : WorldView}
+    (k : HeadlineInvariant factory past before w.bench) → MachineHasPastOffers factory past (machine_of_headline w k.says.image)
+headline_machine_is_of_past {past = past} {w = w} k = record {
   known = k.says.known;
-  offers = λ x one. elim (one_apart (closed_in w.bench.device.stage) (session_in w.bench.session) x one) [
-    | inl left ↦ k.kept.waiting x (waits_in w.bench.device.stage x left)
-    | inr right ↦ last_was past x (k.kept.live x (lives_in w.bench.session x right))
+  offers = λ x one. elim (offer_in_either_list (closed_bytes_in w.bench.device.stage) (session_in w.bench.session) x one) [
+    | inl left ↦ k.kept.waiting x (closed_bytes_are_waiting w.bench.device.stage x left)
+    | inr right ↦ last_payload_was_offered past x (k.kept.live x (session_offer_is_live_payload w.bench.session x right))
   ];
-  live = λ x e. k.kept.live x (session_loads w.bench.session x e);
+  live = λ x e. k.kept.live x (loaded_session_is_live_payload w.bench.session x e);
 }
 
--- The headline holds if a session machine that has what was offered agrees, and if what is reported is so.
-abbrev pub holds_by : {factory : List ℕ} {past : List Begun} {report : Option Report} {b : LinkView} {up : List ℕ} {m : Machine}
-    → AgreesOn b up m → IsOfPast factory past m → (IsInPlaceReport report → (b.device.stage ≡ InAppIdle) × IsLastPayload past m.cur)
+-- The headline holds, if a machine agrees whose offers were offered, and if Installed and Verified say the truth.
+abbrev pub headline_by_machine : {factory : List ℕ} {past : List SessionBeginning} {report : Option Report} {b : LinkView} {up : List ℕ} {m
+    : Machine}
+    → AgreesOn b up m → MachineHasPastOffers factory past m → (IsInPlaceReport report → (b.device.stage ≡ InAppIdle)
+    × IsLastPayload past m.cur)
     → HeadlineInvariant factory past report b
-holds_by {b = b} {m = m} agrees of_past in_place = record {
+headline_by_machine {b = b} {m = m} agrees of_past in_place = record {
   says = record { image = m.cur; active = agrees.active; known = of_past.known; in_place = in_place };
   kept = record {
-    waiting = λ x is. of_past.offers x (waits_offered b.device.stage m.offers x agrees.sound is);
-    live = λ x is. of_past.live x (agrees.live ∙ loads_session b.session x is);
+    waiting = λ x is. of_past.offers x (waiting_image_is_offer b.device.stage m.offers x agrees.sound is);
+    live = λ x is. of_past.live x (agrees.live ∙ live_payload_is_loaded b.session x is);
   };
 }
 
--- The headline holds after an event that such a session machine follows.
-abbrev pub holds_after : {factory : List ℕ} {past : List Begun} {m : Machine} {w w' : WorldView} (h : Happening) {report : Option Report}
-    → IsOfPast factory past m → IsFollowed w h w' report m → HeadlineInvariant factory (sessions_by h past) report w'.bench
-holds_after h of_past f = holds_by f.agrees (past_on h of_past f) (λ e. ((f.in_place e).0, in_place_on h of_past f e))
+-- The headline holds after an event, if a session machine whose offers were offered follows that event.
+abbrev pub headline_after_followed_event : {factory : List ℕ} {past : List SessionBeginning} {m : Machine} {w w' : WorldView}
+    (h : Happening) {report : Option Report}
+    → MachineHasPastOffers factory past m → MachineFollows w h w' report m →
+    HeadlineInvariant factory (sessions_after_event h past) report w'.bench
+headline_after_followed_event h of_past f = headline_by_machine f.agrees (past_after_event h of_past f) (λ e. (
+  (f.in_place e).0,
+  reported_image_is_last_payload h of_past f e,
+))
 
 -- Each event that a session machine follows keeps the headline.
-pub keeps_on : {factory : List ℕ} {past : List Begun} {before : Option Report} {w w' : WorldView} (h : Happening) {report : Option Report}
-    → ((m : Machine) → AgreesOn w.bench w.up m → IsFollowed w h w' report m) → HeadlineInvariant factory past before w.bench
-    → HeadlineInvariant factory (sessions_by h past) report w'.bench
-keeps_on {w = w} h follow k = holds_after h (past_then k) (follow (machine_at w k.says.image) (agrees_then k))
+pub event_keeps_headline : {factory : List ℕ} {past : List SessionBeginning} {before : Option Report} {w w' : WorldView}
+    (h : Happening) {report : Option Report}
+    → ((m : Machine) → AgreesOn w.bench w.up m → MachineFollows w h w' report m) → HeadlineInvariant factory past before w.bench
+    → HeadlineInvariant factory (sessions_after_event h past) report w'.bench
+event_keeps_headline {w = w} h follow k = headline_after_followed_event h (headline_machine_is_of_past k) (follow (machine_of_headline w
+    k.says.image) (headline_machine_agrees k))
 
 -- The events of callers.
 
-begun_same : (event : Event) (past : List Begun) → sessions_by (happening event) past ≡ sessions_now event past
-begun_same Abort past = refl
-begun_same event past = refl
+sessions_begun_by_event : (event : Event) (past : List SessionBeginning) → sessions_after_event (happening event) past
+    ≡ sessions_now event past
+sessions_begun_by_event Abort past = refl
+sessions_begun_by_event event past = refl
 
-keeps : {factory : List ℕ} {past : List Begun} {before : Option Report} {w w' : WorldView} (event : Event) {report : Option Report}
-    → ((m : Machine) → AgreesOn w.bench w.up m → IsFollowed w (happening event) w' report m) → HeadlineInvariant factory past before w.bench
+-- A caller's event that each session machine follows keeps the headline.
+followed_event_keeps_headline : {factory : List ℕ} {past : List SessionBeginning} {before : Option Report} {w w' : WorldView}
+    (event : Event) {report : Option Report}
+    → ((m : Machine) → AgreesOn w.bench w.up m → MachineFollows w (happening event) w' report m)
+    → HeadlineInvariant factory past before w.bench
     → HeadlineInvariant factory (sessions_now event past) report w'.bench
-keeps {factory = factory} {past = past} {w' = w'} event {report = report} follow k =
-    subst (λ (sessions : List Begun). HeadlineInvariant factory sessions report w'.bench) (begun_same event past)
-    (keeps_on (happening event) follow k)
+followed_event_keeps_headline {factory = factory} {past = past} {w' = w'} event {report = report} follow k =
+    subst (λ (sessions : List SessionBeginning). HeadlineInvariant factory sessions report w'.bench) (sessions_begun_by_event event past)
+    (event_keeps_headline (happening event) follow k)
 
 -- An event that each session machine follows keeps the headline.
-pub step_keeps : (w w' : WorldView) (event : Event) (result : Result (Option Report) LinkFault) → AllFollow w (happening event) w' result
+pub step_keeps : (w w' : WorldView) (event : Event) (result : Result (Option Report) LinkFault)
+    → AllMachinesFollow w (happening event) w' result
     → StepPreservesHeadline w event w' result
-step_keeps w w' event (Ok report) follow = λ factory past before k. keeps event follow k
+step_keeps w w' event (Ok report) follow = λ factory past before k. followed_event_keeps_headline event follow k
 step_keeps w w' event (Err fault) follow = follow
 
--- So does a run.
-pub chain_keeps : {w w' : WorldView} {reports : List Report} (events : List Event) → Chain w (map happening events) reports w'
+-- A chain of events keeps the headline.
+pub chain_keeps_headline : {w w' : WorldView} {reports : List Report} (events : List Event) → EventChain w (map happening events) reports w'
     → EventsPreserveHeadline w events reports w'
-chain_keeps [] no_more factory past before k = no_event
-chain_keeps (event ∷ events) (one_more {report = report} s more) factory past before k =
-    let next = keeps event s.legal k in
-    one_event next (chain_keeps events more factory (sessions_now event past) report next)
+chain_keeps_headline [] empty_chain factory past before k = no_event
+chain_keeps_headline (event ∷ events) (one_more {report = report} s more) factory past before k =
+    let next = followed_event_keeps_headline event s.legal k in
+    one_event next (chain_keeps_headline events more factory (sessions_now event past) report next)
 
--- And one that stopped.
-pub stopped_keeps : {w w' : WorldView} {reports : List Report} (n : ℕ) (events : List Event)
-    → Chain w (take n (map happening events)) reports w' → EventsPreserveHeadline w (take n events) reports w'
-stopped_keeps {w = w} {w' = w'} {reports = reports} n events chain =
-    chain_keeps (take n events) (subst (λ (hs : List Happening). Chain w hs reports w') (take-map happening n events) chain)
+-- A run that stopped keeps the headline through the events before the stop.
+pub stopped_run_keeps_headline : {w w' : WorldView} {reports : List Report} (n : ℕ) (events : List Event)
+    → EventChain w (take n (map happening events)) reports w' → EventsPreserveHeadline w (take n events) reports w'
+stopped_run_keeps_headline {w = w} {w' = w'} {reports = reports} n events chain =
+    chain_keeps_headline (take n events) (subst (λ (hs : List Happening). EventChain w hs reports w') (take-map happening n events) chain)
 
 -- The headline holds at the start.
-pub holds_at_rest : HeadlineAtStart
-holds_at_rest b factory active none still = record {
+pub headline_at_start : HeadlineAtStart
+headline_at_start b factory active none still = record {
   says = record { image = factory; active = active; known = inl refl; in_place = λ e. absurd e };
   kept = record {
     waiting = λ x is. absurd (still x is);

@@ -1,60 +1,69 @@
--- The payload that a session machine has was offered by the sessions that have begun.
+-- The payload of a session machine was offered by the sessions that have begun.
 use Rattle.std.proofs.Common.{◌≡◌, ◌⊎◌, inl, inr, ℕ, Bool, List, [], ◌∷◌, ◌++◌, Option, sym, ◌∙◌, subst}
 use Rattle.dfu_host.specs.declared.report.Report.{Report}
-use Rattle.dfu_sim.specs.Session.{Machine, Loading, IsOneOf, ReportStep, says_not, Kind, AnOffer, AnUpload, IsInPlaceReport, MachineStep, offered, uploads, restarts, refuses, goes, stops, and_then, said}
+use Rattle.dfu_sim.specs.Session.{Machine, LoadingPayload, IsOneOf, ReportStep, reports_nothing, Kind, OfferKind, UploadKind, IsInPlaceReport, MachineStep, offered, uploads, restarts, refuses, goes, stops, and_then, report_list}
 use Rattle.dfu_sim.specs.Simulation.{offers_after}
 use Rattle.dfu_sim.specs.LinkView.{WorldView}
 use Rattle.dfu_sim.specs.Happening.{Happening, Offers, Uploads}
-use Rattle.dfu_sim.specs.Following.{IsOfKind, IsFollowed}
-use Rattle.dfu_sim.specs.SessionStarts.{sessions_by}
-use Rattle.dfu_sim.specs.Headline.{Begun, IsPayload, WasOffered, IsLastPayload}
-use Rattle.dfu_sim.proofs.Saying.{begins_live, ends_live, only_offered, step_live}
+use Rattle.dfu_sim.specs.Following.{IsOfKind, MachineFollows}
+use Rattle.dfu_sim.specs.SessionStarts.{sessions_after_event}
+use Rattle.dfu_sim.specs.Headline.{SessionBeginning, IsPayload, WasOffered, IsLastPayload}
+use Rattle.dfu_sim.proofs.Saying.{taking_keeps_live_session, dropping_keeps_live_session, only_offered, in_place_step_had_live_payload}
 
--- Live goal after a step.
+-- Live payload after a step.
 
-says_live : {tolerant : Bool} {m m' : Machine} {report : Option Report} (x : List ℕ) → ReportStep tolerant m report m' → m'.live ≡ Loading x
-    → m.live ≡ Loading x
-says_live x says_not e = e
-says_live x s e = absurd cc
+live_payload_before_report : {tolerant : Bool} {m m' : Machine} {report : Option Report} (x : List ℕ) → ReportStep tolerant m report m' →
+    m'.live ≡ LoadingPayload x
+    → m.live ≡ LoadingPayload x
+live_payload_before_report x reports_nothing e = e
+live_payload_before_report x s e = absurd cc
 
--- After an event of this kind this payload can be live: the event offered it, or it was live before.
-abbrev IsLiveBy : Kind → Machine → List ℕ → Type 0
-IsLiveBy (AnOffer payload) m x = payload ≡ x
-IsLiveBy AnUpload m x = ⊥
-IsLiveBy kind m x = m.live ≡ Loading x
+-- A payload may be live after an event of that kind: the event offered it, or it was live before.
+abbrev IsLivePayloadBy : Kind → Machine → List ℕ → Type 0
+IsLivePayloadBy (OfferKind payload) m x = payload ≡ x
+IsLivePayloadBy UploadKind m x = ⊥
+IsLivePayloadBy kind m x = m.live ≡ LoadingPayload x
 
-live_by : {tolerant : Bool} {t : ℕ} {kind : Kind} {m m' : Machine} {report : Option Report} (x : List ℕ)
-    → MachineStep tolerant t kind m report m' → m'.live ≡ Loading x → IsLiveBy kind m x
-live_by x (offered none) e = cc
-live_by x (uploads none) e = absurd cc
-live_by x (restarts s plain) e = says_live x s e
-live_by x (refuses d) e = sym (ends_live d) ∙ e
-live_by x (goes b d s) e = sym (ends_live d ∙ begins_live b) ∙ says_live x s e
-live_by x s e = e
+-- A payload that is live after a step was offered by its event, or was live before.
+live_payload_by_event : {tolerant : Bool} {t : ℕ} {kind : Kind} {m m' : Machine} {report : Option Report} (x : List ℕ)
+    → MachineStep tolerant t kind m report m' → m'.live ≡ LoadingPayload x → IsLivePayloadBy kind m x
+live_payload_by_event x (offered none) e = cc
+live_payload_by_event x (uploads none) e = absurd cc
+live_payload_by_event x (restarts s plain) e = live_payload_before_report x s e
+live_payload_by_event x (refuses d) e = sym (dropping_keeps_live_session d) ∙ e
+live_payload_by_event x (goes b d s) e = sym (dropping_keeps_live_session d ∙ taking_keeps_live_session b)
+    ∙ live_payload_before_report x s e
+live_payload_by_event x s e = e
 
-in_place_by : {tolerant : Bool} {t : ℕ} {kind : Kind} {m m' : Machine} {report : Option Report} → MachineStep tolerant t kind m report m'
-    → IsInPlaceReport report → IsLiveBy kind m m'.cur
-in_place_by {tolerant = tolerant} {t = t} {m = m} (restarts s plain) e =
-    step_live {tolerant = tolerant} {t = t} (restarts {m = m} s plain) e
-in_place_by {tolerant = tolerant} {t = t} (goes b d s) e = step_live {tolerant = tolerant} {t = t} (goes b d s) e
-in_place_by s e = elim e [ ]
+-- An image that is reported in place was live by its event.
+in_place_payload_by_event : {tolerant : Bool} {t : ℕ} {kind : Kind} {m m' : Machine} {report : Option Report} →
+    MachineStep tolerant t kind m report m'
+    → IsInPlaceReport report → IsLivePayloadBy kind m m'.cur
+in_place_payload_by_event {tolerant = tolerant} {t = t} {m = m} (restarts s plain) e =
+    in_place_step_had_live_payload {tolerant = tolerant} {t = t} (restarts {m = m} s plain) e
+in_place_payload_by_event {tolerant = tolerant} {t = t} (goes b d s) e = in_place_step_had_live_payload {tolerant = tolerant} {t = t} (goes
+    b d s) e
+in_place_payload_by_event s e = elim e [ ]
 
 -- What was offered.
 
--- The machine's image is the factory image or was offered, its offers were offered, and its live payload is that of the last session.
-pub record IsOfPast (factory : List ℕ) (past : List Begun) (m : Machine) : Type 0 where
+-- The machine's image is the factory image or was offered, each of its offers was offered, and its live payload is the last session's
+-- payload.
+pub record MachineHasPastOffers (factory : List ℕ) (past : List SessionBeginning) (m : Machine) : Type 0 where
   pub known : (m.cur ≡ factory) ⊎ WasOffered past m.cur
   pub offers : (x : List ℕ) → IsOneOf x m.offers → WasOffered past x
-  pub live : (x : List ℕ) → m.live ≡ Loading x → IsLastPayload past x
+  pub live : (x : List ℕ) → m.live ≡ LoadingPayload x → IsLastPayload past x
 
-still_offered : (h : Happening) (past : List Begun) (x : List ℕ) → WasOffered past x → WasOffered (sessions_by h past) x
-still_offered (Offers purpose file limits) past x was = inr was
-still_offered h past x was = was
+-- A payload that was offered stays so after a further event.
+past_offer_stays : (h : Happening) (past : List SessionBeginning) (x : List ℕ) → WasOffered past x →
+    WasOffered (sessions_after_event h past) x
+past_offer_stays (Offers purpose file limits) past x was = inr was
+past_offer_stays h past x was = was
 
--- Each offer of the machine after an event was offered: by this event, or before it.
-offers_on : (h : Happening) (kind : Kind) (past : List Begun) (offers : List (List ℕ)) (x : List ℕ) → IsOfKind h kind
+-- Each offer of the machine after an event was offered by the event or before it.
+offers_on : (h : Happening) (kind : Kind) (past : List SessionBeginning) (offers : List (List ℕ)) (x : List ℕ) → IsOfKind h kind
     → ((y : List ℕ) → IsOneOf y offers → WasOffered past y) → IsOneOf x (offers_after (kind ∷ []) offers)
-    → WasOffered (sessions_by h past) x
+    → WasOffered (sessions_after_event h past) x
 offers_on (Offers purpose file limits) kind past offers x is all one =
     let new : IsOneOf x (is.0 ∷ offers) = subst (λ (k : Kind). IsOneOf x (offers_after (k ∷ []) offers)) is.5 one in
     elim new [
@@ -63,35 +72,42 @@ offers_on (Offers purpose file limits) kind past offers x is all one =
     ]
 offers_on h kind past offers x is all one = all x (subst (λ (k : Kind). IsOneOf x (offers_after (k ∷ []) offers)) is one)
 
--- A payload that can be live after an event is that of the last session.
-last_on : (h : Happening) (kind : Kind) (past : List Begun) (m : Machine) (x : List ℕ) → IsOfKind h kind
-    → ((y : List ℕ) → m.live ≡ Loading y → IsLastPayload past y) → IsLiveBy kind m x → IsLastPayload (sessions_by h past) x
-last_on (Offers purpose file limits) kind past m x is all by =
-    let same : is.0 ≡ x = subst (λ (k : Kind). IsLiveBy k m x) is.5 by in
+-- A payload that can be live after an event is the payload of the last session.
+live_payload_is_last_offer : (h : Happening) (kind : Kind) (past : List SessionBeginning) (m : Machine) (x : List ℕ) → IsOfKind h kind
+    → ((y : List ℕ) → m.live ≡ LoadingPayload y → IsLastPayload past y) → IsLivePayloadBy kind m x →
+    IsLastPayload (sessions_after_event h past) x
+live_payload_is_last_offer (Offers purpose file limits) kind past m x is all by =
+    let same : is.0 ≡ x = subst (λ (k : Kind). IsLivePayloadBy k m x) is.5 by in
     subst (λ (y : List ℕ). IsPayload y file) same (is.1, is.2, is.3, is.4)
-last_on (Uploads limits) kind past m x is all by = absurd (subst (λ (k : Kind). IsLiveBy k m x) is by)
-last_on h kind past m x is all by = all x (subst (λ (k : Kind). IsLiveBy k m x) is by)
+live_payload_is_last_offer (Uploads limits) kind past m x is all by = absurd (subst (λ (k : Kind). IsLivePayloadBy k m x) is by)
+live_payload_is_last_offer h kind past m x is all by = all x (subst (λ (k : Kind). IsLivePayloadBy k m x) is by)
 
--- It stays so with each event that the machine follows.
-pub past_on : {factory : List ℕ} {past : List Begun} {m : Machine} {w w' : WorldView} (h : Happening) {report : Option Report}
-    → IsOfPast factory past m → (f : IsFollowed w h w' report m) → IsOfPast factory (sessions_by h past) f.after
-past_on {factory = factory} {past = past} {m = m} {w = w} h {report = report} of_past f =
+-- The machine's image, offers and live payload still stem from the past after each event that the machine follows.
+pub past_after_event : {factory : List ℕ} {past : List SessionBeginning} {m : Machine} {w w' : WorldView}
+    (h : Happening) {report : Option Report}
+    → MachineHasPastOffers factory past m → (f : MachineFollows w h w' report m) →
+    MachineHasPastOffers factory (sessions_after_event h past) f.after
+past_after_event {factory = factory} {past = past} {m = m} {w = w} h {report = report} of_past f =
     let s = w.bench.device.config.functional in
-    let one = only_offered s.tolerant s.transfer m f.after (f.kind ∷ []) (said report ++ []) (and_then f.step stops) in
+    let one = only_offered s.tolerant s.transfer m f.after (f.kind ∷ []) (report_list report ++ []) (and_then f.step stops) in
     record {
       known = elim one.1 [
         | inr new ↦ inr (offers_on h f.kind past m.offers f.after.cur f.is of_past.offers new)
         | inl stayed ↦ elim of_past.known [
           | inl first ↦ inl (stayed ∙ first)
-          | inr old ↦ inr (subst (λ (x : List ℕ). WasOffered (sessions_by h past) x) (sym stayed) (still_offered h past m.cur old))
+          | inr old ↦ inr (subst (λ (x : List ℕ). WasOffered (sessions_after_event h past) x) (sym stayed) (past_offer_stays h past m.cur
+              old))
         ]
       ];
       offers = λ x one_of. offers_on h f.kind past m.offers x f.is of_past.offers
           (subst (λ (offers : List (List ℕ)). IsOneOf x offers) one.0 one_of);
-      live = λ x e. last_on h f.kind past m x f.is of_past.live (live_by x f.step e);
+      live = λ x e. live_payload_is_last_offer h f.kind past m x f.is of_past.live (live_payload_by_event x f.step e);
     }
 
--- If Installed or Verified is reported, the image of the machine is the payload of the last session.
-pub in_place_on : {factory : List ℕ} {past : List Begun} {m : Machine} {w w' : WorldView} (h : Happening) {report : Option Report}
-    → IsOfPast factory past m → (f : IsFollowed w h w' report m) → IsInPlaceReport report → IsLastPayload (sessions_by h past) f.after.cur
-in_place_on {past = past} {m = m} h of_past f e = last_on h f.kind past m f.after.cur f.is of_past.live (in_place_by f.step e)
+-- If Installed or Verified is reported, the machine's image is the payload of the last session.
+pub reported_image_is_last_payload : {factory : List ℕ} {past : List SessionBeginning} {m : Machine} {w w' : WorldView}
+    (h : Happening) {report : Option Report}
+    → MachineHasPastOffers factory past m → (f : MachineFollows w h w' report m) → IsInPlaceReport report
+    → IsLastPayload (sessions_after_event h past) f.after.cur
+reported_image_is_last_payload {past = past} {m = m} h of_past f e = live_payload_is_last_offer h f.kind past m f.after.cur f.is
+    of_past.live (in_place_payload_by_event f.step e)

@@ -1,18 +1,18 @@
--- An image is put in place only if it waited for that before: over the tables of a link.
+-- The tables of a link put an image in place only if the image waited before.
 use Rattle.std.proofs.Common.{◌⊎◌, inl, inr, ℕ, ◌+◌, ◌==◌, nat_lt, nat_le, max, not, List, [], ◌∷◌, length, take, drop, Option, Some, None, refl}
 use Rattle.dfu_device.specs.Pace.{block_ms, image_ms}
 use Rattle.dfu_device.specs.declared.objection.Objection.{Objection}
 use Rattle.dfu_device.specs.Stage.{Request, Dnload, Upload, GetStatus, ClrStatus, GetState, Ack, Profile, Stage, InAppDetach, InDfuIdle, InDownloadSync, InDownloadBusy, InDownloadIdle, InManifestSync, InManifestSyncComplete, InManifest, InManifestWaitReset, InUploadIdle, InError}
-use Rattle.dfu_device.specs.Table.{Plan, Sure, Writes, Commits, has_no_bytes, error, objection_code, block_plan, further_plan, upload_plan, plan, time_plan}
+use Rattle.dfu_device.specs.Table.{Plan, Sure, Writes, Commits, has_no_bytes, error_plan, objection_code, block_plan, further_plan, upload_plan, plan, time_plan}
 use Rattle.dfu_device.specs.Cases.{either_way}
-use Rattle.dfu_sim.specs.Play.{closes, plan_by}
+use Rattle.dfu_sim.specs.Play.{request_closes, plan_with_refusal}
 use Rattle.dfu_sim.specs.Headline.{IsWaiting}
 
--- None waits in this stage.
-abbrev pub IsFree : Stage → Type 0
-IsFree st = (t : List ℕ) → IsWaiting st t → ⊥
+-- No image waits in this stage to be put in place.
+abbrev pub HasNoWaitingImage : Stage → Type 0
+HasNoWaitingImage st = (t : List ℕ) → IsWaiting st t → ⊥
 
--- A stage that follows once an image was put in place, or was to be.
+-- A stage in which a device is once it put an image in place, or tried to.
 abbrev pub IsDone : Stage → Type 0
 IsDone InDfuIdle = Unit {0}
 IsDone InManifestSyncComplete = Unit {0}
@@ -20,94 +20,105 @@ IsDone InManifestWaitReset = Unit {0}
 IsDone (InError code) = Unit {0}
 IsDone st = ⊥
 
-abbrev pub IsDnload : Request → Type 0
-IsDnload (Dnload number body) = Unit {0}
-IsDnload r = ⊥
+-- The request is a DNLOAD.
+abbrev pub IsDnloadRequest : Request → Type 0
+IsDnloadRequest (Dnload number body) = Unit {0}
+IsDnloadRequest r = ⊥
 
-abbrev pub IsSync : Stage → Type 0
-IsSync (InManifestSync taken) = Unit {0}
-IsSync st = ⊥
+-- The device is in dfuMANIFEST-SYNC, not complete.
+abbrev pub IsManifestSyncStage : Stage → Type 0
+IsManifestSyncStage (InManifestSync taken) = Unit {0}
+IsManifestSyncStage st = ⊥
 
-pub done_free : (st : Stage) → IsDone st → IsFree st
-done_free InDfuIdle d = λ t m. m
-done_free InManifestSyncComplete d = λ t m. m
-done_free InManifestWaitReset d = λ t m. m
-done_free (InError code) d = λ t m. m
-done_free st d = absurd d
+-- In a stage of a done device no image waits.
+pub done_stage_has_no_waiting_image : (st : Stage) → IsDone st → HasNoWaitingImage st
+done_stage_has_no_waiting_image InDfuIdle d = λ t m. m
+done_stage_has_no_waiting_image InManifestSyncComplete d = λ t m. m
+done_stage_has_no_waiting_image InManifestWaitReset d = λ t m. m
+done_stage_has_no_waiting_image (InError code) d = λ t m. m
+done_stage_has_no_waiting_image st d = absurd d
 
 -- Plans.
 
--- An image that begins to wait by a request did so before, or the request is a DNLOAD; an image that is put in place waited, and the
--- request is none.
+-- An image that waits after a request waited before, or the request is a DNLOAD. An image that is put in place waited, and the request is
+-- no DNLOAD.
 abbrev pub Leads : Stage → Request → Plan → Type 0
-Leads st r (Sure reply next) = (t : List ℕ) → IsWaiting next t → IsWaiting st t ⊎ (IsDnload r × IsSync next)
-Leads st r (Writes before block reply next bad) = IsFree next
-Leads st r (Commits taken reply next bad) = IsWaiting st taken × IsDone next × (IsDnload r → ⊥)
+Leads st r (Sure reply next) = (t : List ℕ) → IsWaiting next t → IsWaiting st t ⊎ (IsDnloadRequest r × IsManifestSyncStage next)
+Leads st r (Writes before block reply next bad) = HasNoWaitingImage next
+Leads st r (Commits taken reply next bad) = IsWaiting st taken × IsDone next × (IsDnloadRequest r → ⊥)
 
-block_leads : (c : Profile) (st : Stage) (before : List ℕ) (expected number : ℕ) (body : List ℕ)
+-- The plan of a block puts no image in place.
+block_plan_places_nothing : (c : Profile) (st : Stage) (before : List ℕ) (expected number : ℕ) (body : List ℕ)
     → Leads st (Dnload number body) (block_plan c before expected number body)
-block_leads c st before expected number body =
+block_plan_places_nothing c st before expected number body =
     let P : Plan → Type 0 = Leads st (Dnload number body) in
     either_way P (nat_lt c.transfer (length body)) _ _ (λ t m. absurd m)
     (either_way P (not (number == expected)) _ _ (λ t m. absurd m)
     (either_way P (nat_lt c.capacity (length before + length body)) _ _ (λ t m. absurd m) (λ t m. absurd m)))
 
-further_leads : (c : Profile) (taken : List ℕ) (expected number : ℕ) (body : List ℕ)
+-- The plan of a further DNLOAD puts no image in place.
+further_plan_places_nothing : (c : Profile) (taken : List ℕ) (expected number : ℕ) (body : List ℕ)
     → Leads (InDownloadIdle taken expected) (Dnload number body) (further_plan c taken expected number body)
-further_leads c taken expected number [] =
+further_plan_places_nothing c taken expected number [] =
     either_way (Leads (InDownloadIdle taken expected) (Dnload number [])) (nat_le c.least (length taken)) _ _
     (λ t m. inr (tt, tt)) (λ t m. absurd m)
-further_leads c taken expected number (b ∷ bs) = block_leads c (InDownloadIdle taken expected) taken expected number (b ∷ bs)
+further_plan_places_nothing c taken expected number (b ∷ bs) = block_plan_places_nothing c (InDownloadIdle taken expected) taken expected
+    number (b ∷ bs)
 
-upload_leads : (c : Profile) (image : List ℕ) (st : Stage) (place expected number size : ℕ)
+-- The plan of an UPLOAD puts no image in place.
+upload_plan_places_nothing : (c : Profile) (image : List ℕ) (st : Stage) (place expected number size : ℕ)
     → Leads st (Upload number size) (upload_plan c image place expected number size)
-upload_leads c image st place expected number size =
+upload_plan_places_nothing c image st place expected number size =
     let P : Plan → Type 0 = Leads st (Upload number size) in
     either_way P (size == 0) _ _ (λ t m. absurd m)
     (either_way P (nat_lt c.transfer size) _ _ (λ t m. absurd m)
     (either_way P (not (number == expected)) _ _ (λ t m. absurd m)
     (either_way P (nat_lt (length (take size (drop place image))) size) _ _ (λ t m. absurd m) (λ t m. absurd m))))
 
--- Each row of a request does so.
-row_leads : (c : Profile) (image : List ℕ) (st : Stage) (r : Request) → Leads st r (plan c image st r)
-row_leads c image InDfuIdle (Dnload number body) =
+-- Each row of a request puts only a waiting image in place.
+request_row_places_waiting : (c : Profile) (image : List ℕ) (st : Stage) (r : Request) → Leads st r (plan c image st r)
+request_row_places_waiting c image InDfuIdle (Dnload number body) =
     let P : Plan → Type 0 = Leads InDfuIdle (Dnload number body) in
     either_way P (not c.can_download) _ _ (λ t m. absurd m)
-    (either_way P (has_no_bytes body) _ _ (λ t m. absurd m) (block_leads c InDfuIdle [] 0 number body))
-row_leads c image InDfuIdle (Upload number size) = either_way (Leads InDfuIdle (Upload number size)) c.can_upload _ _
-    (upload_leads c image InDfuIdle 0 0 number size) (λ t m. absurd m)
-row_leads c image (InDownloadSync before block number) GetStatus =
+    (either_way P (has_no_bytes body) _ _ (λ t m. absurd m) (block_plan_places_nothing c InDfuIdle [] 0 number body))
+request_row_places_waiting c image InDfuIdle (Upload number size) = either_way (Leads InDfuIdle (Upload number size)) c.can_upload _ _
+    (upload_plan_places_nothing c image InDfuIdle 0 0 number size) (λ t m. absurd m)
+request_row_places_waiting c image (InDownloadSync before block number) GetStatus =
     either_way (Leads (InDownloadSync before block number) GetStatus) (c.busy == 0) _ _ (λ t m. absurd m) (λ t m. absurd m)
-row_leads c image (InDownloadIdle taken number) (Dnload k body) = further_leads c taken number k body
-row_leads c image (InManifestSync taken) GetStatus =
+request_row_places_waiting c image (InDownloadIdle taken number) (Dnload k body) = further_plan_places_nothing c taken number k body
+request_row_places_waiting c image (InManifestSync taken) GetStatus =
     either_way (Leads (InManifestSync taken) GetStatus) (c.manifest == 0) _ _ (refl, tt, λ x. x) (λ t m. inl m)
-row_leads c image (InManifestSync taken) GetState = λ t m. inl m
-row_leads c image (InUploadIdle place number) (Upload k size) = upload_leads c image (InUploadIdle place number) place number k size
-row_leads c image st GetState = λ t m. absurd m
-row_leads c image st r = λ t m. absurd m
+request_row_places_waiting c image (InManifestSync taken) GetState = λ t m. inl m
+request_row_places_waiting c image (InUploadIdle place number) (Upload k size) = upload_plan_places_nothing c image (InUploadIdle place
+    number) place number k size
+request_row_places_waiting c image st GetState = λ t m. absurd m
+request_row_places_waiting c image st r = λ t m. absurd m
 
--- So does one that the program refuses.
-pub by_leads : (x : Option Objection) (c : Profile) (image : List ℕ) (st : Stage) (r : Request) → Leads st r (plan_by x c image st r)
-by_leads None c image st r = row_leads c image st r
-by_leads (Some why) c image st r =
-    either_way (Leads st r) (closes c.least st r) (error (objection_code why)) (plan c image st r) (λ t m. absurd m) (row_leads c image st r)
+-- The plan of a request puts an image in place only if the image waited, also if the program refuses that image.
+pub refused_plan_places_nothing : (x : Option Objection) (c : Profile) (image : List ℕ) (st : Stage) (r : Request)
+    → Leads st r (plan_with_refusal x c image st r)
+refused_plan_places_nothing None c image st r = request_row_places_waiting c image st r
+refused_plan_places_nothing (Some why) c image st r =
+    either_way (Leads st r) (request_closes c.least st r) (error_plan (objection_code why)) (plan c image st r) (λ t m. absurd m)
+    (request_row_places_waiting c image st r)
 
--- An image that a time puts in place waited, and its download was not closed just now.
-abbrev pub TimeLeads : Stage → Plan → Type 0
-TimeLeads st (Sure reply next) = Unit {0}
-TimeLeads st (Writes before block reply next bad) = Unit {0}
-TimeLeads st (Commits taken reply next bad) = IsWaiting st taken × IsDone next × (IsSync st → ⊥)
+-- An image that a time puts in place waited, and its download was not closed just before.
+abbrev pub TimePlacesClosedImage : Stage → Plan → Type 0
+TimePlacesClosedImage st (Sure reply next) = Unit {0}
+TimePlacesClosedImage st (Writes before block reply next bad) = Unit {0}
+TimePlacesClosedImage st (Commits taken reply next bad) = IsWaiting st taken × IsDone next × (IsManifestSyncStage st → ⊥)
 
-pub time_leads : (c : Profile) (st : Stage) (ms : ℕ) → TimeLeads st (time_plan c st ms)
+-- The row of a time puts only a waiting image in place.
+pub time_leads : (c : Profile) (st : Stage) (ms : ℕ) → TimePlacesClosedImage st (time_plan c st ms)
 time_leads c (InAppDetach timer passed) ms =
-    let P : Plan → Type 0 = TimeLeads (InAppDetach timer passed) in
+    let P : Plan → Type 0 = TimePlacesClosedImage (InAppDetach timer passed) in
     either_way P (ms == 0) _ _ tt
     (either_way P c.will_detach _ _ tt (either_way P (nat_le (max 1 timer) (passed + ms)) _ _ tt tt))
 time_leads c (InDownloadBusy before block number passed) ms =
-    let P : Plan → Type 0 = TimeLeads (InDownloadBusy before block number passed) in
+    let P : Plan → Type 0 = TimePlacesClosedImage (InDownloadBusy before block number passed) in
     either_way P (ms == 0) _ _ tt (either_way P (nat_le (block_ms c.pace c.busy (length before) (length block)) (passed + ms)) _ _ tt tt)
 time_leads c (InManifest taken passed) ms =
-    let P : Plan → Type 0 = TimeLeads (InManifest taken passed) in
+    let P : Plan → Type 0 = TimePlacesClosedImage (InManifest taken passed) in
     either_way P (ms == 0) _ _ tt
     (either_way P (nat_le (image_ms c.pace c.manifest (length taken)) (passed + ms)) _ _
     (either_way (λ (next : Stage). P (Commits taken Ack next (λ fault. Ack))) c.tolerant InManifestSyncComplete InManifestWaitReset
@@ -115,44 +126,49 @@ time_leads c (InManifest taken passed) ms =
     tt)
 time_leads c st ms = tt
 
--- Once an image was put in place a request puts none there, and none waits; nor does a time.
-abbrev pub IsCalm : Plan → Type 0
-IsCalm (Sure reply next) = IsFree next
-IsCalm (Writes before block reply next bad) = ⊥
-IsCalm (Commits taken reply next bad) = ⊥
+-- A calm plan: after it the image is as before, and none waits. Each plan is calm once the image is in place.
+abbrev pub IsCalmPlan : Plan → Type 0
+IsCalmPlan (Sure reply next) = HasNoWaitingImage next
+IsCalmPlan (Writes before block reply next bad) = ⊥
+IsCalmPlan (Commits taken reply next bad) = ⊥
 
-calm_block : (c : Profile) (number : ℕ) (body : List ℕ) → IsCalm (block_plan c [] 0 number body)
-calm_block c number body =
-    either_way IsCalm (nat_lt c.transfer (length body)) _ _ (λ t m. absurd m)
-    (either_way IsCalm (not (number == 0)) _ _ (λ t m. absurd m)
-    (either_way IsCalm (nat_lt c.capacity (length {A = ℕ} [] + length body)) _ _ (λ t m. absurd m) (λ t m. absurd m)))
+-- The plan of a first block is calm.
+block_plan_is_calm : (c : Profile) (number : ℕ) (body : List ℕ) → IsCalmPlan (block_plan c [] 0 number body)
+block_plan_is_calm c number body =
+    either_way IsCalmPlan (nat_lt c.transfer (length body)) _ _ (λ t m. absurd m)
+    (either_way IsCalmPlan (not (number == 0)) _ _ (λ t m. absurd m)
+    (either_way IsCalmPlan (nat_lt c.capacity (length {A = ℕ} [] + length body)) _ _ (λ t m. absurd m) (λ t m. absurd m)))
 
-calm_upload : (c : Profile) (image : List ℕ) (number size : ℕ) → IsCalm (upload_plan c image 0 0 number size)
-calm_upload c image number size =
-    either_way IsCalm (size == 0) _ _ (λ t m. absurd m)
-    (either_way IsCalm (nat_lt c.transfer size) _ _ (λ t m. absurd m)
-    (either_way IsCalm (not (number == 0)) _ _ (λ t m. absurd m)
-    (either_way IsCalm (nat_lt (length (take size (drop 0 image))) size) _ _ (λ t m. absurd m) (λ t m. absurd m))))
+-- The plan of a first UPLOAD is calm.
+upload_plan_is_calm : (c : Profile) (image : List ℕ) (number size : ℕ) → IsCalmPlan (upload_plan c image 0 0 number size)
+upload_plan_is_calm c image number size =
+    either_way IsCalmPlan (size == 0) _ _ (λ t m. absurd m)
+    (either_way IsCalmPlan (nat_lt c.transfer size) _ _ (λ t m. absurd m)
+    (either_way IsCalmPlan (not (number == 0)) _ _ (λ t m. absurd m)
+    (either_way IsCalmPlan (nat_lt (length (take size (drop 0 image))) size) _ _ (λ t m. absurd m) (λ t m. absurd m))))
 
-pub calm : (c : Profile) (image : List ℕ) (st : Stage) (r : Request) → IsDone st → IsCalm (plan c image st r)
-calm c image InDfuIdle (Dnload number body) d =
-    either_way IsCalm (not c.can_download) _ _ (λ t m. absurd m)
-    (either_way IsCalm (has_no_bytes body) _ _ (λ t m. absurd m) (calm_block c number body))
-calm c image InDfuIdle (Upload number size) d = either_way IsCalm c.can_upload _ _ (calm_upload c image number size) (λ t m. absurd m)
-calm c image InDfuIdle r d = λ t m. absurd m
-calm c image InManifestSyncComplete GetStatus d = λ t m. absurd m
-calm c image InManifestSyncComplete GetState d = λ t m. absurd m
-calm c image InManifestSyncComplete r d = λ t m. absurd m
-calm c image InManifestWaitReset r d = λ t m. absurd m
-calm c image (InError code) ClrStatus d = λ t m. absurd m
-calm c image (InError code) GetStatus d = λ t m. absurd m
-calm c image (InError code) GetState d = λ t m. absurd m
-calm c image (InError code) r d = λ t m. absurd m
-calm c image st r d = absurd d
+-- In a done stage the plan of each request is calm.
+pub calm_plan_of_done_stage : (c : Profile) (image : List ℕ) (st : Stage) (r : Request) → IsDone st → IsCalmPlan (plan c image st r)
+calm_plan_of_done_stage c image InDfuIdle (Dnload number body) d =
+    either_way IsCalmPlan (not c.can_download) _ _ (λ t m. absurd m)
+    (either_way IsCalmPlan (has_no_bytes body) _ _ (λ t m. absurd m) (block_plan_is_calm c number body))
+calm_plan_of_done_stage c image InDfuIdle (Upload number size) d = either_way IsCalmPlan c.can_upload _ _ (upload_plan_is_calm c image
+    number size) (λ t m. absurd m)
+calm_plan_of_done_stage c image InDfuIdle r d = λ t m. absurd m
+calm_plan_of_done_stage c image InManifestSyncComplete GetStatus d = λ t m. absurd m
+calm_plan_of_done_stage c image InManifestSyncComplete GetState d = λ t m. absurd m
+calm_plan_of_done_stage c image InManifestSyncComplete r d = λ t m. absurd m
+calm_plan_of_done_stage c image InManifestWaitReset r d = λ t m. absurd m
+calm_plan_of_done_stage c image (InError code) ClrStatus d = λ t m. absurd m
+calm_plan_of_done_stage c image (InError code) GetStatus d = λ t m. absurd m
+calm_plan_of_done_stage c image (InError code) GetState d = λ t m. absurd m
+calm_plan_of_done_stage c image (InError code) r d = λ t m. absurd m
+calm_plan_of_done_stage c image st r d = absurd d
 
-pub calm_time : (c : Profile) (st : Stage) (ms : ℕ) → IsDone st → IsCalm (time_plan c st ms)
-calm_time c InDfuIdle ms d = λ t m. absurd m
-calm_time c InManifestSyncComplete ms d = λ t m. absurd m
-calm_time c InManifestWaitReset ms d = λ t m. absurd m
-calm_time c (InError code) ms d = λ t m. absurd m
-calm_time c st ms d = absurd d
+-- In a done stage the plan of each time is calm.
+pub calm_time_plan_of_done_stage : (c : Profile) (st : Stage) (ms : ℕ) → IsDone st → IsCalmPlan (time_plan c st ms)
+calm_time_plan_of_done_stage c InDfuIdle ms d = λ t m. absurd m
+calm_time_plan_of_done_stage c InManifestSyncComplete ms d = λ t m. absurd m
+calm_time_plan_of_done_stage c InManifestWaitReset ms d = λ t m. absurd m
+calm_time_plan_of_done_stage c (InError code) ms d = λ t m. absurd m
+calm_time_plan_of_done_stage c st ms d = absurd d

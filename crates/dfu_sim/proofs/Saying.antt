@@ -1,121 +1,140 @@
--- Reports and installs of the steps of the session machine.
+-- Reports and installs in the steps of the session machine.
 use Rattle.std.proofs.Common.{◌≡◌, ◌⊎◌, ℕ, Bool, List, [], ◌∷◌, Option, Some, refl, sym, ap, ◌∙◌, subst, inl, inr}
 use Rattle.dfu_host.specs.declared.report.Report.{Report}
 use Rattle.dfu_host.specs.declared.report.Report.TheVariants.{Installed, Uploaded, Verified}
-use Rattle.dfu_sim.specs.Session.{Machine, Loading, IsOneOf, Begins, begins_not, installs, MayDrop, ends_not, drops, ReportStep, says_not, says_installed, says_verified, says_uploaded, says_other, Kind, AnOffer, IsInPlaceReport, ReportsNoPromise, MachineStep, passes_installed, restarts, refuses, goes, stops, and_then}
-use Rattle.dfu_sim.specs.Simulation.{offers_after, OnlyOffered}
+use Rattle.dfu_sim.specs.Session.{Machine, LoadingPayload, IsOneOf, TakesOrInstalls, takes_nothing, installs, MayDrop, drops_nothing, drops, ReportStep, reports_nothing, reports_installed, reports_verified, reports_uploaded, reports_no_promise, Kind, OfferKind, IsInPlaceReport, ReportsNoPromise, MachineStep, time_installs_pending, restarts, refuses, goes, stops, and_then}
+use Rattle.dfu_sim.specs.Simulation.{offers_after, ActiveImageWasOffered}
 
 -- Taking or installing leaves the live session unchanged.
-pub begins_live : {t : ℕ} {m m' : Machine} → Begins t m m' → m'.live ≡ m.live
-begins_live begins_not = refl
-begins_live b = refl
+pub taking_keeps_live_session : {t : ℕ} {m m' : Machine} → TakesOrInstalls t m m' → m'.live ≡ m.live
+taking_keeps_live_session takes_nothing = refl
+taking_keeps_live_session b = refl
 
--- Dropping what is pending leaves the live session unchanged.
-pub ends_live : {m m' : Machine} → MayDrop m m' → m'.live ≡ m.live
-ends_live ends_not = refl
-ends_live drops = refl
+-- Dropping the pending bytes leaves the live session unchanged.
+pub dropping_keeps_live_session : {m m' : Machine} → MayDrop m m' → m'.live ≡ m.live
+dropping_keeps_live_session drops_nothing = refl
+dropping_keeps_live_session drops = refl
 
 -- A report that promises nothing doesn't say that the payload is in place.
-pub not_in_place : (report : Option Report) → ReportsNoPromise report → IsInPlaceReport report → ⊥
-not_in_place (Some Installed) plain e = plain
-not_in_place (Some Verified) plain e = plain
-not_in_place report plain e = e
+pub plain_report_is_not_in_place : (report : Option Report) → ReportsNoPromise report → IsInPlaceReport report → ⊥
+plain_report_is_not_in_place (Some Installed) plain e = plain
+plain_report_is_not_in_place (Some Verified) plain e = plain
+plain_report_is_not_in_place report plain e = e
 
-says_live : {tolerant : Bool} {m m' : Machine} {report : Option Report} → ReportStep tolerant m report m' → IsInPlaceReport report
-    → m.live ≡ Loading m'.cur
-says_live (says_installed live none tolerant) e = live
-says_live (says_verified live none) e = live
-says_live (says_other {report = report} plain one) e = absurd (not_in_place (Some report) plain e)
-says_live s e = elim e [ ]
+-- A report of Installed or Verified has the live payload as the active image.
+reported_payload_was_live : {tolerant : Bool} {m m' : Machine} {report : Option Report} → ReportStep tolerant m report m' →
+    IsInPlaceReport report
+    → m.live ≡ LoadingPayload m'.cur
+reported_payload_was_live (reports_installed live none tolerant) e = live
+reported_payload_was_live (reports_verified live none) e = live
+reported_payload_was_live (reports_no_promise {report = report} plain one) e = absurd (plain_report_is_not_in_place (Some report) plain e)
+reported_payload_was_live s e = elim e [ ]
 
--- If Installed or Verified is said, the payload of the live session is the active image.
-pub step_live : {tolerant : Bool} {t : ℕ} {kind : Kind} {m m' : Machine} {report : Option Report} → MachineStep tolerant t kind m report m'
-    → IsInPlaceReport report → m.live ≡ Loading m'.cur
-step_live {report = report} (restarts s plain) e = absurd (not_in_place report plain e)
-step_live (goes b d s) e = sym (ends_live d ∙ begins_live b) ∙ says_live s e
-step_live s e = elim e [ ]
+-- A step that reports Installed or Verified leaves the payload of the live session as the active image.
+pub in_place_step_had_live_payload : {tolerant : Bool} {t : ℕ} {kind : Kind} {m m' : Machine} {report : Option Report} →
+    MachineStep tolerant t kind m report m'
+    → IsInPlaceReport report → m.live ≡ LoadingPayload m'.cur
+in_place_step_had_live_payload {report = report} (restarts s plain) e = absurd (plain_report_is_not_in_place report plain e)
+in_place_step_had_live_payload (goes b d s) e = sym (dropping_keeps_live_session d ∙ taking_keeps_live_session b)
+    ∙ reported_payload_was_live s e
+in_place_step_had_live_payload s e = elim e [ ]
 
-says_up : {tolerant : Bool} {m m' : Machine} {report : Option Report} → ReportStep tolerant m report m' → report ≡ Some Uploaded →
+-- A report of Uploaded gives the active image.
+uploaded_report_gives_image : {tolerant : Bool} {m m' : Machine} {report : Option Report} → ReportStep tolerant m report m' → report
+    ≡ Some Uploaded →
     m'.up ≡ m'.cur
-says_up (says_uploaded live) e = refl
-says_up (says_other plain one) e = absurd (subst ReportsNoPromise e plain)
-says_up s e = absurd cc
+uploaded_report_gives_image (reports_uploaded live) e = refl
+uploaded_report_gives_image (reports_no_promise plain one) e = absurd (subst ReportsNoPromise e plain)
+uploaded_report_gives_image s e = absurd cc
 
--- If Uploaded is said, what was uploaded is the active image.
-pub step_up : {tolerant : Bool} {t : ℕ} {kind : Kind} {m m' : Machine} {report : Option Report} → MachineStep tolerant t kind m report m'
+-- A step that reports Uploaded gives the active image.
+pub uploaded_step_gives_active_image : {tolerant : Bool} {t : ℕ} {kind : Kind} {m m' : Machine} {report : Option Report} →
+    MachineStep tolerant t kind m report m'
     → report ≡ Some Uploaded → m'.up ≡ m'.cur
-step_up (restarts s plain) e = absurd (subst ReportsNoPromise e plain)
-step_up (goes b d s) e = says_up s e
-step_up s e = absurd cc
+uploaded_step_gives_active_image (restarts s plain) e = absurd (subst ReportsNoPromise e plain)
+uploaded_step_gives_active_image (goes b d s) e = uploaded_report_gives_image s e
+uploaded_step_gives_active_image s e = absurd cc
 
--- The active image stays, or becomes one of these.
-abbrev EventResult : List (List ℕ) → Machine → Machine → Type 0
-EventResult offers m m' = (m'.cur ≡ m.cur) ⊎ IsOneOf m'.cur offers
+-- The active image stays, or becomes one of the offers.
+abbrev ImageStaysOrOffered : List (List ℕ) → Machine → Machine → Type 0
+ImageStaysOrOffered offers m m' = (m'.cur ≡ m.cur) ⊎ IsOneOf m'.cur offers
 
-begins_comes : {t : ℕ} {m m' : Machine} → Begins t m m' → (m'.offers ≡ m.offers) × EventResult m.offers m m'
-begins_comes (installs some h) = (refl, inr h)
-begins_comes b = (refl, inl refl)
+-- Taking or installing leaves the offers, and the image or an offer is active.
+taking_keeps_offers : {t : ℕ} {m m' : Machine} → TakesOrInstalls t m m' → (m'.offers ≡ m.offers) × ImageStaysOrOffered m.offers m m'
+taking_keeps_offers (installs some h) = (refl, inr h)
+taking_keeps_offers b = (refl, inl refl)
 
-ends_same : {m m' : Machine} → MayDrop m m' → (m'.offers ≡ m.offers) × (m'.cur ≡ m.cur)
-ends_same ends_not = (refl, refl)
-ends_same drops = (refl, refl)
+-- Dropping leaves the offers and the image.
+dropping_keeps_offers_and_image : {m m' : Machine} → MayDrop m m' → (m'.offers ≡ m.offers) × (m'.cur ≡ m.cur)
+dropping_keeps_offers_and_image drops_nothing = (refl, refl)
+dropping_keeps_offers_and_image drops = (refl, refl)
 
-says_same : {tolerant : Bool} {m m' : Machine} {report : Option Report} → ReportStep tolerant m report m'
+-- A report leaves the offers and the image.
+report_keeps_offers_and_image : {tolerant : Bool} {m m' : Machine} {report : Option Report} → ReportStep tolerant m report m'
     → (m'.offers ≡ m.offers) × (m'.cur ≡ m.cur)
-says_same says_not = (refl, refl)
-says_same s = (refl, refl)
+report_keeps_offers_and_image reports_nothing = (refl, refl)
+report_keeps_offers_and_image s = (refl, refl)
 
--- The offers after one event.
-abbrev one_more : Kind → List (List ℕ) → List (List ℕ)
-one_more (AnOffer payload) offers = payload ∷ offers
-one_more kind offers = offers
+-- The offers after an event of that kind.
+abbrev offers_with_event : Kind → List (List ℕ) → List (List ℕ)
+offers_with_event (OfferKind payload) offers = payload ∷ offers
+offers_with_event kind offers = offers
 
-comes_on : (offers : List (List ℕ)) (x y z : List ℕ) → (y ≡ x) ⊎ IsOneOf y offers → z ≡ y → (z ≡ x) ⊎ IsOneOf z offers
-comes_on offers x y z (inl e) f = inl (f ∙ e)
-comes_on offers x y z (inr h) f = inr (subst (λ w. IsOneOf w offers) (sym f) h)
+-- An image that is kept or offered stays so by an equation.
+kept_or_offered_by_equation : (offers : List (List ℕ)) (x y z : List ℕ) → (y ≡ x) ⊎ IsOneOf y offers → z ≡ y → (z ≡ x) ⊎ IsOneOf z offers
+kept_or_offered_by_equation offers x y z (inl e) f = inl (f ∙ e)
+kept_or_offered_by_equation offers x y z (inr h) f = inr (subst (λ w. IsOneOf w offers) (sym f) h)
 
-step_comes : {tolerant : Bool} {t : ℕ} {kind : Kind} {m m' : Machine} {report : Option Report} → MachineStep tolerant t kind m report m'
-    → (m'.offers ≡ one_more kind m.offers) × EventResult m.offers m m'
-step_comes (passes_installed some h) = (refl, inr h)
-step_comes (restarts s plain) = ((says_same s).0, inl (says_same s).1)
-step_comes (refuses d) = ((ends_same d).0, inl (ends_same d).1)
-step_comes {m = m} {m' = m'} (goes {m1 = m1} b d s) = (
-  (says_same s).0 ∙ (ends_same d).0 ∙ (begins_comes b).0,
-  comes_on m.offers m.cur m1.cur m'.cur (begins_comes b).1
-      ((says_same s).1 ∙ (ends_same d).1),
+-- A step adds at most its offer, and the image or an offer is active.
+machine_step_result : {tolerant : Bool} {t : ℕ} {kind : Kind} {m m' : Machine} {report : Option Report} →
+    MachineStep tolerant t kind m report m'
+    → (m'.offers ≡ offers_with_event kind m.offers) × ImageStaysOrOffered m.offers m m'
+machine_step_result (time_installs_pending some h) = (refl, inr h)
+machine_step_result (restarts s plain) = ((report_keeps_offers_and_image s).0, inl (report_keeps_offers_and_image s).1)
+machine_step_result (refuses d) = ((dropping_keeps_offers_and_image d).0, inl (dropping_keeps_offers_and_image d).1)
+machine_step_result {m = m} {m' = m'} (goes {m1 = m1} b d s) = (
+  (report_keeps_offers_and_image s).0 ∙ (dropping_keeps_offers_and_image d).0 ∙ (taking_keeps_offers b).0,
+  kept_or_offered_by_equation m.offers m.cur m1.cur m'.cur (taking_keeps_offers b).1
+      ((report_keeps_offers_and_image s).1 ∙ (dropping_keeps_offers_and_image d).1),
 )
-step_comes s = (refl, inl refl)
+machine_step_result s = (refl, inl refl)
 
-more_offered : (x : List ℕ) (kind : Kind) (offers : List (List ℕ)) → IsOneOf x offers → IsOneOf x (one_more kind offers)
-more_offered x (AnOffer payload) offers h = inr h
-more_offered x kind offers h = h
+-- An offer stays one after a further event.
+offer_stays_with_one_more : (x : List ℕ) (kind : Kind) (offers : List (List ℕ)) → IsOneOf x offers →
+    IsOneOf x (offers_with_event kind offers)
+offer_stays_with_one_more x (OfferKind payload) offers h = inr h
+offer_stays_with_one_more x kind offers h = h
 
-after_one : (kind : Kind) (kinds : List Kind) (offers : List (List ℕ))
-    → offers_after (kind ∷ kinds) offers ≡ offers_after kinds (one_more kind offers)
-after_one (AnOffer payload) kinds offers = refl
-after_one kind kinds offers = refl
+-- The offers after a list of events are those after its first event, and then the others.
+offers_after_first_kind : (kind : Kind) (kinds : List Kind) (offers : List (List ℕ))
+    → offers_after (kind ∷ kinds) offers ≡ offers_after kinds (offers_with_event kind offers)
+offers_after_first_kind (OfferKind payload) kinds offers = refl
+offers_after_first_kind kind kinds offers = refl
 
-still_offered : (x : List ℕ) (kinds : List Kind) (offers : List (List ℕ)) → IsOneOf x offers → IsOneOf x (offers_after kinds offers)
-still_offered x [] offers h = h
-still_offered x (kind ∷ kinds) offers h = subst (IsOneOf x) (sym (after_one kind kinds offers))
-    (still_offered x kinds (one_more kind offers) (more_offered x kind offers h))
+-- An offer stays one after a list of events.
+offer_stays_after_events : (x : List ℕ) (kinds : List Kind) (offers : List (List ℕ)) → IsOneOf x offers →
+    IsOneOf x (offers_after kinds offers)
+offer_stays_after_events x [] offers h = h
+offer_stays_after_events x (kind ∷ kinds) offers h = subst (IsOneOf x) (sym (offers_after_first_kind kind kinds offers))
+    (offer_stays_after_events x kinds (offers_with_event kind offers) (offer_stays_with_one_more x kind offers h))
 
--- After a legal run the active image is the one before it, or a whole payload that was offered.
-pub only_offered : OnlyOffered
+-- After a legal run the active image is the one before the run, or a whole payload that was offered.
+pub only_offered : ActiveImageWasOffered
 only_offered tolerant t m m' [] [] stops = (refl, inl refl)
 only_offered tolerant t m m' [] (report ∷ reports) run = elim run [ ]
 only_offered tolerant t m m' (kind ∷ kinds) reports (and_then {mid = mid} {reports = rest} step more) =
-    let one = step_comes step in
-    let all : (m'.offers ≡ offers_after kinds mid.offers) × EventResult (offers_after kinds mid.offers) mid m' = only_offered tolerant t mid m'
+    let one = machine_step_result step in
+    let all : (m'.offers ≡ offers_after kinds mid.offers) × ImageStaysOrOffered (offers_after kinds mid.offers) mid m' = only_offered
+    tolerant t mid m'
     kinds rest more in
     let same : offers_after kinds mid.offers ≡ offers_after (kind ∷ kinds) m.offers = ap (offers_after kinds) one.0
-    ∙ sym (after_one kind kinds m.offers) in (
+    ∙ sym (offers_after_first_kind kind kinds m.offers) in (
       all.0 ∙ same,
       elim (all.1) [
         | inl e ↦ elim (one.1) [
           | inl f ↦ inl (e ∙ f)
           | inr h ↦ inr (subst (λ z. IsOneOf z (offers_after (kind ∷ kinds) m.offers)) (sym e)
-              (still_offered mid.cur (kind ∷ kinds) m.offers h))
+              (offer_stays_after_events mid.cur (kind ∷ kinds) m.offers h))
         ]
         | inr h ↦ inr (subst (IsOneOf m'.cur) same h)
       ],

@@ -1,42 +1,43 @@
--- Session after its host hears something: it goes on, or it is over with a report that is allowed.
+-- A session after its host hears something: the session goes on, or ends with a report that its facts allow.
 use Rattle.std.proofs.Common.{◌≡◌, ◌≢◌, ℕ, zero, suc, pred, Bool, true, false, List, Option, Some, None, refl, sym, ap, subst}
 use Rattle.dfu_device.specs.Stage.{Profile, Stage, InAppIdle}
 use Rattle.dfu_device.specs.Outcome.{Situation}
 use Rattle.dfu_host.specs.declared.report.Report.{Report}
 use Rattle.dfu_host.specs.declared.report.Report.TheVariants.{Installed, Unconfirmed, Aborted, RestartsSpent, Uploaded, Verified}
-use Rattle.dfu_host.specs.Phases.{Goal, ToLoad, ToFetch, ToVerify, ToCompare, Task, Phase, Find, Fetch, GiveUp, Over, OverUploaded, Heard, Part, Restarted, Left}
+use Rattle.dfu_host.specs.Phases.{Goal, LoadGoal, FetchGoal, VerifyGoal, CompareGoal, Task, Phase, Find, Fetch, GiveUp, Over, OverUploaded, Heard, Part, Restarted, Left}
 use Rattle.dfu_host.specs.BehindClose.{is_behind_close}
 use Rattle.dfu_host.specs.Table.{host_row, goal_after_reset, goal_after}
-use Rattle.dfu_host.specs.Host.{HostState, IsOn, budgeted, restarted, host_after_leaving, after_phase, host_after as host_told}
-use Rattle.dfu_sim.specs.Session.{Machine, Live, NoOne, Loading, Fetching, PromisesNothing, ReportStep, says_not, says_installed, says_verified, says_uploaded, says_other, IsInPlaceReport, ReportsNoPromise}
-use Rattle.dfu_sim.specs.LinkView.{Nobody}
+use Rattle.dfu_host.specs.Host.{HostState, IsOnPhase, phase_in_budget, host_after_restart, host_after_leaving, host_after_phase, host_after_result as host_told}
+use Rattle.dfu_sim.specs.Session.{Machine, LiveSession, NothingLive, LoadingPayload, Fetching, PromisesNothing, ReportStep, reports_nothing, reports_installed, reports_verified, reports_uploaded, reports_no_promise, IsInPlaceReport, ReportsNoPromise}
+use Rattle.dfu_sim.specs.LinkView.{NoLiveSession}
 use Rattle.dfu_sim.specs.Opening.{task_for}
-use Rattle.dfu_sim.specs.Play.{given, Took, settled, took, remembered, has_room}
+use Rattle.dfu_sim.specs.Play.{uploaded_after, HostOutcome, settled_session, host_outcome, heard_with_room, has_room}
 use Rattle.dfu_sim.specs.LinkAgreement.{pending_of}
-use Rattle.dfu_sim.specs.Agreement.{live_goal, live_of, IsLiveOffer}
-use Rattle.dfu_sim.specs.Fact.{IsInApp, ReportMeaning, GoalFact, HasBlocks, TaskMatchesProfile, SessionFact}
-use Rattle.dfu_sim.proofs.Saying.{not_in_place}
-use Rattle.dfu_sim.proofs.Fates.{IfHeard, all_remembered}
-use Rattle.dfu_sim.proofs.CommonFacts.{goal_anywhere}
-use Rattle.dfu_sim.proofs.GoalLaws.{after_goal, live_after, Next}
+use Rattle.dfu_sim.specs.Agreement.{live_session_of_goal, live_session_of, IsLiveOffer}
+use Rattle.dfu_sim.specs.Fact.{IsAppIdle, ReportMeaning, GoalFact, HasBlocks, TaskMatchesProfile, SessionFact}
+use Rattle.dfu_sim.proofs.Saying.{plain_report_is_not_in_place}
+use Rattle.dfu_sim.proofs.Fates.{UnlessRestarted, heard_with_memory_unchanged}
+use Rattle.dfu_sim.proofs.CommonFacts.{common_phase_has_goal_fact}
+use Rattle.dfu_sim.proofs.GoalLaws.{goal_after_phase_has_fact, live_goal_after_phase, Next}
 
--- The machine that a link shows.
-abbrev pub shown : List (List ℕ) → List ℕ → Option (List ℕ) → Live → List ℕ → Machine
+-- The session machine that shows a link's image, pending bytes, live session and last upload.
+abbrev pub shown : List (List ℕ) → List ℕ → Option (List ℕ) → LiveSession → List ℕ → Machine
 shown offers cur pending live up = record { cur = cur; offers = offers; pending = pending; live = live; up = up }
 
--- A host that is not done takes what it hears by its row, or as a restart.
-after_on : (h : HostState) (phase : Phase) (heard : Heard) → IsOn phase → after_phase h phase heard ≡ host_told h phase heard
-after_on h (Over report) heard on = elim on [ ]
-after_on h (OverUploaded kept) heard on = elim on [ ]
-after_on h phase heard on = refl
+-- A live host takes what it hears by the row of its phase, or as a restart.
+live_host_takes_heard : (h : HostState) (phase : Phase) (heard : Heard) → IsOnPhase phase → host_after_phase h phase heard
+    ≡ host_told h phase heard
+live_host_takes_heard h (Over report) heard on = elim on [ ]
+live_host_takes_heard h (OverUploaded kept) heard on = elim on [ ]
+live_host_takes_heard h phase heard on = refl
 
--- A task made by the descriptor goes by it, and is the only one of its goal that does.
-pub goes_by : (c : Profile) (goal : Goal) → TaskMatchesProfile c (task_for c goal)
-goes_by c goal = record { transfer = refl; tolerant = refl; will_detach = refl; detach_ms = refl }
+-- The task made by the descriptor goes by the descriptor.
+pub task_goes_by_descriptor : (c : Profile) (goal : Goal) → TaskMatchesProfile c (task_for c goal)
+task_goes_by_descriptor c goal = record { transfer = refl; tolerant = refl; will_detach = refl; detach_ms = refl }
 
--- A task that goes by the descriptor is the one that is made of it.
-pub task_by : (c : Profile) (task : Task) → TaskMatchesProfile c task → task ≡ task_for c task.goal
-task_by c task g = λ i. record {
+-- A task that goes by the descriptor equals the task that `task_for` makes of its goal.
+pub task_of_descriptor_unique : (c : Profile) (task : Task) → TaskMatchesProfile c task → task ≡ task_for c task.goal
+task_of_descriptor_unique c task g = λ i. record {
   goal = task.goal;
   transfer = g.transfer i;
   tolerant = g.tolerant i;
@@ -45,196 +46,219 @@ task_by c task g = λ i. record {
 }
 
 module _ (c : Profile) (offers : List (List ℕ)) where
-  -- Session that a host took, over a device, if this session was live.
-  pub record TookWell (s : Situation) (live : Live) (up : List ℕ) (t : Took) : Type 0 where
+  -- Outcome of a host that took something: the session goes on with its facts, or ended with a report that the session machine may make.
+  pub record TakenOutcomeHolds (s : Situation) (live : LiveSession) (up : List ℕ) (t : HostOutcome) : Type 0 where
     pub says : ReportStep c.tolerant (shown offers s.image (pending_of s.stage) live up) t.answer.report
-        (shown offers s.image (pending_of s.stage) (live_of t.session) (given t.answer.gave up))
+        (shown offers s.image (pending_of s.stage) (live_session_of t.session) (uploaded_after t.answer.gave up))
     pub fact : SessionFact c s t.session
-    pub offer : IsLiveOffer offers (live_of t.session)
+    pub offer : IsLiveOffer offers (live_session_of t.session)
     pub done : IsInPlaceReport t.answer.report → s.stage ≡ InAppIdle
 
-  live_goal_one : (g : Goal) → live_goal g ≢ NoOne
-  live_goal_one ToFetch e = cc
-  live_goal_one g e = cc
+  live_goal_is_not_none : (g : Goal) → live_session_of_goal g ≢ NothingLive
+  live_goal_is_not_none FetchGoal e = cc
+  live_goal_is_not_none g e = cc
 
-  -- A session that is over with this report, and gives nothing.
-  abbrev Ended : Report → Took
-  Ended report = record { session = Nobody; answer = record { report = Some report; gave = None } }
+  -- Outcome of a session that ended with a report and gives no bytes.
+  abbrev Ended : Report → HostOutcome
+  Ended report = record { session = NoLiveSession; answer = record { report = Some report; gave = None } }
 
-  over_well : (i : List ℕ) (stage : Stage) (p up : List ℕ) (report : Report)
-      → ReportMeaning c p (record { image = i; stage = stage }) IsInApp report
-      → TookWell (record { image = i; stage = stage }) (Loading p) up (Ended report)
-  over_well i InAppIdle p up Installed h = record {
-    says = says_installed (ap Loading (sym h.1)) refl h.0;
+  in_place_end_holds : (i : List ℕ) (stage : Stage) (p up : List ℕ) (report : Report)
+      → ReportMeaning c p (record { image = i; stage = stage }) IsAppIdle report
+      → TakenOutcomeHolds (record { image = i; stage = stage }) (LoadingPayload p) up (Ended report)
+  in_place_end_holds i InAppIdle p up Installed h = record {
+    says = reports_installed (ap LoadingPayload (sym h.1)) refl h.0;
     fact = tt;
     offer = tt;
     done = λ e. refl;
   }
-  over_well i stage p up Installed h = elim h.2 [ ]
-  over_well i InAppIdle p up Verified h = record {
-    says = says_verified (ap Loading (sym h.0)) refl;
+  in_place_end_holds i stage p up Installed h = elim h.2 [ ]
+  in_place_end_holds i InAppIdle p up Verified h = record {
+    says = reports_verified (ap LoadingPayload (sym h.0)) refl;
     fact = tt;
     offer = tt;
     done = λ e. refl;
   }
-  over_well i stage p up Verified h = elim h.1 [ ]
-  over_well i stage p up report h = record {
-    says = says_other h (live_goal_one (ToLoad p));
+  in_place_end_holds i stage p up Verified h = elim h.1 [ ]
+  in_place_end_holds i stage p up report h = record {
+    says = reports_no_promise h (live_goal_is_not_none (LoadGoal p));
     fact = tt;
     offer = tt;
     done = λ e. elim e [ ];
   }
 
-  plain_well : (s : Situation) (g : Goal) (up : List ℕ) (report : Report) → PromisesNothing report
-      → TookWell s (live_goal g) up (Ended report)
-  plain_well s g up report h = record {
-    says = says_other h (live_goal_one g);
+  plain_end_holds : (s : Situation) (g : Goal) (up : List ℕ) (report : Report) → PromisesNothing report
+      → TakenOutcomeHolds s (live_session_of_goal g) up (Ended report)
+  plain_end_holds s g up report h = record {
+    says = reports_no_promise h (live_goal_is_not_none g);
     fact = tt;
     offer = tt;
-    done = λ e. absurd (not_in_place (Some report) h e);
+    done = λ e. absurd (plain_report_is_not_in_place (Some report) h e);
   }
 
-  uploaded_well : (s : Situation) (up kept : List ℕ) → kept ≡ s.image
-      → TookWell s Fetching up (record { session = Nobody; answer = record { report = Some Uploaded; gave = Some kept } })
-  uploaded_well s up kept e =
+  uploaded_end_holds : (s : Situation) (up kept : List ℕ) → kept ≡ s.image
+      → TakenOutcomeHolds s Fetching up (record { session = NoLiveSession; answer = record { report = Some Uploaded; gave = Some kept } })
+  uploaded_end_holds s up kept e =
       record {
         says = subst (λ x. ReportStep c.tolerant (shown offers s.image (pending_of s.stage) Fetching up) (Some Uploaded)
-            (shown offers s.image (pending_of s.stage) NoOne x)) (sym e) (says_uploaded refl);
+            (shown offers s.image (pending_of s.stage) NothingLive x)) (sym e) (reports_uploaded refl);
         fact = tt;
         offer = tt;
         done = λ x. elim x [ ];
       }
 
-  -- Result of a phase for a host that goes by this task, with a budget left.
-  abbrev budget : Task → Phase → (left again : ℕ) → Took
-  budget task phase left again = let next = budgeted left phase in
-      settled (record { task = task; phase = next; actions = left; restarts = again }) next
+  -- Outcome of a host that comes to a phase, with actions left or without.
+  abbrev budget : Task → Phase → (left again : ℕ) → HostOutcome
+  budget task phase left again = let next = phase_in_budget left phase in
+      settled_session (record { task = task; phase = next; actions = left; restarts = again }) next
 
-  record Lives (task : Task) : Type 0 where
+  record TaskLives (task : Task) : Type 0 where
     task_is : TaskMatchesProfile c task
-    offer : IsLiveOffer offers (live_goal task.goal)
+    offer : IsLiveOffer offers (live_session_of_goal task.goal)
     some : HasBlocks c task.goal
 
-  budget_well : (s : Situation) (task : Task) (up : List ℕ) (phase : Phase) (left again : ℕ) → Lives task → IsOn phase
-      → GoalFact c task.goal phase s → TookWell s (live_goal task.goal) up (budget task phase left again)
-  budget_well s task up (Over report) left again v on f = elim on [ ]
-  budget_well s task up (OverUploaded kept) left again v on f = elim on [ ]
-  budget_well s task up phase zero again v on f = record {
-    says = says_other tt (live_goal_one task.goal);
+  budget_outcome_holds : (s : Situation) (task : Task) (up : List ℕ) (phase : Phase) (left again : ℕ) → TaskLives task → IsOnPhase phase
+      → GoalFact c task.goal phase s → TakenOutcomeHolds s (live_session_of_goal task.goal) up (budget task phase left again)
+  budget_outcome_holds s task up (Over report) left again v on f = elim on [ ]
+  budget_outcome_holds s task up (OverUploaded kept) left again v on f = elim on [ ]
+  budget_outcome_holds s task up phase zero again v on f = record {
+    says = reports_no_promise tt (live_goal_is_not_none task.goal);
     fact = tt;
     offer = tt;
     done = λ e. elim e [ ];
   }
-  budget_well s task up phase (suc left) again v on f = record {
-    says = says_not;
+  budget_outcome_holds s task up phase (suc left) again v on f = record {
+    says = reports_nothing;
     fact = record { task_is = v.task_is; on = on; some = v.some; fact = f };
     offer = v.offer;
     done = λ e. elim e [ ];
   }
 
   ended_well : (s : Situation) (g : Goal) (up : List ℕ) (report : Report) → GoalFact c g (Over report) s
-      → TookWell s (live_goal g) up (Ended report)
-  ended_well s ToFetch up report f = plain_well s ToFetch up report f
-  ended_well s g up report f = over_well s.image s.stage _ up report f
+      → TakenOutcomeHolds s (live_session_of_goal g) up (Ended report)
+  ended_well s FetchGoal up report f = plain_end_holds s FetchGoal up report f
+  ended_well s g up report f = in_place_end_holds s.image s.stage _ up report f
 
   kept_well : (s : Situation) (g : Goal) (up kept : List ℕ) → GoalFact c g (OverUploaded kept) s
-      → TookWell s (live_goal g) up (record { session = Nobody; answer = record { report = Some Uploaded; gave = Some kept } })
-  kept_well s ToFetch up kept f = uploaded_well s up kept f
+      → TakenOutcomeHolds s (live_session_of_goal g) up (record {
+        session = NoLiveSession;
+        answer = record {
+          report = Some Uploaded;
+          gave =
+              Some kept;
+        };
+      })
+  kept_well s FetchGoal up kept f = uploaded_end_holds s up kept f
   kept_well s g up kept f = elim f [ ]
 
-  spent_well : (s : Situation) (task : Task) (up : List ℕ) (phase : Phase) (left again : ℕ) → Lives task
-      → GoalFact c task.goal phase s → TookWell s (live_goal task.goal) up (budget task phase left again)
-  spent_well s task up (Over report) left again v f = ended_well s task.goal up report f
-  spent_well s task up (OverUploaded kept) left again v f = kept_well s task.goal up kept f
-  spent_well s task up phase left again v f = budget_well s task up phase left again v tt f
+  spent_budget_outcome_holds : (s : Situation) (task : Task) (up : List ℕ) (phase : Phase) (left again : ℕ) → TaskLives task
+      → GoalFact c task.goal phase s → TakenOutcomeHolds s (live_session_of_goal task.goal) up (budget task phase left again)
+  spent_budget_outcome_holds s task up (Over report) left again v f = ended_well s task.goal up report f
+  spent_budget_outcome_holds s task up (OverUploaded kept) left again v f = kept_well s task.goal up kept f
+  spent_budget_outcome_holds s task up phase left again v f = budget_outcome_holds s task up phase left again v tt f
 
-  restarted_well : (s : Situation) (h : HostState) (up : List ℕ) (phase : Phase) (again : ℕ) → Lives h.task
-      → let q = restarted h phase again in TookWell s (live_goal h.task.goal) up (settled q q.phase)
-  restarted_well s h up GiveUp again v = plain_well s h.task.goal up Aborted tt
-  restarted_well s h up phase zero v = plain_well s h.task.goal up RestartsSpent tt
-  restarted_well s h up phase (suc again) v = budget_well s h.task up Find (pred h.actions) again v tt
-      (goal_anywhere c h.task.goal s Find tt)
+  restarted_host_outcome_holds : (s : Situation) (h : HostState) (up : List ℕ) (phase : Phase) (again : ℕ) → TaskLives h.task
+      → let q = host_after_restart h phase again in TakenOutcomeHolds s (live_session_of_goal h.task.goal) up (settled_session q q.phase)
+  restarted_host_outcome_holds s h up GiveUp again v = plain_end_holds s h.task.goal up Aborted tt
+  restarted_host_outcome_holds s h up phase zero v = plain_end_holds s h.task.goal up RestartsSpent tt
+  restarted_host_outcome_holds s h up phase (suc again) v = budget_outcome_holds s h.task up Find (pred h.actions) again v tt
+      (common_phase_has_goal_fact c h.task.goal s Find tt)
 
-  -- A restart of the device, of which a live host hears.
-  pub restart_taken : (s : Situation) (h : HostState) (up : List ℕ) → IsOn h.phase → TaskMatchesProfile c h.task
-      → IsLiveOffer offers (live_goal h.task.goal)
-      → HasBlocks c h.task.goal → TookWell s (live_goal h.task.goal) up (took h Restarted)
-  restart_taken s h up on e o some =
-      subst (λ (q : HostState). TookWell s (live_goal h.task.goal) up (settled q q.phase)) (sym (after_on h h.phase Restarted on))
-      (restarted_well s h up h.phase h.restarts (record { task_is = e; offer = o; some = some }))
+  -- A live host that hears of a restart has an outcome for which the facts hold.
+  pub restart_outcome_holds : (s : Situation) (h : HostState) (up : List ℕ) → IsOnPhase h.phase → TaskMatchesProfile c h.task
+      → IsLiveOffer offers (live_session_of_goal h.task.goal)
+      → HasBlocks c h.task.goal → TakenOutcomeHolds s (live_session_of_goal h.task.goal) up (host_outcome h Restarted)
+  restart_outcome_holds s h up on e o some =
+      subst (λ (q : HostState). TakenOutcomeHolds s (live_session_of_goal h.task.goal) up (settled_session q q.phase)) (sym
+      (live_host_takes_heard h h.phase Restarted on))
+      (restarted_host_outcome_holds s h up h.phase h.restarts (record { task_is = e; offer = o; some = some }))
 
-  lives_checked : (g : Goal) → Lives (task_for c g) → Lives (task_for c (goal_after_reset g))
-  lives_checked (ToVerify p) v = record { task_is = goes_by c (ToCompare p); offer = v.offer; some = v.some }
-  lives_checked g v = v
+  checked_task_lives : (g : Goal) → TaskLives (task_for c g) → TaskLives (task_for c (goal_after_reset g))
+  checked_task_lives (VerifyGoal p) v = record { task_is = task_goes_by_descriptor c (CompareGoal p); offer = v.offer; some = v.some }
+  checked_task_lives g v = v
 
-  last_well : (s : Situation) (g : Goal) (up : List ℕ) (phase : Phase) (left again : ℕ) → Lives (task_for c g)
+  last_reset_outcome_holds : (s : Situation) (g : Goal) (up : List ℕ) (phase : Phase) (left again : ℕ) → TaskLives (task_for c g)
       → let q = host_after_leaving (record { task = task_for c g; phase = phase; actions = left; restarts = again }) phase true in
-      TookWell s (live_goal g) up (settled q q.phase)
-  last_well s (ToVerify p) up phase left again v = budget_well s (task_for c (ToCompare p)) up Find (pred left) again
-      (lives_checked (ToVerify p) v) tt (goal_anywhere c (ToCompare p) s Find tt)
-  last_well s g up phase left again v = plain_well s g up Unconfirmed tt
+      TakenOutcomeHolds s (live_session_of_goal g) up (settled_session q q.phase)
+  last_reset_outcome_holds s (VerifyGoal p) up phase left again v = budget_outcome_holds s (task_for c (CompareGoal p)) up Find (pred left)
+      again
+      (checked_task_lives (VerifyGoal p) v) tt (common_phase_has_goal_fact c (CompareGoal p) s Find tt)
+  last_reset_outcome_holds s g up phase left again v = plain_end_holds s g up Unconfirmed tt
 
-  -- In no event of a link a host hears that its device left by itself. It would keep what holds.
-  left_well : (s : Situation) (g : Goal) (up : List ℕ) (phase : Phase) (left again : ℕ) (behind : Bool) → Lives (task_for c g)
+  -- A host that hears that its device left by itself keeps what holds of the link. No event of a link makes a host hear this.
+  left_device_outcome_holds : (s : Situation) (g : Goal) (up : List ℕ) (phase : Phase) (left again : ℕ) (behind : Bool) →
+      TaskLives (task_for c g)
       → let q = host_after_leaving (record { task = task_for c g; phase = phase; actions = left; restarts = again }) phase behind in
-      TookWell s (live_goal g) up (settled q q.phase)
-  left_well s g up phase left again true v = last_well s g up phase left again v
-  left_well s g up phase left again false v =
-      restarted_well s (record { task = task_for c g; phase = phase; actions = left; restarts = again }) up phase again v
+      TakenOutcomeHolds s (live_session_of_goal g) up (settled_session q q.phase)
+  left_device_outcome_holds s g up phase left again true v = last_reset_outcome_holds s g up phase left again v
+  left_device_outcome_holds s g up phase left again false v =
+      restarted_host_outcome_holds s (record { task = task_for c g; phase = phase; actions = left; restarts = again }) up phase again v
 
-  -- If a part of an upload finds no memory, the session is over.
-  part_well : (g : Goal) (k : ℕ) (kept : List ℕ) (s d : Situation) (room : Bool) (heard : Heard) → GoalFact c g (Fetch k kept) s
-      → IfHeard heard (Next c g d (Fetch k kept)) → IfHeard (remembered heard room) (Next c g d (Fetch k kept))
-  part_well ToFetch k kept s d false (Part bytes) f n = tt
-  part_well ToFetch k kept s d true heard f n = subst (λ (x : Heard). IfHeard x (Next c ToFetch d (Fetch k kept))) (all_remembered heard) n
-  part_well ToFetch k kept s d false heard f n = n
-  part_well g k kept s d room heard f n = elim f [ ]
+  -- If there is no memory for a part of an upload, the session ends, and the facts hold.
+  part_without_memory_holds : (g : Goal) (k : ℕ) (kept : List ℕ) (s d : Situation) (room : Bool) (heard : Heard) →
+      GoalFact c g (Fetch k kept) s
+      → UnlessRestarted heard (Next c g d (Fetch k kept)) → UnlessRestarted (heard_with_room heard room) (Next c g d (Fetch k kept))
+  part_without_memory_holds FetchGoal k kept s d false (Part bytes) f n = tt
+  part_without_memory_holds FetchGoal k kept s d true heard f n = subst (λ (x : Heard). UnlessRestarted x (Next c FetchGoal d (Fetch k
+      kept))) (heard_with_memory_unchanged heard) n
+  part_without_memory_holds FetchGoal k kept s d false heard f n = n
+  part_without_memory_holds g k kept s d room heard f n = elim f [ ]
 
-  -- It says nothing that promises.
-  restarted_plain : (h : HostState) (phase : Phase) (again : ℕ) → let q = restarted h phase again in
-      ReportsNoPromise (settled q q.phase).answer.report
-  restarted_plain h GiveUp again = tt
-  restarted_plain h phase zero = tt
-  restarted_plain h phase (suc again) = elim (pred h.actions) as (λ left. ReportsNoPromise (budget h.task Find left again).answer.report)
+  -- A host that hears of a restart reports nothing, or a report that promises nothing.
+  restarted_host_promises_nothing : (h : HostState) (phase : Phase) (again : ℕ) → let q = host_after_restart h phase again in
+      ReportsNoPromise (settled_session q q.phase).answer.report
+  restarted_host_promises_nothing h GiveUp again = tt
+  restarted_host_promises_nothing h phase zero = tt
+  restarted_host_promises_nothing h phase (suc again) = elim (pred h.actions) as (λ left. ReportsNoPromise (budget h.task Find left
+      again).answer.report)
       [ zero ↦ tt | suc left ↦ tt ]
 
-  -- The report of a host on a restart promises nothing.
-  pub restart_plain : (h : HostState) → IsOn h.phase → ReportsNoPromise (took h Restarted).answer.report
-  restart_plain h on = subst (λ (q : HostState). ReportsNoPromise (settled q q.phase).answer.report) (sym (after_on h h.phase Restarted on))
-      (restarted_plain h h.phase h.restarts)
+  -- A host that hears of a restart reports nothing that promises.
+  pub restart_report_promises_nothing : (h : HostState) → IsOnPhase h.phase → ReportsNoPromise (host_outcome h Restarted).answer.report
+  restart_report_promises_nothing h on =
+      subst (λ (q : HostState). ReportsNoPromise (settled_session q q.phase).answer.report) (sym (live_host_takes_heard h h.phase Restarted
+      on))
+      (restarted_host_promises_nothing h h.phase h.restarts)
 
   module _ (g : Goal) where
-    -- The host of a session with this goal, in this phase.
+    -- The host of a goal in a phase, with its actions and restarts left.
     abbrev At : Phase → (left again : ℕ) → HostState
     At phase left again = record { task = task_for c g; phase = phase; actions = left; restarts = again }
 
-    row_well : (s : Situation) (up : List ℕ) (phase : Phase) (left again : ℕ) (heard : Heard) → Lives (task_for c g)
-        → Next c g s phase heard → TookWell s (live_goal g) up
+    row_outcome_holds : (s : Situation) (up : List ℕ) (phase : Phase) (left again : ℕ) (heard : Heard) → TaskLives (task_for c g)
+        → Next c g s phase heard → TakenOutcomeHolds s (live_session_of_goal g) up
         (budget (task_for c (goal_after g phase heard)) (host_row (task_for c g) phase heard) (pred left) again)
-    row_well s up phase left again heard v n =
+    row_outcome_holds s up phase left again heard v n =
         let next = goal_after g phase heard in
-        let lives : Lives (task_for c next) = after_goal (λ x. Lives (task_for c x)) g v (lives_checked g v) phase heard in
-        subst (λ (x : Live). TookWell s x up (budget (task_for c next) (host_row (task_for c g) phase heard) (pred left) again))
-        (live_after g phase heard) (spent_well s (task_for c next) up (host_row (task_for c g) phase heard) (pred left) again lives n)
+        let lives : TaskLives (task_for c next) = goal_after_phase_has_fact (λ x. TaskLives (task_for c x)) g v (checked_task_lives g v)
+        phase heard in
+        subst (λ (x : LiveSession). TakenOutcomeHolds s x up (budget (task_for c next) (host_row (task_for c g) phase heard) (pred left)
+        again))
+        (live_goal_after_phase g phase heard) (spent_budget_outcome_holds s (task_for c next) up (host_row (task_for c g) phase heard)
+        (pred left) again lives n)
 
-    told_well : (s : Situation) (up : List ℕ) (phase : Phase) (left again : ℕ) (heard : Heard) → Lives (task_for c g)
-        → IfHeard heard (Next c g s phase) → let q = host_told (At phase left again) phase heard in
-        TookWell s (live_goal g) up (settled q q.phase)
-    told_well s up phase left again Restarted v n = restarted_well s (At phase left again) up phase again v
-    told_well s up phase left again Left v n = left_well s g up phase left again (is_behind_close g phase) v
-    told_well s up phase left again heard v n = row_well s up phase left again heard v n
+    told_well : (s : Situation) (up : List ℕ) (phase : Phase) (left again : ℕ) (heard : Heard) → TaskLives (task_for c g)
+        → UnlessRestarted heard (Next c g s phase) → let q = host_told (At phase left again) phase heard in
+        TakenOutcomeHolds s (live_session_of_goal g) up (settled_session q q.phase)
+    told_well s up phase left again Restarted v n = restarted_host_outcome_holds s (At phase left again) up phase again v
+    told_well s up phase left again Left v n = left_device_outcome_holds s g up phase left again (is_behind_close g phase) v
+    told_well s up phase left again heard v n = row_outcome_holds s up phase left again heard v n
 
-    -- With or without memory for a part.
-    room_well : (phase : Phase) (s d : Situation) (room : Bool) (heard : Heard) → GoalFact c g phase s → IfHeard heard (Next c g d phase)
-        → IfHeard (remembered heard (has_room phase room)) (Next c g d phase)
-    room_well (Fetch k kept) s d room heard f n = part_well g k kept s d room heard f n
-    room_well phase s d room heard f n = subst (λ (x : Heard). IfHeard x (Next c g d phase)) (all_remembered heard) n
+    -- The facts hold after a part, with memory for it or without.
+    heard_with_room_holds : (phase : Phase) (s d : Situation) (room : Bool) (heard : Heard) → GoalFact c g phase s →
+        UnlessRestarted heard (Next c g d phase)
+        → UnlessRestarted (heard_with_room heard (has_room phase room)) (Next c g d phase)
+    heard_with_room_holds (Fetch k kept) s d room heard f n = part_without_memory_holds g k kept s d room heard f n
+    heard_with_room_holds phase s d room heard f n = subst (λ (x : Heard). UnlessRestarted x (Next c g d phase))
+        (heard_with_memory_unchanged heard) n
 
-    -- A host takes what it hears, and what holds of the link holds after it.
-    pub goal_taken : (s d : Situation) (up : List ℕ) (phase : Phase) (left again : ℕ) (room : Bool) (heard : Heard) → IsOn phase
-        → IsLiveOffer offers (live_goal g) → HasBlocks c g → GoalFact c g phase s → IfHeard heard (Next c g d phase)
-        → TookWell d (live_goal g) up (took (At phase left again) (remembered heard (has_room phase room)))
-    goal_taken s d up phase left again room heard on o some f n =
-        let x = remembered heard (has_room phase room) in
-        subst (λ (q : HostState). TookWell d (live_goal g) up (settled q q.phase)) (sym (after_on (At phase left again) phase x on))
-        (told_well d up phase left again x (record { task_is = goes_by c g; offer = o; some = some }) (room_well phase s d room heard f n))
+    -- A live host takes what it hears, and the facts of the link hold after it.
+    pub goal_outcome_holds : (s d : Situation) (up : List ℕ) (phase : Phase) (left again : ℕ) (room : Bool) (heard : Heard) →
+        IsOnPhase phase
+        → IsLiveOffer offers (live_session_of_goal g) → HasBlocks c g → GoalFact c g phase s → UnlessRestarted heard (Next c g d phase)
+        → TakenOutcomeHolds d (live_session_of_goal g) up (host_outcome (At phase left again) (heard_with_room heard (has_room phase room)))
+    goal_outcome_holds s d up phase left again room heard on o some f n =
+        let x = heard_with_room heard (has_room phase room) in
+        subst (λ (q : HostState). TakenOutcomeHolds d (live_session_of_goal g) up (settled_session q q.phase)) (sym (live_host_takes_heard
+        (At phase left again) phase x on))
+        (told_well d up phase left again x (record { task_is = task_goes_by_descriptor c g; offer = o; some = some })
+        (heard_with_room_holds phase s d room heard f n))

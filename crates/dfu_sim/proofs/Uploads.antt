@@ -1,4 +1,4 @@
--- Uploads and aborts, put together: a play with its bytes, or a refusal.
+-- Uploads and aborts, put together from their parts: a play in bytes, or a refusal.
 use Rattle.std.proofs.Common.{◌≡◌, ◌↔◌, ◌<◌, ◌==◌, not, is_some, false, Option, Some, None, Result, Ok, Err, refl, sym, ap, ◌∙◌, subst, arith}
 use Rattle.std.proofs.lemmas.Bool.Decides.{nat_tests}
 use Rattle.dfu_slots.specs.Medium.Fuse.{Whole}
@@ -9,57 +9,61 @@ use Rattle.dfu_host.specs.Uploading.{first_upload_fault}
 use Rattle.dfu_host.specs.declared.fault.HostFault.{HostFault}
 use Rattle.dfu_host.specs.declared.limits.Limits.{Limits}
 use Rattle.dfu_host.specs.declared.report.Report.{Report}
-use Rattle.dfu_host.specs.Host.{HostState, started}
-use Rattle.dfu_host.specs.Phases.{ToFetch}
+use Rattle.dfu_host.specs.Host.{HostState, host_for_goal}
+use Rattle.dfu_host.specs.Phases.{FetchGoal}
 use Rattle.dfu_sim.specs.declared.fault.LinkFault.{LinkFault}
 use Rattle.dfu_sim.specs.declared.fault.LinkFault.TheVariants as fault
 use Rattle.dfu_sim.specs.declared.fault.OfferFault.TheVariants as offer_fault
 use Rattle.dfu_sim.specs.Play.{silent, session_aborted}
-use Rattle.dfu_sim.specs.LinkView.{Session, Hosted, linked}
+use Rattle.dfu_sim.specs.LinkView.{Session, HostSession, world_of_bench}
 use Rattle.dfu_sim.specs.Happening.{Uploads, Aborts}
 use Rattle.dfu_sim.specs.Refusing.{ServesUpload}
 use Rattle.dfu_sim.specs.EventResults.{WorldEventResult, WorldEventAlone}
 use Rattle.dfu_sim.specs.LinkInvariant.{session_of, given_by, bench_of, link_state}
 use Rattle.dfu_sim.specs.inside.Acting.{abort_answer}
-use Rattle.dfu_sim.proofs.Events.{refused_comes, event_comes, not_first, idle_refused, begins_comes, none_of}
+use Rattle.dfu_sim.proofs.Events.{refused_event_result, allowed_event_has_result, no_first_fault_is_no_fault, event_without_session_refused, begins_comes, session_has_no_fault}
 
--- A device that gives its image has blocks of some bytes.
-pub gives_transfer : (s : Setting) → ServesUpload s → 0 < s.functional.transfer
-gives_transfer s gives =
-    let a = not_first (not s.functional.can_upload) _ _ gives in
-    let z = not_first (s.functional.transfer == 0) _ _ a.1 in
+-- A device that gives its image has a transfer size of at least one byte.
+pub upload_device_has_transfer : (s : Setting) → ServesUpload s → 0 < s.functional.transfer
+upload_device_has_transfer s gives =
+    let a = no_first_fault_is_no_fault (not s.functional.can_upload) _ _ gives in
+    let z = no_first_fault_is_no_fault (s.functional.transfer == 0) _ _ a.1 in
     let e : (s.functional.transfer == 0) ≡ false = z.0 in
     grind (arith, nat_tests)
 
--- An upload from a device that gives no image.
-pub upload_refused : (limits : Limits) (w : DeviceView) (host : Option HostState) (f : Functional) (why : HostFault) → is_some host ≡ false
+-- An upload from a device that gives no image is refused with its fault.
+pub faulty_upload_refused : (limits : Limits) (w : DeviceView) (host : Option HostState) (f : Functional) (why : HostFault) →
+    is_some host ≡ false
     → f ≡ w.config.functional → first_upload_fault f ≡ Some why
     → WorldEventAlone (bench_of w host) (Uploads limits) (bench_of w host) (Err (fault.BadOffer (offer_fault.Host why)))
-upload_refused limits w host f why n e bad = idle_refused (Uploads limits) (fault.BadOffer (offer_fault.Host why)) w host n
+faulty_upload_refused limits w host f why n e bad = event_without_session_refused (Uploads limits) (fault.BadOffer (offer_fault.Host why))
+    w host n
     (refl, subst (λ (x : Functional). first_upload_fault x ≡ Some why) e bad)
 
--- An upload that begins.
-pub upload_comes : (limits : Limits) (w : DeviceView) (host : Option HostState) (h : HostState) (f : Functional) → is_some host ≡ false
+-- An upload begins a session while no session is live.
+pub upload_event_result : (limits : Limits) (w : DeviceView) (host : Option HostState) (h : HostState) (f : Functional) → is_some host
+    ≡ false
     → w.slots.medium.fuse ≡ Whole → f ≡ w.config.functional
     → ((why : HostFault) → (◌≡◌ {A = Result HostState HostFault} (Ok h) (Err why)) ↔ (first_upload_fault f ≡ Some why))
-    → h ≡ started f ToFetch limits
+    → h ≡ host_for_goal f FetchGoal limits
     → WorldEventAlone (bench_of w host) (Uploads limits) (bench_of w (Some h)) (Ok None)
-upload_comes limits w host h f n e k none is =
-    let begun : h ≡ started w.config.functional ToFetch limits = is ∙ ap (λ (x : Functional). started x ToFetch limits) k in
+upload_event_result limits w host h f n e k none is =
+    let begun : h ≡ host_for_goal w.config.functional FetchGoal limits = is ∙ ap (λ (x : Functional). host_for_goal x FetchGoal limits) k in
     begins_comes (Uploads limits) (Uploads limits) w host h n e
-    (subst (λ (x : Functional). first_upload_fault x ≡ None) k (none_of (first_upload_fault f) h none), refl) tt
-    ((λ i. record { device = w; session = Hosted (begun i) }), refl)
+    (subst (λ (x : Functional). first_upload_fault x ≡ None) k (session_has_no_fault (first_upload_fault f) h none), refl) tt
+    ((λ i. record { device = w; session = HostSession (begun i) }), refl)
 
--- An abort.
-pub abort_comes : (w : DeviceView) (host host' gave : Option HostState) (result : Result (Option Report) LinkFault)
+-- An abort is an event that gives the session up, or is refused without a session.
+pub abort_event_result : (w : DeviceView) (host host' gave : Option HostState) (result : Result (Option Report) LinkFault)
     → w.slots.medium.fuse ≡ Whole
     → session_of host' ≡ session_aborted (session_of host) → result ≡ abort_answer (session_of host)
     → WorldEventResult (link_state w host gave) Aborts (link_state w host' gave) result
-abort_comes w None host' gave result e session says =
+abort_event_result w None host' gave result e session says =
     subst (λ (r : Result (Option Report) LinkFault). WorldEventResult (link_state w None gave) Aborts (link_state w host' gave) r) (sym says)
-    (subst (λ (s : Session). WorldEventResult (link_state w None gave) Aborts (linked (record { device = w; session = s }) (given_by gave))
-    (Err fault.NoHost)) (sym session) (refused_comes (bench_of w None) Aborts fault.NoHost refl (given_by gave)))
-abort_comes w (Some h) host' gave result e session says =
+    (subst (λ (s : Session). WorldEventResult (link_state w None gave) Aborts
+    (world_of_bench (record { device = w; session = s }) (given_by gave))
+    (Err fault.NoHost)) (sym session) (refused_event_result (bench_of w None) Aborts fault.NoHost refl (given_by gave)))
+abort_event_result w (Some h) host' gave result e session says =
     subst (λ (r : Result (Option Report) LinkFault). WorldEventResult (link_state w (Some h) gave) Aborts (link_state w host' gave) r) (sym says)
-    (event_comes Aborts silent refl
+    (allowed_event_has_result Aborts silent refl
     (record { allowed = tt; unarmed = e; happens = ((λ i. record { device = w; session = session i }), refl) }) tt refl refl)

@@ -1,180 +1,213 @@
--- A download that is to be verified goes as one that is not, up to its last reset.
+-- A verified download goes as one that is not verified, up to its last reset.
 use Rattle.std.proofs.Common.{◌≡◌, ℕ, zero, suc, Bool, true, false, List, Some, None, refl, sym, ap, ◌∙◌, subst}
 use Rattle.dfu_device.specs.Stage.{Profile, Reply, Ack}
 use Rattle.dfu_device.specs.Table.{plan}
-use Rattle.dfu_device.specs.Outcome.{Situation, Luck, Works, outcome}
-use Rattle.dfu_device.specs.Rows.{meant}
+use Rattle.dfu_device.specs.Outcome.{Situation, Luck, Works, plan_outcome}
+use Rattle.dfu_device.specs.Rows.{request_for_table}
 use Rattle.dfu_host.specs.declared.report.Report.{Report}
-use Rattle.dfu_host.specs.Phases.{Goal, ToLoad, ToVerify, Task, Phase, Find, Last, GiveUp, Over, OverUploaded, Deed, Send, Heard, Part, WasReset, Restarted, Left}
+use Rattle.dfu_host.specs.Phases.{Goal, LoadGoal, VerifyGoal, Task, Phase, Find, Last, GiveUp, Over, OverUploaded, Deed, Send, Heard, Part, WasReset, Restarted, Left}
 use Rattle.dfu_host.specs.Table.{deed, goal_after, host_row}
-use Rattle.dfu_host.specs.Host.{HostState, restarted, host_after, after_phase, after}
-use Rattle.dfu_host.specs.TaskLaws.{after_task}
+use Rattle.dfu_host.specs.Host.{HostState, host_after_restart, host_after_result, host_after_phase, after}
+use Rattle.dfu_host.specs.TaskLaws.{task_of_host_after_heard}
 use Rattle.dfu_sim.specs.Happening.{Pass}
 use Rattle.dfu_sim.specs.Delivery.{delivery_of}
-use Rattle.dfu_sim.specs.LinkView.{Session, Nobody, Hosted}
+use Rattle.dfu_sim.specs.LinkView.{Session, NoLiveSession, HostSession}
 use Rattle.dfu_sim.specs.Opening.{task_for}
-use Rattle.dfu_sim.specs.Play.{Link, silent, Took, settled, took, heard_as, remembered, has_room, Played, acted, gone}
-use Rattle.dfu_sim.specs.CleanRun.{PassesTo, Quietly, here, there}
+use Rattle.dfu_sim.specs.Play.{Link, silent, HostOutcome, settled_session, host_outcome, heard_of_reply, heard_with_room, has_room, PlayResult, action_result, go_result}
+use Rattle.dfu_sim.specs.CleanRun.{PassesTo, QuietPasses, here, there}
 
--- Any phase but the one of the last reset.
-abbrev IsBefore : Phase → Type 0
-IsBefore (Last r) = ⊥
-IsBefore phase = Unit {0}
+-- Each phase except that of the last reset.
+abbrev IsBeforeLastReset : Phase → Type 0
+IsBeforeLastReset (Last r) = ⊥
+IsBeforeLastReset phase = Unit {0}
 
--- No reply is that the device left of itself.
-reply_stays : (r : Reply) → heard_as r ≡ Left → ⊥
-reply_stays Ack e = absurd cc
-reply_stays r e = absurd cc
+-- No reply means that the device left by itself.
+reply_is_not_leaving : (r : Reply) → heard_of_reply r ≡ Left → ⊥
+reply_is_not_leaving Ack e = absurd cc
+reply_is_not_leaving r e = absurd cc
 
-room_stays : (heard : Heard) (room : Bool) → (heard ≡ Left → ⊥) → remembered heard room ≡ Left → ⊥
+-- Missing memory does not mean that the device left by itself.
+room_stays : (heard : Heard) (room : Bool) → (heard ≡ Left → ⊥) → heard_with_room heard room ≡ Left → ⊥
 room_stays (Part bytes) false never e = absurd cc
 room_stays heard room never e = never e
 
 module _ (c : Profile) (p : List ℕ) where
-  -- In no pass a host hears that its device left by itself.
-  pass_stays : (s : Situation) (d : Deed) (l k : Luck) → (acted c s d (delivery_of Pass) l k).heard ≡ Left → ⊥
-  pass_stays s (Send q body) l k e = reply_stays (outcome s.image (plan c s.image s.stage (meant q body)) l).reply e
-  pass_stays s d l k e = absurd cc
+  -- In no pass the host hears that the device left by itself.
+  pass_is_not_leaving : (s : Situation) (d : Deed) (l k : Luck) → (action_result c s d (delivery_of Pass) l k).heard ≡ Left → ⊥
+  pass_is_not_leaving s (Send q body) l k e = reply_is_not_leaving (plan_outcome s.image (plan c s.image s.stage (request_for_table q
+      body)) l).reply e
+  pass_is_not_leaving s d l k e = absurd cc
 
+  -- The task of the download.
   abbrev plain : Task
-  plain = task_for c (ToLoad p)
+  plain = task_for c (LoadGoal p)
 
+  -- The task of the verified download.
   abbrev checked : Task
-  checked = task_for c (ToVerify p)
+  checked = task_for c (VerifyGoal p)
 
-  same_row : (phase : Phase) (heard : Heard) → IsBefore phase → host_row checked phase heard ≡ host_row plain phase heard
-  same_row (Last r) heard b = elim b [ ]
-  same_row phase heard b = refl
+  -- Before the last reset both downloads have the same rows.
+  verify_row_is_load_row : (phase : Phase) (heard : Heard) → IsBeforeLastReset phase → host_row checked phase heard
+      ≡ host_row plain phase heard
+  verify_row_is_load_row (Last r) heard b = elim b [ ]
+  verify_row_is_load_row phase heard b = refl
 
-  stays_checked : (phase : Phase) (heard : Heard) → IsBefore phase → goal_after (ToVerify p) phase heard ≡ ToVerify p
-  stays_checked (Last r) heard b = elim b [ ]
-  stays_checked phase heard b = refl
+  -- Before the last reset a verified download keeps its goal.
+  verify_goal_before_last_reset : (phase : Phase) (heard : Heard) → IsBeforeLastReset phase → goal_after (VerifyGoal p) phase heard
+      ≡ VerifyGoal p
+  verify_goal_before_last_reset (Last r) heard b = elim b [ ]
+  verify_goal_before_last_reset phase heard b = refl
 
-  stays_plain : (phase : Phase) (heard : Heard) → goal_after (ToLoad p) phase heard ≡ ToLoad p
-  stays_plain (Last r) WasReset = refl
-  stays_plain (Last r) heard = refl
-  stays_plain phase heard = refl
+  -- A download keeps its goal.
+  load_goal_stays : (phase : Phase) (heard : Heard) → goal_after (LoadGoal p) phase heard ≡ LoadGoal p
+  load_goal_stays (Last r) WasReset = refl
+  load_goal_stays (Last r) heard = refl
+  load_goal_stays phase heard = refl
 
-  -- The host of a download, as one that is to be verified.
-  abbrev pub verifying : HostState → HostState
-  verifying h = record h { task = checked }
+  -- The host of a download, changed into one that verifies.
+  abbrev pub host_verifying : HostState → HostState
+  host_verifying h = record h { task = checked }
 
+  -- The host of a task in a phase.
   abbrev host : Task → Phase → (left again : ℕ) → HostState
   host task phase left again = record { task = task; phase = phase; actions = left; restarts = again }
 
-  restarted_alike : (phase : Phase) (left again restarts : ℕ)
-      → restarted (host checked phase left again) phase restarts ≡ verifying (restarted (host plain phase left again) phase restarts)
-  restarted_alike GiveUp left again restarts = refl
-  restarted_alike phase left again zero = refl
-  restarted_alike phase left again (suc restarts) = refl
+  -- A restart moves the verified download as it moves the download.
+  verified_host_restarts_alike : (phase : Phase) (left again restarts : ℕ)
+      → host_after_restart (host checked phase left again) phase restarts ≡ host_verifying
+      (host_after_restart (host plain phase left again) phase restarts)
+  verified_host_restarts_alike GiveUp left again restarts = refl
+  verified_host_restarts_alike phase left again zero = refl
+  verified_host_restarts_alike phase left again (suc restarts) = refl
 
-  told_alike : (phase : Phase) (heard : Heard) (left again : ℕ) → IsBefore phase → (heard ≡ Left → ⊥)
-      → host_after (host checked phase left again) phase heard ≡ verifying (host_after (host plain phase left again) phase heard)
-  told_alike phase Restarted left again b never = restarted_alike phase left again again
-  told_alike phase Left left again b never = absurd (never refl)
-  told_alike phase heard left again b never = rw (same_row phase heard b, stays_checked phase heard b) refl
+  -- A result moves the verified download as it moves the download.
+  verified_host_told_alike : (phase : Phase) (heard : Heard) (left again : ℕ) → IsBeforeLastReset phase → (heard ≡ Left → ⊥)
+      → host_after_result (host checked phase left again) phase heard
+      ≡ host_verifying (host_after_result (host plain phase left again) phase heard)
+  verified_host_told_alike phase Restarted left again b never = verified_host_restarts_alike phase left again again
+  verified_host_told_alike phase Left left again b never = absurd (never refl)
+  verified_host_told_alike phase heard left again b never = rw (
+    verify_row_is_load_row phase heard b,
+    verify_goal_before_last_reset phase
+        heard b,
+  ) refl
 
-  after_alike : (phase : Phase) (heard : Heard) (left again : ℕ) → IsBefore phase → (heard ≡ Left → ⊥)
-      → after_phase (host checked phase left again) phase heard ≡ verifying (after_phase (host plain phase left again) phase heard)
-  after_alike (Over r) heard left again b never = refl
-  after_alike (OverUploaded kept) heard left again b never = refl
-  after_alike (Last r) heard left again b never = elim b [ ]
-  after_alike phase heard left again b never = told_alike phase heard left again tt never
+  -- A host of the verified download hears what one of the download hears.
+  verified_host_hears_alike : (phase : Phase) (heard : Heard) (left again : ℕ) → IsBeforeLastReset phase → (heard ≡ Left → ⊥)
+      → host_after_phase (host checked phase left again) phase heard
+      ≡ host_verifying (host_after_phase (host plain phase left again) phase heard)
+  verified_host_hears_alike (Over r) heard left again b never = refl
+  verified_host_hears_alike (OverUploaded kept) heard left again b never = refl
+  verified_host_hears_alike (Last r) heard left again b never = elim b [ ]
+  verified_host_hears_alike phase heard left again b never = verified_host_told_alike phase heard left again tt never
 
-  -- The session of a download, as one that is to be verified.
+  -- The session of a download, changed into one that verifies.
   abbrev pub verified : Session → Session
-  verified Nobody = Nobody
-  verified (Hosted h) = Hosted (verifying h)
+  verified NoLiveSession = NoLiveSession
+  verified (HostSession h) = HostSession (host_verifying h)
 
-  abbrev took_verified : Took → Took
-  took_verified t = record { session = verified t.session; answer = t.answer }
+  -- The outcome of a download, changed into that of a verified one.
+  abbrev verified_outcome : HostOutcome → HostOutcome
+  verified_outcome t = record { session = verified t.session; answer = t.answer }
 
-  settled_alike : (h : HostState) (phase : Phase) → settled (verifying h) phase ≡ took_verified (settled h phase)
-  settled_alike h (Over r) = refl
-  settled_alike h phase = refl
+  -- Both downloads settle alike.
+  verified_host_settles_alike : (h : HostState) (phase : Phase) → settled_session (host_verifying h) phase
+      ≡ verified_outcome (settled_session h phase)
+  verified_host_settles_alike h (Over r) = refl
+  verified_host_settles_alike h phase = refl
 
-  took_alike : (phase : Phase) (heard : Heard) (left again : ℕ) → IsBefore phase → (heard ≡ Left → ⊥)
-      → took (host checked phase left again) heard ≡ took_verified (took (host plain phase left again) heard)
-  took_alike phase heard left again b never = let h = after_phase (host plain phase left again) phase heard in
-      ap (λ (z : HostState). settled z z.phase) (after_alike phase heard left again b never) ∙ settled_alike h h.phase
+  -- Both downloads have the same outcome of what is heard.
+  verified_outcome_alike : (phase : Phase) (heard : Heard) (left again : ℕ) → IsBeforeLastReset phase → (heard ≡ Left → ⊥)
+      → host_outcome (host checked phase left again) heard ≡ verified_outcome (host_outcome (host plain phase left again) heard)
+  verified_outcome_alike phase heard left again b never = let h = host_after_phase (host plain phase left again) phase heard in
+      ap (λ (z : HostState). settled_session z z.phase) (verified_host_hears_alike phase heard left again b never)
+      ∙ verified_host_settles_alike h h.phase
 
-  -- The link of a download, as of one that is to be verified.
-  abbrev pub link_verified : Link → Link
-  link_verified w = record { device = w.device; session = verified w.session }
+  -- The link of a download, changed into one that verifies.
+  abbrev pub verified_link : Link → Link
+  verified_link w = record { device = w.device; session = verified w.session }
 
-  abbrev played_verified : Played → Played
-  played_verified x = record { link = link_verified x.link; answer = x.answer }
+  -- The result of a download's event, changed into that of a verified one.
+  abbrev verified_play_result : PlayResult → PlayResult
+  verified_play_result x = record { link = verified_link x.link; answer = x.answer }
 
-  deed_alike : (phase : Phase) → deed checked phase ≡ deed plain phase
-  deed_alike Find = refl
-  deed_alike phase = refl
+  -- Both downloads have the same deed in each phase.
+  verify_deed_alike : (phase : Phase) → deed checked phase ≡ deed plain phase
+  verify_deed_alike Find = refl
+  verify_deed_alike phase = refl
 
-  gone_alike : (s : Situation) (phase : Phase) (left again : ℕ) (other : Luck) (room : Bool) → IsBefore phase
+  -- Both downloads have the same result of an action.
+  verified_action_alike : (s : Situation) (phase : Phase) (left again : ℕ) (other : Luck) (room : Bool) → IsBeforeLastReset phase
       → let w : Session → Link = λ x. record { device = s; session = x } in
-      let v : Session = Hosted (host checked phase left again) in
-      let o : Session = Hosted (host plain phase left again) in
-      gone c (w v) v Pass Works other room ≡ played_verified (gone c (w o) o Pass Works other room)
-  gone_alike s phase left again other room b =
-      let d = acted c s (deed plain phase) (delivery_of Pass) Works other in
-      rw (deed_alike phase)
-      (ap (λ (t : Took). record { link = record { device = d.device; session = t.session }; answer = t.answer })
-      (took_alike phase (remembered d.heard (has_room phase room)) left again b
-      (room_stays d.heard (has_room phase room) (pass_stays s (deed plain phase) Works other))))
+      let v : Session = HostSession (host checked phase left again) in
+      let o : Session = HostSession (host plain phase left again) in
+      go_result c (w v) v Pass Works other room ≡ verified_play_result (go_result c (w o) o Pass Works other room)
+  verified_action_alike s phase left again other room b =
+      let d = action_result c s (deed plain phase) (delivery_of Pass) Works other in
+      rw (verify_deed_alike phase)
+      (ap (λ (t : HostOutcome). record { link = record { device = d.device; session = t.session }; answer = t.answer })
+      (verified_outcome_alike phase (heard_with_room d.heard (has_room phase room)) left again b
+      (room_stays d.heard (has_room phase room) (pass_is_not_leaving s (deed plain phase) Works other))))
 
-  -- Nobody, or this download.
+  -- No session is live, or the session of the download is.
   abbrev pub IsDownload : Session → Type 0
-  IsDownload Nobody = Unit {0}
-  IsDownload (Hosted h) = h.task ≡ plain
+  IsDownload NoLiveSession = Unit {0}
+  IsDownload (HostSession h) = h.task ≡ plain
 
-  settled_download : (h : HostState) (phase : Phase) → h.task ≡ plain → IsDownload (settled h phase).session
-  settled_download h (Over r) e = tt
-  settled_download h (OverUploaded kept) e = tt
-  settled_download h phase e = e
+  -- A settled session of a download is its own, or none.
+  settled_session_is_download : (h : HostState) (phase : Phase) → h.task ≡ plain → IsDownload (settled_session h phase).session
+  settled_session_is_download h (Over r) e = tt
+  settled_session_is_download h (OverUploaded kept) e = tt
+  settled_session_is_download h phase e = e
 
-  took_download : (phase : Phase) (heard : Heard) (left again : ℕ) → (heard ≡ Left → ⊥)
-      → IsDownload (took (host plain phase left again) heard).session
-  took_download phase heard left again never =
+  -- The session of a download after it heard something is its own, or none.
+  outcome_session_is_download : (phase : Phase) (heard : Heard) (left again : ℕ) → (heard ≡ Left → ⊥)
+      → IsDownload (host_outcome (host plain phase left again) heard).session
+  outcome_session_is_download phase heard left again never =
       let h = host plain phase left again in
-      settled_download (after h heard) (after h heard).phase
-      (after_task h heard never ∙ ap (λ (g : Goal). task_for c g) (stays_plain phase heard))
+      settled_session_is_download (after h heard) (after h heard).phase
+      (task_of_host_after_heard h heard never ∙ ap (λ (g : Goal). task_for c g) (load_goal_stays phase heard))
 
-  -- In its last phase a download ends with the next pass.
-  never_silent : (s : Situation) (r : Report) (left again : ℕ) (w' : Link)
-      → PassesTo c (record { device = s; session = Hosted (host plain (Last r) left again) }) w' silent → ⊥
-  never_silent s r left again w' f =
-      let e : Some r ≡ None = ap (λ (x : Played). x.answer.report) (f Works true) in absurd cc
+  -- In its last phase a download reports in the next pass.
+  last_pass_is_not_silent : (s : Situation) (r : Report) (left again : ℕ) (w' : Link)
+      → PassesTo c (record { device = s; session = HostSession (host plain (Last r) left again) }) w' silent → ⊥
+  last_pass_is_not_silent s r left again w' f =
+      let e : Some r ≡ None = ap (λ (x : PlayResult). x.answer.report) (f Works true) in absurd cc
 
   record Alike (w w' : Link) : Type 0 where
-    passes : PassesTo c (link_verified w) (link_verified w') silent
+    passes : PassesTo c (verified_link w) (verified_link w') silent
     stays : IsDownload w'.session
 
-  pass_alike : (s : Situation) (phase : Phase) (left again : ℕ) (w' : Link)
-      → PassesTo c (record { device = s; session = Hosted (host plain phase left again) }) w' silent
-      → Alike (record { device = s; session = Hosted (host plain phase left again) }) w'
-  pass_alike s (Last r) left again w' f = absurd (never_silent s r left again w' f)
-  pass_alike s phase left again w' f =
-      let d = acted c s (deed plain phase) (delivery_of Pass) Works Works in
+  -- A silent pass of a download is one of the verified download.
+  verified_pass_alike : (s : Situation) (phase : Phase) (left again : ℕ) (w' : Link)
+      → PassesTo c (record { device = s; session = HostSession (host plain phase left again) }) w' silent
+      → Alike (record { device = s; session = HostSession (host plain phase left again) }) w'
+  verified_pass_alike s (Last r) left again w' f = absurd (last_pass_is_not_silent s r left again w' f)
+  verified_pass_alike s phase left again w' f =
+      let d = action_result c s (deed plain phase) (delivery_of Pass) Works Works in
       record {
-        passes = λ other room. gone_alike s phase left again other room tt ∙ ap played_verified (f other room);
-        stays = subst IsDownload (ap (λ (x : Played). x.link.session) (f Works true))
-            (took_download phase (remembered d.heard (has_room phase true)) left again
-            (room_stays d.heard (has_room phase true) (pass_stays s (deed plain phase) Works Works)));
+        passes = λ other room. verified_action_alike s phase left again other room tt ∙ ap verified_play_result (f other room);
+        stays = subst IsDownload (ap (λ (x : PlayResult). x.link.session) (f Works true))
+            (outcome_session_is_download phase (heard_with_room d.heard (has_room phase true)) left again
+            (room_stays d.heard (has_room phase true) (pass_is_not_leaving s (deed plain phase) Works Works)));
       }
 
-  link_alike : (s : Situation) (session : Session) (w' : Link) → IsDownload session
+  -- A silent pass of a link with a download is one of the verified download.
+  verified_link_passes_alike : (s : Situation) (session : Session) (w' : Link) → IsDownload session
       → PassesTo c (record { device = s; session = session }) w' silent → Alike (record { device = s; session = session }) w'
-  link_alike s Nobody w' e f = record {
-    passes = λ other room. ap played_verified (f other room);
-    stays = subst (λ (z : Link). IsDownload z.session) (ap (λ (q : Played). q.link) (f Works true)) tt;
+  verified_link_passes_alike s NoLiveSession w' e f = record {
+    passes = λ other room. ap verified_play_result (f other room);
+    stays = subst (λ (z : Link). IsDownload z.session) (ap (λ (q : PlayResult). q.link) (f Works true)) tt;
   }
-  link_alike s (Hosted h) w' e f =
+  verified_link_passes_alike s (HostSession h) w' e f =
       let is : h ≡ host plain h.phase h.actions h.restarts = ap (λ (t : Task). host t h.phase h.actions h.restarts) e in
-      subst (λ (z : HostState). Alike (record { device = s; session = Hosted z }) w') (sym is)
-      (pass_alike s h.phase h.actions h.restarts w'
-      (subst (λ (z : HostState). PassesTo c (record { device = s; session = Hosted z }) w' silent) is f))
+      subst (λ (z : HostState). Alike (record { device = s; session = HostSession z }) w') (sym is)
+      (verified_pass_alike s h.phase h.actions h.restarts w'
+      (subst (λ (z : HostState). PassesTo c (record { device = s; session = HostSession z }) w' silent) is f))
 
-  -- Passes of a download that report nothing are passes of one that is to be verified.
-  pub verified_passes : {w w' : Link} {n : ℕ} → IsDownload w.session → Quietly c w n w' → Quietly c (link_verified w) n (link_verified w')
-  verified_passes e here = here
-  verified_passes {w = w} e (there {mid = mid} f q) =
-      let x = link_alike w.device w.session mid e f in there x.passes (verified_passes x.stays q)
+  -- Quiet passes of a download are quiet passes of the verified download.
+  pub verified_quiet_passes : {w w' : Link} {n : ℕ} → IsDownload w.session → QuietPasses c w n w'
+      → QuietPasses c (verified_link w) n (verified_link w')
+  verified_quiet_passes e here = here
+  verified_quiet_passes {w = w} e (there {mid = mid} f q) =
+      let x = verified_link_passes_alike w.device w.session mid e f in there x.passes (verified_quiet_passes x.stays q)

@@ -1,4 +1,4 @@
--- Images that a link keeps, whose device has a program that checks each one.
+-- Images of a link whose device has a program that checks each of them.
 use Rattle.std.specs.Prelude.{◌≡◌, ◌⊎◌, ℕ, Bool, true, List, [], ◌∷◌, Option, Result}
 use Rattle.dfu_slots.specs.Image.{Active}
 use Rattle.dfu_slots.specs.StoreView.{image_of}
@@ -7,50 +7,52 @@ use Rattle.dfu_sim.specs.declared.fault.LinkFault.{LinkFault}
 use Rattle.dfu_sim.specs.Happening.{Happening, Goes, Passes}
 use Rattle.dfu_sim.specs.LinkView.{WorldView}
 use Rattle.dfu_sim.specs.EventResults.{WorldEventResult}
-use Rattle.dfu_sim.specs.Headline.{Begun, WasOffered, IsWaiting, HeadlineStatement}
+use Rattle.dfu_sim.specs.Headline.{SessionBeginning, WasOffered, IsWaiting, HeadlineStatement}
 
--- An image that waits to be put in place may be put there by what happens: an action of the host, or a time that passes. All else puts none
--- in place: the program refuses the image, the bus is reset, the power goes, or nothing comes to the device.
-abbrev pub MayPlace : Happening → Type 0
-MayPlace (Goes fate harm) = Unit {0}
-MayPlace (Passes ms) = Unit {0}
-MayPlace h = ⊥
+-- An image that waits to be put in place may be put there by an action of the host or by a time that passes. Nothing else puts it in place:
+-- not a refusal by the program, a reset of the bus, a loss of power, or an event that does not reach the device.
+abbrev pub MayPlaceImage : Happening → Type 0
+MayPlaceImage (Goes fate harm) = Unit {0}
+MayPlaceImage (Passes ms) = Unit {0}
+MayPlaceImage h = ⊥
 
--- One thing that came to a link, what its caller got, and the link after it.
+-- A step of a link: an event that came, the answer that its caller got, and the link after it.
 pub record LinkStep : Type 0 where
   pub happening : Happening
   pub told : Result (Option Report) LinkFault
   pub after : WorldView
 
--- These came one after the other.
+-- The steps came one after the other, each on the link that the one before left.
 abbrev pub LinkStepsPlayed : WorldView → List LinkStep → WorldView → Type 0
 LinkStepsPlayed w [] w' = w' ≡ w
 LinkStepsPlayed w (s ∷ rest) w' = WorldEventResult w s.happening s.after s.told × LinkStepsPlayed s.after rest w'
 
--- The program heeds the check at a step: of an image that waits before what may put it in place, the check accepts it, or it waits
--- afterwards too.
-abbrev pub HeedsStep : (check : List ℕ → Bool) → WorldView → LinkStep → Type 0
-HeedsStep check w s = MayPlace s.happening → (t : List ℕ) → IsWaiting w.bench.device.stage t
+-- The program heeds the check at a step: an image that waits before a step that may put it in place is accepted, or it waits after the step
+-- too.
+abbrev pub HeedsCheckAtStep : (check : List ℕ → Bool) → WorldView → LinkStep → Type 0
+HeedsCheckAtStep check w s = MayPlaceImage s.happening → (t : List ℕ) → IsWaiting w.bench.device.stage t
     → (check t ≡ true) ⊎ IsWaiting s.after.bench.device.stage t
 
--- So it does at each of these steps. It does if the program refuses each image that the check refuses, in the close or right after it; or
--- later, but before an action or a time that would put it in place.
-abbrev pub HeedsSteps : (check : List ℕ → Bool) → WorldView → List LinkStep → Type 0
-HeedsSteps check w [] = Unit {0}
-HeedsSteps check w (s ∷ rest) = HeedsStep check w s × HeedsSteps check s.after rest
+-- The program heeds the check at each step. A program does so if it refuses each image that the check refuses: in the request that closes
+-- the download, right after it, or later, but before an action or a time that would put the image in place.
+abbrev pub HeedsCheckAtSteps : (check : List ℕ → Bool) → WorldView → List LinkStep → Type 0
+HeedsCheckAtSteps check w [] = Unit {0}
+HeedsCheckAtSteps check w (s ∷ rest) = HeedsCheckAtStep check w s × HeedsCheckAtSteps check s.after rest
 
 -- The image that a link shows.
-abbrev pub image_on : WorldView → List ℕ
-image_on w = image_of w.bench.device.slots
+abbrev pub image_of_world : WorldView → List ℕ
+image_of_world w = image_of w.bench.device.slots
 
--- Whatever comes to a link, and whatever the check is that its program heeds: the image is the one before, or one that the check accepts.
-abbrev pub LinkAccepts : Type 0
-LinkAccepts = (check : List ℕ → Bool) (w w' : WorldView) (steps : List LinkStep) → LinkStepsPlayed w steps w' → HeedsSteps check w steps
-    → (image_on w' ≡ image_on w) ⊎ (check (image_on w') ≡ true)
+-- Whatever events come to a link, and whatever check its program heeds, the image is the one before the events, or one that the check
+-- accepts.
+abbrev pub LinkImagesAccepted : Type 0
+LinkImagesAccepted = (check : List ℕ → Bool) (w w' : WorldView) (steps : List LinkStep) → LinkStepsPlayed w steps w' → HeedsCheckAtSteps check w steps
+    → (image_of_world w' ≡ image_of_world w) ⊎ (check (image_of_world w') ≡ true)
 
--- If the headline says what is active then, it is the factory image, or one whole payload that was offered and that the check accepts.
-abbrev pub OffersAccepted : Type 0
-OffersAccepted = (check : List ℕ → Bool) (w w' : WorldView) (steps : List LinkStep) (factory image : List ℕ) (past : List Begun)
-    (report : Option Report) → Active w.bench.device.slots.medium factory → LinkStepsPlayed w steps w' → HeedsSteps check w steps
+-- If the headline holds after the steps, the image is the factory image, or the whole payload of an offer, which the check accepts.
+abbrev pub OfferedImagesAccepted : Type 0
+OfferedImagesAccepted = (check : List ℕ → Bool) (w w' : WorldView) (steps : List LinkStep) (factory image : List ℕ) (past : List
+    SessionBeginning)
+    (report : Option Report) → Active w.bench.device.slots.medium factory → LinkStepsPlayed w steps w' → HeedsCheckAtSteps check w steps
     → HeadlineStatement factory past report w'.bench → Active w'.bench.device.slots.medium image
     → (image ≡ factory) ⊎ (WasOffered past image × (check image ≡ true))

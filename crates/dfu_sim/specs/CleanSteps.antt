@@ -4,27 +4,27 @@ use Rattle.dfu_host.specs.declared.limits.Limits.{Limits}
 use Rattle.dfu_host.specs.declared.report.Report.{Report}
 use Rattle.dfu_sim.specs.declared.offering.Purpose.{Purpose}
 use Rattle.dfu_sim.specs.declared.fault.LinkFault.{LinkFault}
-use Rattle.dfu_sim.specs.Session.{said}
+use Rattle.dfu_sim.specs.Session.{report_list}
 use Rattle.dfu_sim.specs.LinkView.{LinkView}
 use Rattle.dfu_sim.specs.Happening.{Happening}
 use Rattle.dfu_sim.specs.Refusing.{IsRefused}
 use Rattle.dfu_sim.specs.Sure.{IsSureEvent}
 use Rattle.dfu_sim.specs.CleanInstall.{clean_passes, CanInstall, offer_and_passes, InstallsCleanly}
 
--- Steps one after the other, with their reports: of each this is known by the clause `sure` of `World::step`.
+-- Steps in their order, with their reports; of each step the clause `sure` of `World::step` is known.
 pub data SureSteps : LinkView → List Happening → List Report → LinkView → Type 0 where
-  no_step : {b : LinkView} → SureSteps b [] [] b
+  no_sure_step : {b : LinkView} → SureSteps b [] [] b
   one_step : {b mid b' : LinkView} {h : Happening} {hs : List Happening} {report : Option Report} {reports : List Report}
-      → IsSureEvent b h mid report → SureSteps mid hs reports b' → SureSteps b (h ∷ hs) (said report ++ reports) b'
+      → IsSureEvent b h mid report → SureSteps mid hs reports b' → SureSteps b (h ∷ hs) (report_list report ++ reports) b'
 
--- Whatever memory there is: an offer and at most the passes of a clean run, let come by steps, report as a clean run does.
-abbrev pub StepsInstall : Type 0
-StepsInstall = (b b' : LinkView) (purpose : Purpose) (file : List ℕ) (limits : Limits) (payload : List ℕ) (count : ℕ)
+-- An offer and at most the passes of a clean run, each taken by `World::step`, report as a clean run does, whatever memory there is.
+abbrev pub StepsInstallCleanly : Type 0
+StepsInstallCleanly = (b b' : LinkView) (purpose : Purpose) (file : List ℕ) (limits : Limits) (payload : List ℕ) (count : ℕ)
     (reports : List Report)
     → CanInstall b purpose file limits payload → count ≤ clean_passes purpose b.device.config payload
     → SureSteps b (offer_and_passes purpose file limits count) reports b' → InstallsCleanly b purpose payload count reports b'
 
--- No such step is refused.
+-- No step of a clean run is refused.
 abbrev pub CleanStepsSucceed : Type 0
 CleanStepsSucceed = (b b' : LinkView) (purpose : Purpose) (file : List ℕ) (limits : Limits) (payload : List ℕ) (count at : ℕ)
     (reports : List Report)

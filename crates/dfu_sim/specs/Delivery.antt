@@ -1,13 +1,13 @@
--- Delivery of each fate, as data: what is said of plays computes on it.
+-- Delivery of each fate, as data, so that statements on plays compute on it.
 use Rattle.std.specs.Prelude.{Bool, true, false, Option, Some, None}
 use Rattle.dfu_device.specs.declared.objection.Objection.{Objection}
 use Rattle.dfu_sim.specs.declared.delivery.Handled.{Handled}
 use Rattle.dfu_sim.specs.declared.delivery.Handled.TheVariants.{Unseen, Once, Again, Late}
 use Rattle.dfu_sim.specs.declared.delivery.MediumFault.{MediumFault}
 use Rattle.dfu_sim.specs.declared.delivery.MediumFault.TheVariants.{NoWrite, CutsPower, FailsWrite, LiesInWrite}
-use Rattle.dfu_sim.specs.Happening.{Fate, Pass, LostOut, LostBack, Twice, TwiceLostBack, Slip, CutIn, Fail, Lie, Refusing}
+use Rattle.dfu_sim.specs.Happening.{Fate, Pass, LostOut, LostBack, Twice, TwiceLostBack, Slip, CutInWrite, Fail, Lie, Refusing}
 
--- The delivery of an action: what the device makes of a request, why its program refuses the image that the request closes, if it does,
+-- The delivery of an action: how the device handles a request, why its program refuses the image that the request closes, if it does,
 -- whether the answer comes back, and which write is harmed.
 pub record Delivery : Type 0 where
   pub handling : Handled
@@ -23,7 +23,7 @@ delivery_of LostBack = record { handling = Once; refusing = None; back = false; 
 delivery_of Twice = record { handling = Again; refusing = None; back = true; harming = NoWrite }
 delivery_of TwiceLostBack = record { handling = Again; refusing = None; back = false; harming = NoWrite }
 delivery_of (Slip ms) = record { handling = Late ms; refusing = None; back = true; harming = NoWrite }
-delivery_of CutIn = record { handling = Once; refusing = None; back = false; harming = CutsPower }
+delivery_of CutInWrite = record { handling = Once; refusing = None; back = false; harming = CutsPower }
 delivery_of Fail = record { handling = Once; refusing = None; back = true; harming = FailsWrite }
 delivery_of Lie = record { handling = Once; refusing = None; back = true; harming = LiesInWrite }
 delivery_of (Refusing why f) = record (delivery_of f) { refusing = Some why }

@@ -11,14 +11,14 @@ use Rattle.dfu_sim.specs.Happening.{Happening}
 use Rattle.dfu_sim.specs.LinkView.{WorldView}
 use Rattle.dfu_sim.specs.Following.{IsOfKind}
 
--- Events one after the other are of these kinds.
+-- Kinds of a list of events, one for each event, in their order.
 abbrev pub AreOfKinds : List Happening → List Kind → Type 0
 AreOfKinds [] [] = Unit {0}
 AreOfKinds (h ∷ hs) (kind ∷ kinds) = IsOfKind h kind × AreOfKinds hs kinds
 AreOfKinds hs kinds = ⊥
 
--- The session machine follows all that happens: it makes a legal run that says the reports in order, and agrees again, so that its active
--- image is that of the medium's bytes. The active image was theirs before, or is a whole payload that was offered so far.
+-- The session machine follows a run: it makes a legal run with the reports in their order, and then agrees with the link again, so its
+-- active image is that of the medium's bytes. The image was active before the run, or is the whole payload of a file offered so far.
 pub record IsFollowedRun (w : WorldView) (hs : List Happening) (reports : List Report) (w' : WorldView) (m : Machine) : Type 0 where
   pub kinds : List Kind
   pub are : AreOfKinds hs kinds
@@ -27,7 +27,8 @@ pub record IsFollowedRun (w : WorldView) (hs : List Happening) (reports : List R
   pub agrees : AgreesOn w'.bench w'.up after
   pub active : Active w.bench.device.slots.medium after.cur ⊎ IsOneOf after.cur after.offers
 
--- Each session machine that agrees follows a run, or what of it came before it stopped.
-abbrev pub AllFollowRun : WorldView → List Happening → WorldView → Result (Vec Report Global) Stop → Type 0
-AllFollowRun w hs w' (Ok reports) = (m : Machine) → AgreesOn w.bench w.up m → IsFollowedRun w hs reports.items w' m
-AllFollowRun w hs w' (Err stop) = (m : Machine) → AgreesOn w.bench w.up m → IsFollowedRun w (take stop.at hs) stop.reports.items w' m
+-- Each session machine that agrees with a world follows a run, up to where it stopped.
+abbrev pub AllMachinesFollowRun : WorldView → List Happening → WorldView → Result (Vec Report Global) Stop → Type 0
+AllMachinesFollowRun w hs w' (Ok reports) = (m : Machine) → AgreesOn w.bench w.up m → IsFollowedRun w hs reports.items w' m
+AllMachinesFollowRun w hs w' (Err stop) = (m : Machine) → AgreesOn w.bench w.up m →
+    IsFollowedRun w (take stop.at hs) stop.reports.items w' m

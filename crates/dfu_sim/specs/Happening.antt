@@ -9,9 +9,9 @@ use Rattle.dfu_sim.specs.declared.offering.Purpose.TheVariants.{Install, Verify}
 use Rattle.dfu_sim.specs.declared.event.Event.{Event as GivenEvent}
 use Rattle.dfu_sim.specs.declared.event.Event.TheVariants as event
 
--- Fate of one action of the host: it passes; its request or its answer is lost; it is handled twice, and then perhaps its answer is lost;
--- or time passes after it. Or the power is cut in it, at any write of the medium; or in it a write of the medium fails, or lies. Or it goes
--- as one of these, and the program of the device refuses the image that its request closes, if it closes one.
+-- Fate of one action of the host. The action passes; its request or its answer is lost; its request is handled twice, perhaps with the
+-- answer lost; or time passes after it. Or the power is cut at a write of the medium, or a write fails or lies. In any of these the
+-- device's program may refuse the image that the request closes.
 pub data Fate : Type 0 where
   Pass : Fate
   LostOut : Fate
@@ -19,37 +19,37 @@ pub data Fate : Type 0 where
   Twice : Fate
   TwiceLostBack : Fate
   Slip : (ms : ℕ) → Fate
-  CutIn : Fate
+  CutInWrite : Fate
   Fail : Fate
   Lie : Fate
   Refusing : (why : Objection) → (fate : Fate) → Fate
 
--- Harm of a write by a cut, a failure or a lie: after so many writes that work one leaves the first of these bytes.
-pub record Harm : Type 0 where
+-- Harm that a cut, a failure or a lie does to a write: the first `writes` writes work, and the next one leaves the first bytes of `tear`.
+pub record WriteHarm : Type 0 where
   pub writes : ℕ
   pub tear : List ℕ
 
--- An event, as its caller gives it; in a play the bytes of an offer are the payload. A file is offered to be installed, or to be installed
--- and verified. Between two actions the program of the device may refuse the image that was closed.
+-- An event of a link. In a play the bytes of an offer are the payload, else the file, which is offered to be installed, or to be installed
+-- and verified. Between two actions the device's program may refuse the closed image.
 pub data Happening : Type 0 where
   Offers : Purpose → (file : List ℕ) → Limits → Happening
   Uploads : Limits → Happening
   Aborts : Happening
-  Goes : Fate → Harm → Happening
+  Goes : Fate → WriteHarm → Happening
   Passes : (ms : ℕ) → Happening
   Resets : Happening
   Cuts : Happening
   Refuses : (why : Objection) → Happening
 
 -- No write is harmed.
-abbrev pub unharmed : Harm
-unharmed = record { writes = 0; tear = [] }
+abbrev pub no_write_harmed : WriteHarm
+no_write_harmed = record { writes = 0; tear = [] }
 
--- A write is harmed after so many that work, and leaves the first bytes of this tear. A medium keeps at most 4,096 bytes of it.
-abbrev pub harmed : (writes : ℕ) (tear : List ℕ) → Harm
+-- Harm of the write after the first `writes` ones, which leaves the first bytes of `tear`. A medium keeps at most 4,096 bytes of a tear.
+abbrev pub harmed : (writes : ℕ) (tear : List ℕ) → WriteHarm
 harmed writes tear = record { writes = writes; tear = take 4096 tear }
 
--- The fate that a caller names.
+-- Fate of the table for a fate that a caller gives.
 abbrev pub fate_of : GivenFate → Fate
 fate_of fate.Pass = Pass
 fate_of fate.LostOut = LostOut
@@ -57,30 +57,30 @@ fate_of fate.LostBack = LostBack
 fate_of fate.Twice = Twice
 fate_of fate.TwiceLostBack = TwiceLostBack
 fate_of (fate.Slip ms) = Slip ms
-fate_of (fate.Cut writes tear) = CutIn
+fate_of (fate.Cut writes tear) = CutInWrite
 fate_of (fate.Fail writes tear) = Fail
 fate_of (fate.Lie writes tear) = Lie
 
--- Harm that the fate that a caller names does to a write.
-abbrev pub harm_in : GivenFate → Harm
-harm_in (fate.Cut writes tear) = harmed writes tear.now
-harm_in (fate.Fail writes tear) = harmed writes tear.now
-harm_in (fate.Lie writes tear) = harmed writes tear.now
-harm_in f = unharmed
+-- Harm to a write, by the fate that a caller gives.
+abbrev pub harm_of_fate : GivenFate → WriteHarm
+harm_of_fate (fate.Cut writes tear) = harmed writes tear.now
+harm_of_fate (fate.Fail writes tear) = harmed writes tear.now
+harm_of_fate (fate.Lie writes tear) = harmed writes tear.now
+harm_of_fate f = no_write_harmed
 
--- This fate, in which the program of the device refuses the image that is closed, or refuses none.
-abbrev pub refused_in : Option Objection → Fate → Fate
-refused_in None f = f
-refused_in (Some why) f = Refusing why f
+-- A fate in which the device's program refuses the image that is closed, or refuses none.
+abbrev pub fate_with_refusal : Option Objection → Fate → Fate
+fate_with_refusal None f = f
+fate_with_refusal (Some why) f = Refusing why f
 
--- Meaning of the event that a caller names.
+-- Event of the table for an event that a caller gives.
 abbrev pub happening : GivenEvent → Happening
 happening (event.Offer file limits) = Offers Install file.now limits
 happening (event.OfferVerified file limits) = Offers Verify file.now limits
 happening (event.Upload limits) = Uploads limits
 happening event.Abort = Aborts
-happening (event.Go f) = Goes (fate_of f) (harm_in f)
-happening (event.GoRefused f why) = Goes (Refusing why (fate_of f)) (harm_in f)
+happening (event.Go f) = Goes (fate_of f) (harm_of_fate f)
+happening (event.GoRefused f why) = Goes (Refusing why (fate_of f)) (harm_of_fate f)
 happening (event.Time ms) = Passes ms
 happening event.Reset = Resets
 happening event.Cut = Cuts

@@ -5,17 +5,17 @@ use Rattle.dfu_slots.specs.StoreView.{image_of}
 use Rattle.dfu_device.specs.DeviceView.{DeviceView}
 use Rattle.dfu_host.specs.Host.{HostState}
 
--- The session that is live: none, or one with its host.
+-- A session of a link: none is live, or one is, with its host.
 pub data Session : Type 0 where
-  Nobody : Session
-  Hosted : HostState → Session
+  NoLiveSession : Session
+  HostSession : HostState → Session
 
 -- A session is live.
 abbrev pub IsLive : Session → Type 0
-IsLive Nobody = ⊥
-IsLive (Hosted h) = Unit {0}
+IsLive NoLiveSession = ⊥
+IsLive (HostSession h) = Unit {0}
 
--- A device on its medium, and the session that is live.
+-- A bench: a device on its medium, and the live session.
 pub record LinkView : Type 0 where
   pub device : DeviceView
   pub session : Session
@@ -24,11 +24,11 @@ pub record LinkView : Type 0 where
 abbrev pub BenchMatchesFlash : LinkView → Type 0
 BenchMatchesFlash b = Active b.device.slots.medium (image_of b.device.slots)
 
--- A link between events: its bench, and what the last reported upload gave.
+-- A link between events: its bench, and the bytes that the last reported upload gave.
 pub record WorldView : Type 0 where
   pub bench : LinkView
   pub up : List ℕ
 
--- A link of this bench, if this was given.
-abbrev pub linked : LinkView → List ℕ → WorldView
-linked b up = record { bench = b; up = up }
+-- A world of a bench and of the bytes that the last upload gave.
+abbrev pub world_of_bench : LinkView → List ℕ → WorldView
+world_of_bench b up = record { bench = b; up = up }

@@ -1,41 +1,41 @@
--- The table of fates: what an event of the link does to a device and a host, over the device table and the host table.
+-- The table of fates: an event of the link moves a device by the device table and a host by the host table.
 use Rattle.std.specs.Prelude.{◌≡◌, ℕ, ◌<◌, Bool, true, false, if◌then◌else◌, List, length, Option, Some, None}
 use Rattle.dfu_host.specs.declared.report.Report.{Report}
 use Rattle.dfu_host.specs.declared.report.Report.TheVariants.{Uploaded}
 use Rattle.dfu_device.specs.declared.objection.Objection.{Objection}
 use Rattle.dfu_device.specs.Stage.{Request, Dnload, Reply, Ack, StatusOf, StateOf, Data, Stall, Profile, Stage}
-use Rattle.dfu_device.specs.Table.{Plan, error, has_no_bytes, plan, objection_code, may_close, refuse_stage}
-use Rattle.dfu_device.specs.Outcome.{Situation, Luck, Works, outcome, handled, elapsed, was_reset, powered}
-use Rattle.dfu_device.specs.Rows.{meant}
-use Rattle.dfu_host.specs.Phases.{ToFetch, Phase, Fetch, Over, OverUploaded, Deed, Send, Wait, Reset, Done, Heard, Acked, Status, StateIs, Part, NoRoom, Stalled, Nothing, Waited, WasReset, Restarted}
+use Rattle.dfu_device.specs.Table.{Plan, error_plan, has_no_bytes, plan, objection_code, may_close, refuse_stage}
+use Rattle.dfu_device.specs.Outcome.{Situation, Luck, Works, plan_outcome, handled, situation_after_ms, after_reset, situation_after_power}
+use Rattle.dfu_device.specs.Rows.{request_for_table}
+use Rattle.dfu_host.specs.Phases.{FetchGoal, Phase, Fetch, Over, OverUploaded, Deed, Send, Wait, Reset, Done, Heard, Acked, Status, StateIs, Part, NoRoom, Stalled, Nothing, Waited, WasReset, Restarted}
 use Rattle.dfu_host.specs.Table.{deed}
-use Rattle.dfu_host.specs.Host.{HostState, after, aborted as host_aborted}
+use Rattle.dfu_host.specs.Host.{HostState, after, aborted_host as host_aborted}
 use Rattle.dfu_sim.specs.Opening.{goal_of_purpose, opened}
-use Rattle.dfu_sim.specs.Session.{Kind, AnOffer, AnUpload, AnAbort, ATime, ARestart, ARefusal, AGo}
+use Rattle.dfu_sim.specs.Session.{Kind, OfferKind, UploadKind, AbortKind, TimeKind, RestartKind, RefusalKind, ActionKind}
 use Rattle.dfu_sim.specs.Happening.{Fate, Happening, Offers, Uploads, Aborts, Goes, Passes, Resets, Cuts, Refuses}
 use Rattle.dfu_sim.specs.declared.delivery.Handled.{Handled}
 use Rattle.dfu_sim.specs.declared.delivery.Handled.TheVariants.{Unseen, Once, Again, Late}
 use Rattle.dfu_sim.specs.declared.delivery.MediumFault.{MediumFault}
 use Rattle.dfu_sim.specs.declared.delivery.MediumFault.TheVariants.{NoWrite, CutsPower, FailsWrite, LiesInWrite}
 use Rattle.dfu_sim.specs.Delivery.{Delivery, delivery_of}
-use Rattle.dfu_sim.specs.LinkView.{Session, Nobody, Hosted}
+use Rattle.dfu_sim.specs.LinkView.{Session, NoLiveSession, HostSession}
 
 -- The events, in which the bytes of an offer are its payload.
 
 -- Kind of an event for the session machine.
 abbrev pub kind_of : Happening → Kind
-kind_of (Offers purpose payload limits) = AnOffer payload
-kind_of (Uploads limits) = AnUpload
-kind_of Aborts = AnAbort
-kind_of (Goes fate harm) = AGo
-kind_of (Passes ms) = ATime
-kind_of Resets = ARestart
-kind_of Cuts = ARestart
-kind_of (Refuses why) = ARefusal
+kind_of (Offers purpose payload limits) = OfferKind payload
+kind_of (Uploads limits) = UploadKind
+kind_of Aborts = AbortKind
+kind_of (Goes fate harm) = ActionKind
+kind_of (Passes ms) = TimeKind
+kind_of Resets = RestartKind
+kind_of Cuts = RestartKind
+kind_of (Refuses why) = RefusalKind
 
 -- The link.
 
--- The link: a device in its situation, and the session that is live. The uploaded bytes go with the answer.
+-- The link: a device in its situation, and the live session. Uploaded bytes go with the answer.
 pub record Link : Type 0 where
   pub device : Situation
   pub session : Session
@@ -50,196 +50,223 @@ abbrev pub silent : Answered
 silent = record { report = None; gave = None }
 
 -- Bytes that the last reported upload gave, after an answer.
-abbrev pub given : Option (List ℕ) → List ℕ → List ℕ
-given None up = up
-given (Some bytes) up = bytes
+abbrev pub uploaded_after : Option (List ℕ) → List ℕ → List ℕ
+uploaded_after None up = up
+uploaded_after (Some bytes) up = bytes
 
--- The link after an event, and what it answers.
-pub record Played : Type 0 where
+-- Result of an event: the link after it, and its answer.
+pub record PlayResult : Type 0 where
   pub link : Link
   pub answer : Answered
 
--- Session after its host took something: it stays live, or it is over with its report.
-pub record Took : Type 0 where
+-- A session after its host took a result: it stays live, or it ended with a report.
+pub record HostOutcome : Type 0 where
   pub session : Session
   pub answer : Answered
 
--- A host that is done ends its session with its report, an upload with what it kept; any other stays live.
-abbrev pub settled : HostState → Phase → Took
-settled h (Over report) = record { session = Nobody; answer = record { report = Some report; gave = None } }
-settled h (OverUploaded kept) = record { session = Nobody; answer = record { report = Some Uploaded; gave = Some kept } }
-settled h phase = record { session = Hosted h; answer = silent }
+-- A host that is done ends its session with its report, and an upload with its bytes; any other host stays live.
+abbrev pub settled_session : HostState → Phase → HostOutcome
+settled_session h (Over report) = record { session = NoLiveSession; answer = record { report = Some report; gave = None } }
+settled_session h (OverUploaded kept) = record { session = NoLiveSession; answer = record { report = Some Uploaded; gave = Some kept } }
+settled_session h phase = record { session = HostSession h; answer = silent }
 
 -- The host takes what it hears, by its own table.
-abbrev pub took : HostState → Heard → Took
-took h heard = let h' = after h heard in settled h' h'.phase
+abbrev pub host_outcome : HostState → Heard → HostOutcome
+host_outcome h heard = let h' = after h heard in settled_session h' h'.phase
 
--- A live host hears at once of a restart that comes from outside.
-abbrev pub notify_restart : Session → Took
-notify_restart Nobody = record { session = Nobody; answer = silent }
-notify_restart (Hosted h) = took h Restarted
+-- A live host hears at once of a restart from outside.
+abbrev pub notify_restart : Session → HostOutcome
+notify_restart NoLiveSession = record { session = NoLiveSession; answer = silent }
+notify_restart (HostSession h) = host_outcome h Restarted
 
--- An abort reaches a live host, by the host's own rule.
+-- An abort gives a live host up.
 abbrev pub session_aborted : Session → Session
-session_aborted Nobody = Nobody
-session_aborted (Hosted h) = Hosted (host_aborted h)
+session_aborted NoLiveSession = NoLiveSession
+session_aborted (HostSession h) = HostSession (host_aborted h)
 
 -- One action.
 
--- Meaning that a host gives to a device's reply. A law says that the bytes of the reply are heard like this.
-abbrev pub heard_as : Reply → Heard
-heard_as Ack = Acked
-heard_as (StatusOf code poll state) = Status code poll state
-heard_as (StateOf state) = StateIs state
-heard_as (Data bytes) = Part bytes
-heard_as Stall = Stalled
+-- Meaning of a device's reply for a host. A law says that a host hears the bytes of the reply with this meaning.
+abbrev pub heard_of_reply : Reply → Heard
+heard_of_reply Ack = Acked
+heard_of_reply (StatusOf code poll state) = Status code poll state
+heard_of_reply (StateOf state) = StateIs state
+heard_of_reply (Data bytes) = Part bytes
+heard_of_reply Stall = Stalled
 
--- If there is no memory for a part of an upload, the host hears that instead.
-abbrev pub remembered : Heard → (room : Bool) → Heard
-remembered (Part bytes) false = NoRoom
-remembered heard room = heard
+-- Meaning of a part for which there is no memory: NoRoom. Any other meaning stays.
+abbrev pub heard_with_room : Heard → (room : Bool) → Heard
+heard_with_room (Part bytes) false = NoRoom
+heard_with_room heard room = heard
 
--- True if there is memory for what a phase keeps: only one that fetches a part of an upload needs any.
+-- A phase has memory for what it keeps. Only a phase that fetches a part of an upload needs any.
 abbrev pub has_room : Phase → (room : Bool) → Bool
 has_room (Fetch k kept) room = room
 has_room phase room = true
 
--- A request closes the download of this stage: a DNLOAD of no bytes, with as many bytes taken as an image has at least.
-abbrev pub closes : (least : ℕ) → Stage → Request → Bool
-closes least stage (Dnload number body) = if has_no_bytes body then may_close least stage else false
-closes least stage request = false
+-- A request closes the download of a stage: a DNLOAD of no bytes, once at least `least` bytes were taken.
+abbrev pub request_closes : (least : ℕ) → Stage → Request → Bool
+request_closes least stage (Dnload number body) = if has_no_bytes body then may_close least stage else false
+request_closes least stage request = false
 
--- The plan of a request: that of the table; or, if it closes a download and the program refuses the image, an error with the code of that.
-abbrev pub plan_by : Option Objection → Profile → List ℕ → Stage → Request → Plan
-plan_by None c image stage r = plan c image stage r
-plan_by (Some why) c image stage r = if closes c.least stage r then error (objection_code why) else plan c image stage r
+-- The plan of a request: the table's, or an error with the objection's code if the program refuses the image that the request closes.
+abbrev pub plan_with_refusal : Option Objection → Profile → List ℕ → Stage → Request → Plan
+plan_with_refusal None c image stage r = plan c image stage r
+plan_with_refusal (Some why) c image stage r = if request_closes c.least stage r then error_plan (objection_code why) else plan c image
+    stage r
 
--- The device after an action, and what the host hears of it; after a cut it hears only of the restart.
-pub record Passed : Type 0 where
+-- Result of an action: the device after it, and what the host hears; after a cut it hears only of the restart.
+pub record ActionResult : Type 0 where
   pub device : Situation
   pub heard : Heard
 
--- A request that the table answers by this plan: the device after it, and what its host hears if the answer comes back. The medium's
--- luck is said for the first and for the second thing that the device does.
-abbrev pub reached : Profile → Situation → Request → Plan → Handled → (first second : Luck) → Passed
+-- Result of a request, which the table answers by a plan, if the answer comes back. The medium has a first luck for the first act of the
+-- device, and a second one for the other.
+abbrev pub reached : Profile → Situation → Request → Plan → Handled → (first second : Luck) → ActionResult
 reached c s r p Unseen l k = record { device = s; heard = Nothing }
-reached c s r p Once l k = let o = outcome s.image p l in record { device = o.after; heard = heard_as o.reply }
-reached c s r p Again l k = let o = handled c (outcome s.image p l).after r k in record { device = o.after; heard = heard_as o.reply }
-reached c s r p (Late ms) l k = let o = outcome s.image p l in record { device = elapsed c o.after ms k; heard = heard_as o.reply }
+reached c s r p Once l k = let o = plan_outcome s.image p l in record { device = o.after; heard = heard_of_reply o.reply }
+reached c s r p Again l k = let o = handled c (plan_outcome s.image p l).after r k in record {
+  device = o.after;
+  heard = heard_of_reply
+      o.reply;
+}
+reached c s r p (Late ms) l k = let o = plan_outcome s.image p l in record {
+  device = situation_after_ms c o.after ms k;
+  heard =
+      heard_of_reply o.reply;
+}
 
--- Meaning that comes back, or nothing if it does not.
+-- A meaning comes back, or nothing does.
 abbrev pub heard_back : Bool → Heard → Heard
 heard_back true heard = heard
 heard_back false heard = Nothing
 
--- Meaning of an action once it is over: if the power was cut, only the restart is heard.
-abbrev pub heard_over : MediumFault → Heard → Heard
-heard_over NoWrite heard = heard
-heard_over CutsPower heard = Restarted
-heard_over FailsWrite heard = heard
-heard_over LiesInWrite heard = heard
+-- Meaning of an action once it is over: after a cut of the power, the host hears only of the restart.
+abbrev pub heard_after_action : MediumFault → Heard → Heard
+heard_after_action NoWrite heard = heard
+heard_after_action CutsPower heard = Restarted
+heard_after_action FailsWrite heard = heard
+heard_after_action LiesInWrite heard = heard
 
--- The device once an action is over: if the power was cut, it starts again.
-abbrev pub over : MediumFault → Situation → Situation
-over NoWrite s = s
-over CutsPower s = powered s
-over FailsWrite s = s
-over LiesInWrite s = s
+-- The situation once an action is over: after a cut of the power the device starts again.
+abbrev pub situation_after_harm : MediumFault → Situation → Situation
+situation_after_harm NoWrite s = s
+situation_after_harm CutsPower s = situation_after_power s
+situation_after_harm FailsWrite s = s
+situation_after_harm LiesInWrite s = s
 
--- The end of an action.
-abbrev pub ends_by : MediumFault → Passed → Passed
-ends_by harming d = record { device = over harming d.device; heard = heard_over harming d.heard }
+-- Result of an action at its end.
+abbrev pub action_end_by_harm : MediumFault → ActionResult → ActionResult
+action_end_by_harm harming d = record { device = situation_after_harm harming d.device; heard = heard_after_action harming d.heard }
 
--- The time that passes in a wait: another one if a time slips in.
-abbrev pub waits_for : Handled → ℕ → ℕ
-waits_for Unseen ms = ms
-waits_for Once ms = ms
-waits_for Again ms = ms
-waits_for (Late other) ms = other
+-- Time that passes in a wait; a time that slips in replaces the wait.
+abbrev pub wait_by_handling : Handled → ℕ → ℕ
+wait_by_handling Unseen ms = ms
+wait_by_handling Once ms = ms
+wait_by_handling Again ms = ms
+wait_by_handling (Late other) ms = other
 
--- The time that slips in after a reset of the bus, or none.
-abbrev pub slipped : Profile → Situation → Handled → Luck → Situation
-slipped c s Unseen l = s
-slipped c s Once l = s
-slipped c s Again l = s
-slipped c s (Late ms) l = elapsed c s ms l
+-- Situation after the time that slips in after a reset of the bus, if one does.
+abbrev pub situation_after_slip : Profile → Situation → Handled → Luck → Situation
+situation_after_slip c s Unseen l = s
+situation_after_slip c s Once l = s
+situation_after_slip c s Again l = s
+situation_after_slip c s (Late ms) l = situation_after_ms c s ms l
 
--- A request by its delivery, if the table answers it by this plan.
-abbrev pub sent_by : Profile → Situation → Request → Plan → Delivery → (first second : Luck) → Passed
-sent_by c s r p delivery l k = let d = reached c s r p delivery.handling l k in
-    ends_by delivery.harming (record { device = d.device; heard = heard_back delivery.back d.heard })
+-- Result of a request by its delivery, if the table answers it by a plan.
+abbrev pub send_result_by : Profile → Situation → Request → Plan → Delivery → (first second : Luck) → ActionResult
+send_result_by c s r p delivery l k = let d = reached c s r p delivery.handling l k in
+    action_end_by_harm delivery.harming (record { device = d.device; heard = heard_back delivery.back d.heard })
 
--- A request, by its delivery. Of two the program refuses at most the first.
-abbrev pub sent : Profile → Situation → Request → Delivery → (first second : Luck) → Passed
-sent c s r delivery l k = sent_by c s r (plan_by delivery.refusing c s.image s.stage r) delivery l k
+-- Result of a request by its delivery. If it comes twice, the program refuses at most the first.
+abbrev pub send_result : Profile → Situation → Request → Delivery → (first second : Luck) → ActionResult
+send_result c s r delivery l k = send_result_by c s r (plan_with_refusal delivery.refusing c s.image s.stage r) delivery l k
 
--- A wait, by its delivery.
-abbrev pub waited : Profile → Situation → ℕ → Delivery → Luck → Passed
-waited c s ms delivery l = ends_by delivery.harming (record { device = elapsed c s (waits_for delivery.handling ms) l; heard = Waited })
+-- Result of a wait by its delivery.
+abbrev pub waited : Profile → Situation → ℕ → Delivery → Luck → ActionResult
+waited c s ms delivery l = action_end_by_harm delivery.harming (record {
+  device = situation_after_ms c s (wait_by_handling
+      delivery.handling ms) l;
+  heard = Waited;
+})
 
--- A reset of the bus by the host, by its delivery.
-abbrev pub bus_reset : Profile → Situation → Delivery → Luck → Passed
-bus_reset c s delivery l = ends_by delivery.harming (record { device = slipped c (was_reset s) delivery.handling l; heard = WasReset })
+-- Result of the host's reset of the bus, by its delivery.
+abbrev pub bus_reset : Profile → Situation → Delivery → Luck → ActionResult
+bus_reset c s delivery l = action_end_by_harm delivery.harming (record {
+  device = situation_after_slip c (after_reset s) delivery.handling
+      l;
+  heard = WasReset;
+})
 
--- An action of the host, by its delivery. A host that is done has none.
-abbrev pub acted : Profile → Situation → Deed → Delivery → (first second : Luck) → Passed
-acted c s (Send q body) delivery l k = sent c s (meant q body) delivery l k
-acted c s (Wait ms) delivery l k = waited c s ms delivery l
-acted c s Reset delivery l k = bus_reset c s delivery l
-acted c s (Done report) delivery l k = record { device = s; heard = Nothing }
+-- Result of an action of the host by its delivery. A host that is done has no action.
+abbrev pub action_result : Profile → Situation → Deed → Delivery → (first second : Luck) → ActionResult
+action_result c s (Send q body) delivery l k = send_result c s (request_for_table q body) delivery l k
+action_result c s (Wait ms) delivery l k = waited c s ms delivery l
+action_result c s Reset delivery l k = bus_reset c s delivery l
+action_result c s (Done report) delivery l k = record { device = s; heard = Nothing }
 
 -- The rows.
 
--- The host's next action, by its fate; the host takes what it hears.
-abbrev pub gone : Profile → Link → Session → Fate → (first second : Luck) → (room : Bool) → Played
-gone c w Nobody fate l k room = record { link = w; answer = silent }
-gone c w (Hosted h) fate l k room =
-    let d = acted c w.device (deed h.task h.phase) (delivery_of fate) l k in
-    let t = took h (remembered d.heard (has_room h.phase room)) in
+-- Result of the host's next action, by its fate; the host takes what it hears.
+abbrev pub go_result : Profile → Link → Session → Fate → (first second : Luck) → (room : Bool) → PlayResult
+go_result c w NoLiveSession fate l k room = record { link = w; answer = silent }
+go_result c w (HostSession h) fate l k room =
+    let d = action_result c w.device (deed h.task h.phase) (delivery_of fate) l k in
+    let t = host_outcome h (heard_with_room d.heard (has_room h.phase room)) in
     record { link = record { device = d.device; session = t.session }; answer = t.answer }
 
--- A restart that comes from outside: the device is in this situation, and a live host hears of it.
-abbrev pub restarted_to : Situation → Session → Played
-restarted_to s session = let t = notify_restart session in record { link = record { device = s; session = t.session }; answer = t.answer }
+-- Result of a restart from outside: the device is in this situation, and a live host hears of the restart.
+abbrev pub restart_play_result : Situation → Session → PlayResult
+restart_play_result s session = let t = notify_restart session in record {
+  link = record { device = s; session = t.session };
+  answer =
+      t.answer;
+}
 
--- The device once its program has refused the image that was closed, if one was.
-abbrev pub image_refused : Objection → Situation → Situation
-image_refused why s = record { image = s.image; stage = refuse_stage why s.stage }
+-- Situation once the device's program has refused the closed image, if one was closed.
+abbrev pub situation_after_refusal : Objection → Situation → Situation
+situation_after_refusal why s = record { image = s.image; stage = refuse_stage why s.stage }
 
 -- Each event. The harm that an action does to a write is in the luck of the medium. Between actions the medium is not armed, so that it
 -- works while time passes.
-abbrev pub played : Profile → Link → Happening → (first second : Luck) → (room : Bool) → Played
-played c w (Offers purpose payload limits) l k room = record {
+abbrev pub play_of_event : Profile → Link → Happening → (first second : Luck) → (room : Bool) → PlayResult
+play_of_event c w (Offers purpose payload limits) l k room = record {
   link = record { device = w.device; session = opened c (goal_of_purpose purpose payload) limits.actions limits.restarts };
   answer = silent;
 }
-played c w (Uploads limits) l k room =
-    record { link = record { device = w.device; session = opened c ToFetch limits.actions limits.restarts }; answer = silent }
-played c w Aborts l k room = record { link = record { device = w.device; session = session_aborted w.session }; answer = silent }
-played c w (Goes fate harm) l k room = gone c w w.session fate l k room
-played c w (Passes ms) l k room = record { link = record { device = elapsed c w.device ms Works; session = w.session }; answer = silent }
-played c w Resets l k room = restarted_to (was_reset w.device) w.session
-played c w Cuts l k room = restarted_to (powered w.device) w.session
-played c w (Refuses why) l k room = record { link = record { device = image_refused why w.device; session = w.session }; answer = silent }
+play_of_event c w (Uploads limits) l k room =
+    record { link = record { device = w.device; session = opened c FetchGoal limits.actions limits.restarts }; answer = silent }
+play_of_event c w Aborts l k room = record { link = record { device = w.device; session = session_aborted w.session }; answer = silent }
+play_of_event c w (Goes fate harm) l k room = go_result c w w.session fate l k room
+play_of_event c w (Passes ms) l k room = record {
+  link = record { device = situation_after_ms c w.device ms Works; session = w.session };
+  answer = silent;
+}
+play_of_event c w Resets l k room = restart_play_result (after_reset w.device) w.session
+play_of_event c w Cuts l k room = restart_play_result (situation_after_power w.device) w.session
+play_of_event c w (Refuses why) l k room = record {
+  link = record { device = situation_after_refusal why w.device; session = w.session };
+  answer = silent;
+}
 
--- An event that is not refused: a session begins only if none is live, and no offer is empty; an abort and an action need a live one.
+-- An event may happen: a session begins only while none is live, and no offer is empty; an abort and an action need a live session.
 abbrev pub MayHappen : Session → Happening → Type 0
-MayHappen Nobody (Offers purpose payload limits) = 0 < length payload
-MayHappen Nobody (Uploads limits) = Unit {0}
-MayHappen Nobody Aborts = ⊥
-MayHappen Nobody (Goes fate harm) = ⊥
-MayHappen Nobody (Passes ms) = Unit {0}
-MayHappen Nobody Resets = Unit {0}
-MayHappen Nobody Cuts = Unit {0}
-MayHappen Nobody (Refuses why) = Unit {0}
-MayHappen (Hosted h) (Offers purpose payload limits) = ⊥
-MayHappen (Hosted h) (Uploads limits) = ⊥
-MayHappen (Hosted h) Aborts = Unit {0}
-MayHappen (Hosted h) (Goes fate harm) = Unit {0}
-MayHappen (Hosted h) (Passes ms) = Unit {0}
-MayHappen (Hosted h) Resets = Unit {0}
-MayHappen (Hosted h) Cuts = Unit {0}
-MayHappen (Hosted h) (Refuses why) = Unit {0}
+MayHappen NoLiveSession (Offers purpose payload limits) = 0 < length payload
+MayHappen NoLiveSession (Uploads limits) = Unit {0}
+MayHappen NoLiveSession Aborts = ⊥
+MayHappen NoLiveSession (Goes fate harm) = ⊥
+MayHappen NoLiveSession (Passes ms) = Unit {0}
+MayHappen NoLiveSession Resets = Unit {0}
+MayHappen NoLiveSession Cuts = Unit {0}
+MayHappen NoLiveSession (Refuses why) = Unit {0}
+MayHappen (HostSession h) (Offers purpose payload limits) = ⊥
+MayHappen (HostSession h) (Uploads limits) = ⊥
+MayHappen (HostSession h) Aborts = Unit {0}
+MayHappen (HostSession h) (Goes fate harm) = Unit {0}
+MayHappen (HostSession h) (Passes ms) = Unit {0}
+MayHappen (HostSession h) Resets = Unit {0}
+MayHappen (HostSession h) Cuts = Unit {0}
+MayHappen (HostSession h) (Refuses why) = Unit {0}
 
 -- A play: an event that is not refused, at some luck of the medium and with or without memory for a part of an upload.
 pub record Play (c : Profile) (w : Link) (event : Happening) (w' : Link) (answer : Answered) : Type 0 where
@@ -247,4 +274,4 @@ pub record Play (c : Profile) (w : Link) (event : Happening) (w' : Link) (answer
   pub first : Luck
   pub second : Luck
   pub room : Bool
-  pub same : played c w event first second room ≡ record { link = w'; answer = answer }
+  pub same : play_of_event c w event first second room ≡ record { link = w'; answer = answer }

@@ -13,15 +13,15 @@ use Rattle.dfu_sim.specs.declared.fault.LinkFault.{LinkFault}
 use Rattle.dfu_sim.specs.declared.fault.LinkFault.TheVariants as link_fault
 use Rattle.dfu_sim.specs.declared.fault.OfferFault.{OfferFault}
 use Rattle.dfu_sim.specs.declared.fault.OfferFault.TheVariants as offer_fault
-use Rattle.dfu_sim.specs.LinkView.{Nobody, IsLive, LinkView}
+use Rattle.dfu_sim.specs.LinkView.{NoLiveSession, IsLive, LinkView}
 use Rattle.dfu_sim.specs.Happening.{Happening, Offers, Uploads, Aborts, Goes}
 
--- The first fault of a session with which this is offered to a device of this descriptor.
+-- The first fault of a session that an offer would begin, by the file's content and by the device's descriptor and identifiers.
 abbrev pub first_offer_fault : Purpose → Content → Functional → Ids → Option HostFault
 first_offer_fault Install file functional device = first_download_fault file functional device
 first_offer_fault Verify file functional device = first_verify_fault file functional device
 
--- The bytes are a file with this payload that a device of these settings takes: a file of the grammar, and no fault of the session.
+-- A device with this setting takes the file: its bytes follow the grammar, it has this payload, and the session has no fault.
 pub record IsOffered (s : Setting) (purpose : Purpose) (file payload : List ℕ) : Type 0 where
   pub ids : Ids
   pub dfu : ℕ
@@ -30,34 +30,35 @@ pub record IsOffered (s : Setting) (purpose : Purpose) (file payload : List ℕ)
   pub taken : first_offer_fault purpose (record { payload = payload; ids = ids; dfu = dfu; suffix = 16 + length extra }) s.functional
       s.ids ≡ None
 
--- The bytes are a file of the grammar with these contents.
+-- The bytes follow the grammar of DFU files and have this content.
 pub record ContentOfFile (file : List ℕ) (content : Content) : Type 0 where
   pub extra : List ℕ
   pub reads : IsFile content.payload content.ids content.dfu extra file
   pub suffix : content.suffix ≡ 16 + length extra
 
--- An offer is refused for this: the first fault of the bytes, or the first fault of the session that would begin.
+-- An offer is refused with a fault: the first fault of the bytes, or the first fault of the session that would begin.
 abbrev pub IsBadOffer : Setting → Purpose → List ℕ → OfferFault → Type 0
 IsBadOffer s purpose file (offer_fault.Suffix fault) = First fault file
 IsBadOffer s purpose file (offer_fault.Host fault) = (content : Content) × ContentOfFile file content
     × (first_offer_fault purpose content s.functional s.ids ≡ Some fault)
 
--- A device of these settings gives its image: no fault of an upload.
+-- A device with this setting gives its image, because an upload from it has no fault.
 abbrev pub ServesUpload : Setting → Type 0
 ServesUpload s = first_upload_fault s.functional ≡ None
 
--- An upload is refused for this: its first fault, by the device's descriptor.
+-- The first fault of an upload from a device with this setting, by its descriptor.
 abbrev pub IsBadUpload : Setting → OfferFault → Type 0
 IsBadUpload s (offer_fault.Suffix fault) = ⊥
 IsBadUpload s (offer_fault.Host fault) = first_upload_fault s.functional ≡ Some fault
 
--- When an event is refused: an offer or an upload while a session is live, and an abort or an action while none is. While none is, an
--- offer of a file that is not taken is refused too, and an upload from a device that gives no image.
+-- An event is refused: an offer or an upload while a session is live, and an abort or an action while none is. While none is, an offer of a
+-- file that is not taken, and an upload from a device that gives no image, are refused too.
 abbrev pub IsRefused : LinkView → Happening → LinkFault → Type 0
 IsRefused b (Offers purpose file limits) link_fault.HostBusy = IsLive b.session
-IsRefused b (Offers purpose file limits) (link_fault.BadOffer fault) = (b.session ≡ Nobody) × IsBadOffer b.device.config purpose file fault
+IsRefused b (Offers purpose file limits) (link_fault.BadOffer fault) = (b.session ≡ NoLiveSession)
+    × IsBadOffer b.device.config purpose file fault
 IsRefused b (Uploads limits) link_fault.HostBusy = IsLive b.session
-IsRefused b (Uploads limits) (link_fault.BadOffer fault) = (b.session ≡ Nobody) × IsBadUpload b.device.config fault
-IsRefused b Aborts link_fault.NoHost = b.session ≡ Nobody
-IsRefused b (Goes f harm) link_fault.NoHost = b.session ≡ Nobody
+IsRefused b (Uploads limits) (link_fault.BadOffer fault) = (b.session ≡ NoLiveSession) × IsBadUpload b.device.config fault
+IsRefused b Aborts link_fault.NoHost = b.session ≡ NoLiveSession
+IsRefused b (Goes f harm) link_fault.NoHost = b.session ≡ NoLiveSession
 IsRefused b h fault = ⊥

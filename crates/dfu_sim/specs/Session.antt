@@ -1,46 +1,47 @@
--- The session machine: what a user of the link relies on, with no state of the standard, no stall, no timer and no slot in it.
+-- The session machine: everything on which a user of the link relies, without a state of the standard, a stall, a timer or a slot.
 use Rattle.std.specs.Prelude.{◌≡◌, ◌≢◌, ◌⊎◌, ℕ, suc, ◌<◌, Bool, IsTrue, List, [], ◌∷◌, ◌++◌, length, Option, Some, None}
 use Rattle.dfu_host.specs.declared.report.Report.{Report}
 use Rattle.dfu_host.specs.declared.report.Report.TheVariants.{Installed, Unconfirmed, Aborted, GaveUp, Refused, RestartsSpent, Uploaded, TooManyBlocks, NoMemory, Verified, Different}
-use Rattle.dfu_host.specs.Blocks.{blocks, first}
+use Rattle.dfu_host.specs.Blocks.{blocks, first_blocks}
 
--- The session that is live: none, one that installs a payload, or one that uploads the active image.
-pub data Live : Type 0 where
-  NoOne : Live
-  Loading : (payload : List ℕ) → Live
-  Fetching : Live
+-- The live session of a machine: none, one that installs a payload, or one that uploads the active image.
+pub data LiveSession : Type 0 where
+  NothingLive : LiveSession
+  LoadingPayload : (payload : List ℕ) → LiveSession
+  Fetching : LiveSession
 
 -- The session machine.
 pub record Machine : Type 0 where
   pub cur : List ℕ  -- the active image
   pub offers : List (List ℕ)  -- the payloads that were offered so far
   pub pending : Option (List ℕ)  -- the bytes taken of an image, or none
-  pub live : Live  -- the session that is live
+  pub live : LiveSession  -- the session that is live
   pub up : List ℕ  -- what the last reported upload gave
 
--- These bytes are one of those.
+-- The bytes are an element of the list.
 abbrev pub IsOneOf : List ℕ → List (List ℕ) → Type 0
 IsOneOf x [] = ⊥
 IsOneOf x (y ∷ ys) = (x ≡ y) ⊎ IsOneOf x ys
 
 -- The pending bytes are the first n blocks of the payload joined, and none are pending if n is 0.
-abbrev pub IsFirst : List ℕ → (t n : ℕ) → Option (List ℕ) → Type 0
-IsFirst p t n None = n ≡ 0
-IsFirst p t n (Some taken) = (0 < n) × (taken ≡ first p t n)
+abbrev pub AreFirstBlocks : List ℕ → (t n : ℕ) → Option (List ℕ) → Type 0
+AreFirstBlocks p t n None = n ≡ 0
+AreFirstBlocks p t n (Some taken) = (0 < n) × (taken ≡ first_blocks p t n)
 
 -- The steps.
 
 -- Take, Install, or neither. A block is taken only of the live payload, as the next one; only a whole payload that was offered is
 -- installed.
-pub data Begins (t : ℕ) : Machine → Machine → Type 0 where
-  begins_not : {m : Machine} → Begins t m m
-  takes : {m : Machine} {p : List ℕ} (n : ℕ) → m.live ≡ Loading p → n < length (blocks p t) → IsFirst p t n m.pending
-      → Begins t m (record m { pending = Some (first p t (suc n)) })
-  installs : {m : Machine} {x : List ℕ} → m.pending ≡ Some x → IsOneOf x m.offers → Begins t m (record m { cur = x; pending = None })
+pub data TakesOrInstalls (t : ℕ) : Machine → Machine → Type 0 where
+  takes_nothing : {m : Machine} → TakesOrInstalls t m m
+  takes : {m : Machine} {p : List ℕ} (n : ℕ) → m.live ≡ LoadingPayload p → n < length (blocks p t) → AreFirstBlocks p t n m.pending
+      → TakesOrInstalls t m (record m { pending = Some (first_blocks p t (suc n)) })
+  installs : {m : Machine} {x : List ℕ} → m.pending ≡ Some x → IsOneOf x m.offers
+      → TakesOrInstalls t m (record m { cur = x; pending = None })
 
--- Drop, so that what was pending is forgotten, or not.
+-- Drop: the pending bytes are forgotten, or stay.
 pub data MayDrop : Machine → Machine → Type 0 where
-  ends_not : {m : Machine} → MayDrop m m
+  drops_nothing : {m : Machine} → MayDrop m m
   drops : {m : Machine} → MayDrop m (record m { pending = None })
 
 -- A report that promises nothing: any but Installed, Uploaded and Verified.
@@ -61,27 +62,27 @@ PromisesNothing Different = Unit {0}
 -- and Installed only if besides the device is tolerant. Uploaded gives the active image. Another report needs a live session and
 -- promises nothing.
 pub data ReportStep (tolerant : Bool) : Machine → Option Report → Machine → Type 0 where
-  says_not : {m : Machine} → ReportStep tolerant m None m
-  says_installed : {m : Machine} → m.live ≡ Loading m.cur → m.pending ≡ None → IsTrue tolerant
-      → ReportStep tolerant m (Some Installed) (record m { live = NoOne })
-  says_verified : {m : Machine} → m.live ≡ Loading m.cur → m.pending ≡ None →
-      ReportStep tolerant m (Some Verified) (record m { live = NoOne })
-  says_uploaded : {m : Machine} → m.live ≡ Fetching → ReportStep tolerant m (Some Uploaded) (record m { live = NoOne; up = m.cur })
-  says_other : {m : Machine} {report : Report} → PromisesNothing report → m.live ≢ NoOne
-      → ReportStep tolerant m (Some report) (record m { live = NoOne })
+  reports_nothing : {m : Machine} → ReportStep tolerant m None m
+  reports_installed : {m : Machine} → m.live ≡ LoadingPayload m.cur → m.pending ≡ None → IsTrue tolerant
+      → ReportStep tolerant m (Some Installed) (record m { live = NothingLive })
+  reports_verified : {m : Machine} → m.live ≡ LoadingPayload m.cur → m.pending ≡ None →
+      ReportStep tolerant m (Some Verified) (record m { live = NothingLive })
+  reports_uploaded : {m : Machine} → m.live ≡ Fetching → ReportStep tolerant m (Some Uploaded) (record m { live = NothingLive; up = m.cur })
+  reports_no_promise : {m : Machine} {report : Report} → PromisesNothing report → m.live ≢ NothingLive
+      → ReportStep tolerant m (Some report) (record m { live = NothingLive })
 
 -- Permissions of an event.
 
 -- The kinds of events: an offer of a payload, the begin of an upload, an abort, a time that passes, a restart of the device, a refusal by
 -- the device's program, and one action of the host.
 pub data Kind : Type 0 where
-  AnOffer : (payload : List ℕ) → Kind
-  AnUpload : Kind
-  AnAbort : Kind
-  ATime : Kind
-  ARestart : Kind
-  ARefusal : Kind
-  AGo : Kind
+  OfferKind : (payload : List ℕ) → Kind
+  UploadKind : Kind
+  AbortKind : Kind
+  TimeKind : Kind
+  RestartKind : Kind
+  RefusalKind : Kind
+  ActionKind : Kind
 
 -- A report that says that the payload is in place: Installed or Verified.
 abbrev pub IsInPlaceReport : Option Report → Type 0
@@ -98,28 +99,28 @@ ReportsNoPromise (Some report) = PromisesNothing report
 -- time installs what is pending, or nothing. A restart drops, then says at most a report that promises nothing. A refusal drops, or does
 -- nothing. An action of the host takes or installs at most once, then drops or not, then says at most one report.
 pub data MachineStep (tolerant : Bool) (t : ℕ) : Kind → Machine → Option Report → Machine → Type 0 where
-  offered : {m : Machine} {p : List ℕ} → m.live ≡ NoOne
-      → MachineStep tolerant t (AnOffer p) m None (record m { offers = p ∷ m.offers; live = Loading p })
-  uploads : {m : Machine} → m.live ≡ NoOne → MachineStep tolerant t AnUpload m None (record m { live = Fetching })
-  aborts : {m : Machine} → MachineStep tolerant t AnAbort m None m
-  passes : {m : Machine} → MachineStep tolerant t ATime m None m
-  passes_installed : {m : Machine} {x : List ℕ} → m.pending ≡ Some x → IsOneOf x m.offers
-      → MachineStep tolerant t ATime m None (record m { cur = x; pending = None })
+  offered : {m : Machine} {p : List ℕ} → m.live ≡ NothingLive
+      → MachineStep tolerant t (OfferKind p) m None (record m { offers = p ∷ m.offers; live = LoadingPayload p })
+  uploads : {m : Machine} → m.live ≡ NothingLive → MachineStep tolerant t UploadKind m None (record m { live = Fetching })
+  aborts : {m : Machine} → MachineStep tolerant t AbortKind m None m
+  passes : {m : Machine} → MachineStep tolerant t TimeKind m None m
+  time_installs_pending : {m : Machine} {x : List ℕ} → m.pending ≡ Some x → IsOneOf x m.offers
+      → MachineStep tolerant t TimeKind m None (record m { cur = x; pending = None })
   restarts : {m m' : Machine} {report : Option Report} → ReportStep tolerant (record m { pending = None }) report m'
       → ReportsNoPromise report
-      → MachineStep tolerant t ARestart m report m'
-  refuses : {m m' : Machine} → MayDrop m m' → MachineStep tolerant t ARefusal m None m'
-  goes : {m m1 m2 m' : Machine} {report : Option Report} → Begins t m m1 → MayDrop m1 m2 → ReportStep tolerant m2 report m'
-      → MachineStep tolerant t AGo m report m'
+      → MachineStep tolerant t RestartKind m report m'
+  refuses : {m m' : Machine} → MayDrop m m' → MachineStep tolerant t RefusalKind m None m'
+  goes : {m m1 m2 m' : Machine} {report : Option Report} → TakesOrInstalls t m m1 → MayDrop m1 m2 → ReportStep tolerant m2 report m'
+      → MachineStep tolerant t ActionKind m report m'
 
--- Report, as a list.
-abbrev pub said : Option Report → List Report
-said None = []
-said (Some report) = report ∷ []
+-- A report as a list of one, and no report as the empty list.
+abbrev pub report_list : Option Report → List Report
+report_list None = []
+report_list (Some report) = report ∷ []
 
--- A legal run: one step for each event, with the reports in order.
+-- A legal run: one legal step for each event, with the reports in their order.
 pub data Legal (tolerant : Bool) (t : ℕ) : Machine → List Kind → List Report → Machine → Type 0 where
   stops : {m : Machine} → Legal tolerant t m [] [] m
   and_then : {m mid m' : Machine} {kind : Kind} {kinds : List Kind} {report : Option Report} {reports : List Report}
       → MachineStep tolerant t kind m report mid → Legal tolerant t mid kinds reports m'
-      → Legal tolerant t m (kind ∷ kinds) (said report ++ reports) m'
+      → Legal tolerant t m (kind ∷ kinds) (report_list report ++ reports) m'

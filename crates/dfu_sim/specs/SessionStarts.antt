@@ -1,10 +1,10 @@
--- Sessions that have begun, by what happened.
+-- Sessions that have begun, by the events.
 use Rattle.std.specs.Prelude.{List, ◌∷◌}
 use Rattle.dfu_sim.specs.Happening.{Happening, Offers, Uploads}
-use Rattle.dfu_sim.specs.Headline.{Begun, WithOffer, AsUpload}
+use Rattle.dfu_sim.specs.Headline.{SessionBeginning, BeginningWithOffer, BeginningAsUpload}
 
--- The sessions that have begun once this has happened too; the last one comes first.
-abbrev pub sessions_by : Happening → List Begun → List Begun
-sessions_by (Offers purpose file limits) past = WithOffer file ∷ past
-sessions_by (Uploads limits) past = AsUpload ∷ past
-sessions_by h past = past
+-- Sessions that have begun after an event, the last one first.
+abbrev pub sessions_after_event : Happening → List SessionBeginning → List SessionBeginning
+sessions_after_event (Offers purpose file limits) past = BeginningWithOffer file ∷ past
+sessions_after_event (Uploads limits) past = BeginningAsUpload ∷ past
+sessions_after_event h past = past

@@ -1,4 +1,4 @@
--- Events in which nothing is cut, nothing fails and nothing lies.
+-- Events without a cut, a failure or a lie.
 use Rattle.std.specs.Prelude.{◌≡◌, Bool, Option, Result, Ok, Err}
 use Rattle.dfu_slots.specs.StoreView.{room_of}
 use Rattle.dfu_device.specs.Outcome.{Works}
@@ -9,24 +9,24 @@ use Rattle.dfu_sim.specs.declared.delivery.MediumFault.{MediumFault}
 use Rattle.dfu_sim.specs.declared.delivery.MediumFault.TheVariants.{NoWrite, CutsPower, FailsWrite, LiesInWrite}
 use Rattle.dfu_sim.specs.Delivery.{delivery_of}
 use Rattle.dfu_sim.specs.Happening.{Happening, Offers, Uploads, Aborts, Goes, Passes, Resets, Cuts, Refuses}
-use Rattle.dfu_sim.specs.Play.{Answered, played}
+use Rattle.dfu_sim.specs.Play.{Answered, play_of_event}
 use Rattle.dfu_sim.specs.LinkView.{LinkView}
-use Rattle.dfu_sim.specs.Bytes.{link_of}
-use Rattle.dfu_sim.specs.EventResults.{Means}
+use Rattle.dfu_sim.specs.Bytes.{link_of_bench}
+use Rattle.dfu_sim.specs.EventResults.{EventMeaning}
 
--- A device that stays what it is set up as, with the same room for images.
-pub record IsSame (w w' : DeviceView) : Type 0 where
+-- A device keeps its setting and its room for images.
+pub record HasSameSetting (w w' : DeviceView) : Type 0 where
   pub config : w'.config ≡ w.config
   pub room : room_of w'.slots ≡ room_of w.slots
 
--- No write is harmed: the power is not cut, and no write fails or lies.
+-- No write is harmed by a cut, a failure or a lie.
 abbrev pub HarmsNothing : MediumFault → Type 0
 HarmsNothing NoWrite = Unit {0}
 HarmsNothing CutsPower = ⊥
 HarmsNothing FailsWrite = ⊥
 HarmsNothing LiesInWrite = ⊥
 
--- The event is no action of the host in which a write is harmed.
+-- The event is anything but an action in which a write is harmed.
 abbrev pub IsHarmless : Happening → Type 0
 IsHarmless (Goes fate harm) = HarmsNothing (delivery_of fate).harming
 IsHarmless (Offers purpose payload limits) = Unit {0}
@@ -37,22 +37,21 @@ IsHarmless Resets = Unit {0}
 IsHarmless Cuts = Unit {0}
 IsHarmless (Refuses why) = Unit {0}
 
--- The link is the one that the table of fates gives if the medium works, and so is the report.
-pub record IsAsPlayed (b : LinkView) (event : Happening) (b' : LinkView) (report : Option Report) : Type 0 where
+-- The link and the report are those of the table of fates for a medium that works.
+pub record IsResultOfPlay (b : LinkView) (event : Happening) (b' : LinkView) (report : Option Report) : Type 0 where
   pub room : Bool
   pub answer : Answered
-  pub same : played (profile b.device) (link_of b) event Works Works room ≡ record { link = link_of b'; answer = answer }
+  pub same : play_of_event (profile b.device) (link_of_bench b) event Works Works room ≡ record { link = link_of_bench b'; answer = answer }
   pub told : report ≡ answer.report
 
--- The event is one of the device, which stays set up as it was. If the event does no harm, all goes as the table of fates says of a medium
--- that works.
+-- A sure event: the device keeps its setting, and if no write is harmed, all goes as the table of fates says of a medium that works.
 pub record IsSureEvent (b : LinkView) (h : Happening) (b' : LinkView) (report : Option Report) : Type 0 where
   pub event : Happening
-  pub means : Means b.device.config h event
-  pub kept : IsSame b.device b'.device
-  pub works : IsHarmless event → IsAsPlayed b event b' report
+  pub means : EventMeaning b.device.config h event
+  pub kept : HasSameSetting b.device b'.device
+  pub works : IsHarmless event → IsResultOfPlay b event b' report
 
--- So it is of each event that is not refused.
-abbrev pub AllSure : LinkView → Happening → LinkView → Result (Option Report) LinkFault → Type 0
-AllSure b h b' (Ok report) = IsSureEvent b h b' report
-AllSure b h b' (Err fault) = Unit {0}
+-- If an event is not refused, it is a sure one: without harm it goes as the table of fates says.
+abbrev pub AllEventsSure : LinkView → Happening → LinkView → Result (Option Report) LinkFault → Type 0
+AllEventsSure b h b' (Ok report) = IsSureEvent b h b' report
+AllEventsSure b h b' (Err fault) = Unit {0}

@@ -1,47 +1,47 @@
--- Statements that tie the bytes to the values.
+-- Statements that bytes and values mean the same.
 use Rattle.std.specs.Prelude.{◌≡◌, ℕ, List, Bool}
 use Rattle.dfu_slots.specs.Medium.Fuse.{Whole}
 use Rattle.dfu_slots.specs.Image.{Active, HasImage}
-use Rattle.dfu_slots.specs.Changes.{IsOpenFault}
+use Rattle.dfu_slots.specs.Changes.{FirstOpenFault}
 use Rattle.dfu_slots.specs.declared.fault.OpenFault.{OpenFault}
 use Rattle.dfu_device.specs.declared.answer.Answer.{Answer}
 use Rattle.dfu_device.specs.Table.{plan}
-use Rattle.dfu_device.specs.Outcome.{Luck, outcome}
+use Rattle.dfu_device.specs.Outcome.{Luck, plan_outcome}
 use Rattle.dfu_device.specs.Stage.{Profile, Stage}
 use Rattle.dfu_device.specs.DeviceView.{profile}
-use Rattle.dfu_device.specs.Rows.{meant, asked_length, Answers}
+use Rattle.dfu_device.specs.Rows.{request_for_table, asked_length, ReplyAnswer}
 use Rattle.dfu_wire.specs.declared.requests.Request.{Request as Asked}
 use Rattle.dfu_host.specs.Phases.{Task, Phase, Send, Heard}
 use Rattle.dfu_host.specs.Table.{deed}
-use Rattle.dfu_sim.specs.Play.{Answered, Play, heard_as, remembered}
-use Rattle.dfu_sim.specs.Bytes.{HeardOfAnswer, link_of, BytePlay}
+use Rattle.dfu_sim.specs.Play.{Answered, Play, heard_of_reply, heard_with_room}
+use Rattle.dfu_sim.specs.Bytes.{HeardOfAnswer, link_of_bench, BytePlay}
 use Rattle.dfu_sim.specs.Happening.{Happening}
 use Rattle.dfu_sim.specs.LinkView.{LinkView, BenchMatchesFlash}
 
--- The answer of a device to a request of a host, in bytes, is heard as the device meant it; a part of an upload may find no memory.
-abbrev pub Understood : Type 0
-Understood = (task : Task) (phase : Phase) (q : Asked) (body : List ℕ) (c : Profile) (image : List ℕ) (stage : Stage) (luck : Luck)
+-- A host hears the bytes of a device's answer as the device meant them; for a part of an upload there may be no memory.
+abbrev pub ResponsesUnderstood : Type 0
+ResponsesUnderstood = (task : Task) (phase : Phase) (q : Asked) (body : List ℕ) (c : Profile) (image : List ℕ) (stage : Stage) (luck : Luck)
     (a : Answer) (out : List ℕ) (heard : Heard)
-    → deed task phase ≡ Send q body → let reply = (outcome image (plan c image stage (meant q body)) luck).reply in
-    Answers (asked_length q) reply a out → HeardOfAnswer (Send q body) a out heard
-    → (room : Bool) × (heard ≡ remembered (heard_as reply) room)
+    → deed task phase ≡ Send q body → let reply = (plan_outcome image (plan c image stage (request_for_table q body)) luck).reply in
+    ReplyAnswer (asked_length q) reply a out → HeardOfAnswer (Send q body) a out heard
+    → (room : Bool) × (heard ≡ heard_with_room (heard_of_reply reply) room)
 
--- A play with its bytes is a play of the links that the benches show; the device stays what it is set up as, and its medium is not armed
--- again.
-pub record Shows (b : LinkView) (event : Happening) (b' : LinkView) (answer : Answered) : Type 0 where
-  pub play : Play (profile b.device) (link_of b) event (link_of b') answer
+-- A play with its bytes is a play of the links that the benches show; the device keeps its setting, and its medium is not armed afterwards.
+pub record PlayIsShown (b : LinkView) (event : Happening) (b' : LinkView) (answer : Answered) : Type 0 where
+  pub play : Play (profile b.device) (link_of_bench b) event (link_of_bench b') answer
   pub fixed : profile b'.device ≡ profile b.device
   pub unarmed : b'.device.slots.medium.fuse ≡ Whole
 
--- Each play with its bytes is one of the links.
+-- Each play in bytes is a play of the links that the benches show.
 abbrev pub PlaysMatchLinks : Type 0
-PlaysMatchLinks = (b b' : LinkView) (event : Happening) (answer : Answered) → BytePlay b event b' answer → Shows b event b' answer
+PlaysMatchLinks = (b b' : LinkView) (event : Happening) (answer : Answered) → BytePlay b event b' answer → PlayIsShown b event b' answer
 
--- The image of the link that a bench shows is the active image of its medium's bytes, if they have one; and they have no other.
+-- If the medium's bytes have an active image, the link that the bench shows has that image, and the bytes have no other.
 abbrev pub BenchImageIsActive : Type 0
 BenchImageIsActive = (b : LinkView) → (HasImage b.device.slots.medium → BenchMatchesFlash b)
-    × ((image : List ℕ) → Active b.device.slots.medium image → image ≡ (link_of b).device.image)
+    × ((image : List ℕ) → Active b.device.slots.medium image → image ≡ (link_of_bench b).device.image)
 
--- Nothing for which a device is refused its start is wrong with the medium of a bench that shows the active image of its bytes.
+-- A device can start on the medium of a bench that shows the active image of its bytes: none of the faults for which a start is refused
+-- holds.
 abbrev pub PowerOnSucceeds : Type 0
-PowerOnSucceeds = (b : LinkView) (fault : OpenFault) → BenchMatchesFlash b → ¬ IsOpenFault fault b.device.slots.medium
+PowerOnSucceeds = (b : LinkView) (fault : OpenFault) → BenchMatchesFlash b → ¬ FirstOpenFault fault b.device.slots.medium

@@ -1,16 +1,16 @@
-//! One action of a host, with what its fate does to the medium and to the power.
+//! An action of a host, with what its fate does to the medium and to the power.
 
 ghost use Rattle.std.specs.Prelude.{◌≡◌};
 ghost use Rattle.dfu_slots.specs.Medium.Fuse.{Whole};
 ghost use Rattle.dfu_device.specs.Rows.{Elapses};
-ghost use Rattle.dfu_host.specs.Host.{IsOn};
+ghost use Rattle.dfu_host.specs.Host.{IsOnPhase};
 ghost use Rattle.dfu_host.specs.Wire.{SeenMeaning};
 ghost use Rattle.dfu_host.specs.Phases.{Deed, Heard};
-ghost use Rattle.dfu_sim.specs.Play.{waits_for};
-ghost use Rattle.dfu_sim.specs.Happening.{fate_of, harm_in, refused_in};
+ghost use Rattle.dfu_sim.specs.Play.{wait_by_handling};
+ghost use Rattle.dfu_sim.specs.Happening.{fate_of, harm_of_fate, fate_with_refusal};
 ghost use Rattle.dfu_sim.specs.Delivery.{delivery_of};
-ghost use Rattle.dfu_sim.specs.Bytes.{SetupResult, ReachesDevice, Slips, bus_was_reset, response_if_delivered, response_if_powered, Waits, ResetsBus, HostActs, HostActsArmed, fuse_of, armed, powered_up, device_after_action};
-ghost use Rattle.dfu_sim.specs.inside.Acting.{delivery_in, harm_at, seen_over, HostHeardResult};
+ghost use Rattle.dfu_sim.specs.Bytes.{SetupResult, ReachesDevice, SlipsTime, device_after_bus_reset, response_if_delivered, response_if_powered, WaitDelivered, BusResetDelivered, HostActs, HostActsArmed, fuse_of, armed_device, powered_up, device_after_action};
+ghost use Rattle.dfu_sim.specs.inside.Acting.{delivery_of_given, harm_at, seen_after_action, HostTakesResponse};
 
 use crate::delivery::{Answered, Delivery, Handled, MediumFault, Response, delivery_by};
 use crate::fate::Fate;
@@ -19,8 +19,8 @@ use dfu_device::{Answer, Device, Objection};
 use dfu_host::{Action, Host, Seen};
 use dfu_slots::{Faulty, Medium};
 
-/// A request comes to a device, whose program refuses the image that it closes, if it closes one, or refuses none. `out` gets the answer's
-/// bytes.
+/// Takes a request with `setup` and `body` to `device`, whose program refuses the image that the request closes, by `refusing`, or refuses
+/// none. `out` gets the answer's bytes.
 fn take_in<M: Medium>(
     device: &mut Device<M>,
     setup: &[u8; 8],
@@ -42,8 +42,8 @@ fn take_in<M: Medium>(
     }
 }
 
-/// The device handles a request, or doesn't see it. If it does, `out` gets its answer's bytes. The
-/// program refuses an image only the first time: no request closes a download twice.
+/// Takes a request with `setup` and `body` to `device`, which handles it by `handling`. `out` gets the answer's bytes. The program refuses
+/// an image only the first time, because no request closes a download twice.
 fn reach<M: Medium>(
     device: &mut Device<M>,
     setup: &[u8; 8],
@@ -81,9 +81,9 @@ fn come_back(delivery: Delivery<'_>, back: Response) -> Response
     }
 }
 
-/// The time that passes in a wait: another one if a time slips in.
+/// Returns the time that passes in a wait; a time that slips in replaces the wait.
 fn time_of(handling: Handled, ms: u32) -> u32
-    ensures { result ≡ waits_for handling ms }
+    ensures { result ≡ wait_by_handling handling ms }
 {
     match handling {
         Handled::Unseen | Handled::Once | Handled::Again => ms,
@@ -91,9 +91,9 @@ fn time_of(handling: Handled, ms: u32) -> u32
     }
 }
 
-/// Returns what the host sees of a wait or a reset: after a cut that the device was restarted.
+/// Returns the result that the host sees of a wait or a reset: after a cut, the restart.
 fn seen_after(harming: MediumFault, seen: Seen<'static>) -> Seen<'static>
-    ensures { result ≡ seen_over harming seen.entry }
+    ensures { result ≡ seen_after_action harming seen.entry }
 {
     match harming {
         MediumFault::CutsPower => Seen::Restarted,
@@ -101,19 +101,19 @@ fn seen_after(harming: MediumFault, seen: Seen<'static>) -> Seen<'static>
     }
 }
 
-/// A wait of the host: if a time slips in, it passes in place of the wait.
+/// Waits `ms` milliseconds; a time that slips in replaces the wait.
 fn wait<M: Medium>(device: &mut Device<M>, ms: u32, delivery: Delivery<'_>) -> Seen<'static>
     ensures hears { (d : Deed) (heard : Heard) → SeenMeaning d result heard
-        → Waits ms (delivery_in delivery.entry) device.old device.new heard }
-    ensures row { Elapses (waits_for delivery.entry.handling ms) device.old device.new }
+        → WaitDelivered ms (delivery_of_given delivery.entry) device.old device.new heard }
+    ensures row { Elapses (wait_by_handling delivery.entry.handling ms) device.old device.new }
 {
     device.elapse(time_of(delivery.handling, ms));
     seen_after(delivery.harming, Seen::Waited)
 }
 
-/// The time that slips in after a reset of the bus passes.
+/// Lets the time pass that slips in by `handling` after a reset of the bus.
 fn slip<M: Medium>(device: &mut Device<M>, handling: Handled)
-    ensures { Slips handling device.old device.new }
+    ensures { SlipsTime handling device.old device.new }
 {
     match handling {
         Handled::Unseen | Handled::Once | Handled::Again => {}
@@ -121,20 +121,20 @@ fn slip<M: Medium>(device: &mut Device<M>, handling: Handled)
     }
 }
 
-/// A reset of the bus by the host, and the time that slips in after it.
+/// Resets the bus, and lets the time pass that slips in after the reset.
 fn reset_bus<M: Medium>(device: &mut Device<M>, delivery: Delivery<'_>) -> Seen<'static>
     ensures hears { (d : Deed) (heard : Heard) → SeenMeaning d result heard
-        → ResetsBus (delivery_in delivery.entry) device.old device.new heard }
-    ensures row { Slips delivery.entry.handling (bus_was_reset device.old) device.new }
+        → BusResetDelivered (delivery_of_given delivery.entry) device.old device.new heard }
+    ensures row { SlipsTime delivery.entry.handling (device_after_bus_reset device.old) device.new }
 {
     device.usb_reset();
     slip(device, delivery.handling);
     seen_after(delivery.harming, Seen::WasReset)
 }
 
-/// Tells the host what came back of its request.
+/// Tells the host the response to its request.
 fn tell(host: &mut Host<'_>, back: Response, out: &[u8])
-    ensures { HostHeardResult host.old back out.now host.new }
+    ensures { HostTakesResponse host.old back out.now host.new }
 {
     match back {
         Response::Answered(Answer::Ack) => host.take(Seen::Ack),
@@ -145,17 +145,17 @@ fn tell(host: &mut Host<'_>, back: Response, out: &[u8])
     }
 }
 
-/// The next action of a host that is not done, by its delivery. Who harms a write has armed the
-/// medium for it. `out` is room for an answer; what it holds at first isn't read. It answers what the
-/// device answered, if it did, whether that came back or not.
+/// Performs the next action of `host`, which is not done, by `delivery`. The caller must arm the medium, if a write is to be harmed. `out`
+/// is room for an answer; its bytes before the call are not read. Returns the device's response, if the device got the action, also if the
+/// response did not come back.
 fn act<M: Medium>(
     device: &mut Device<M>,
     host: &mut Host<'_>,
     delivery: Delivery<'_>,
     out: &mut ArrayVec<u8, 4096>,
 ) -> Response
-    requires { IsOn host.old.phase }
-    ensures { HostActs host.old (delivery_in delivery.entry) device.old device.new host.new }
+    requires { IsOnPhase host.old.phase }
+    ensures { HostActs host.old (delivery_of_given delivery.entry) device.old device.new host.new }
 {
     match host.next() {
         Action::Send { setup, body } => {
@@ -185,11 +185,10 @@ fn act<M: Medium>(
     }
 }
 
-/// Arms the medium for an action of this delivery: with a cut no later write works, with a failure and a
-/// lie all later ones do.
+/// Arms the medium for an action by `delivery`: after a cut no write works, after a failure or a lie all further writes do.
 fn arm<M: Faulty>(device: &mut Device<M>, delivery: Delivery<'_>)
     requires { device.old.slots.medium.fuse ≡ Whole }
-    ensures { device.new ≡ armed device.old (fuse_of delivery.entry.harming (harm_at delivery.entry)) }
+    ensures { device.new ≡ armed_device device.old (fuse_of delivery.entry.harming (harm_at delivery.entry)) }
 {
     match delivery.harming {
         MediumFault::NoWrite => {}
@@ -199,8 +198,8 @@ fn arm<M: Faulty>(device: &mut Device<M>, delivery: Delivery<'_>)
     }
 }
 
-/// A device's power goes and comes back: it starts anew, on its medium as the medium is then, and disarmed. A restart is never refused,
-/// because a device keeps an active image on its medium, whatever is cut or fails.
+/// Cuts a device's power and brings it back: the device starts anew on its medium as the medium is then, disarmed. A restart is never
+/// refused, because a device keeps an active image on its medium, whatever is cut or fails.
 pub(crate) fn power_cycle<M: Faulty>(device: &mut Device<M>)
     ensures { device.new ≡ powered_up device.old }
 {
@@ -208,7 +207,7 @@ pub(crate) fn power_cycle<M: Faulty>(device: &mut Device<M>)
     device.restart();
 }
 
-/// The action is over: after a cut the power comes back, and in any case the medium is disarmed.
+/// Ends an action: after a cut the power comes back, and the medium is disarmed.
 fn settle<M: Faulty>(device: &mut Device<M>, harming: MediumFault)
     ensures { device.new ≡ device_after_action harming device.old }
 {
@@ -219,8 +218,8 @@ fn settle<M: Faulty>(device: &mut Device<M>, harming: MediumFault)
     }
 }
 
-/// Carries out the next action of a host that is not done, by its fate, and keeps what the device answers. The device's program refuses the
-/// image that the action closes, or refuses none.
+/// Performs the next action of `host`, which is not done, by `fate`, and keeps what the device answers. The device's program refuses the
+/// image that the action closes, by `refusing`, or refuses none.
 pub(crate) fn carry_out<M: Faulty>(
     device: &mut Device<M>,
     host: &mut Host<'_>,
@@ -228,9 +227,9 @@ pub(crate) fn carry_out<M: Faulty>(
     refusing: Option<Objection>,
     out: &mut Answered,
 )
-    requires on { IsOn host.old.phase }
+    requires on { IsOnPhase host.old.phase }
     requires unarmed { device.old.slots.medium.fuse ≡ Whole }
-    ensures { HostActsArmed host.old (delivery_of (refused_in refusing (fate_of fate.entry))) (harm_in fate.entry) device.old device.new
+    ensures { HostActsArmed host.old (delivery_of (fate_with_refusal refusing (fate_of fate.entry))) (harm_of_fate fate.entry) device.old device.new
         host.new }
 {
     let delivery = delivery_by(fate, refusing);

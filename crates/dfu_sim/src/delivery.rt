@@ -1,9 +1,9 @@
-//! Delivery of each fate, and result of an action, as data: all else goes by it.
+//! Delivery of each fate, and result of an action, as data; the code of an action goes by these values.
 
 ghost use Rattle.std.specs.Prelude.{◌≡◌};
-ghost use Rattle.dfu_sim.specs.Happening.{fate_of, harm_in, refused_in};
+ghost use Rattle.dfu_sim.specs.Happening.{fate_of, harm_of_fate, fate_with_refusal};
 ghost use Rattle.dfu_sim.specs.Delivery.{delivery_of};
-ghost use Rattle.dfu_sim.specs.inside.Acting.{delivery_in, harm_at};
+ghost use Rattle.dfu_sim.specs.inside.Acting.{delivery_of_given, harm_at};
 
 use crate::fate::Fate;
 use arrayvec::ArrayVec;
@@ -12,30 +12,30 @@ use dfu_device::{Answer, Objection};
 /// Result of a request in a device or a board.
 #[derive(Clone, Copy)]
 pub enum Handled {
-    /// It doesn't see it.
+    /// The device doesn't see the request.
     Unseen,
-    /// It handles it once.
+    /// The device handles the request once.
     Once,
-    /// It handles it once and again.
+    /// The device handles the request twice.
     Again,
-    /// It handles it, and then so many milliseconds pass.
+    /// The device handles the request, and then the given number of milliseconds passes.
     Late(u32),
 }
 
 /// Write of an action that is harmed.
 #[derive(Clone, Copy)]
 pub(crate) enum MediumFault {
-    /// None.
+    /// No write is harmed.
     NoWrite,
-    /// One, and from it on the power is gone.
+    /// A write is harmed, and from that write on the power is gone.
     CutsPower,
-    /// One only, which fails.
+    /// A write fails, and no other is harmed.
     FailsWrite,
-    /// One only, which lies: the medium answers that it worked.
+    /// A write lies, and no other is harmed: the medium answers that the write worked.
     LiesInWrite,
 }
 
-/// The delivery of an action: what the device makes of a request, why its program refuses the image that the request closes, if it does,
+/// The delivery of an action: how the device handles a request, why its program refuses the image that the request closes, if it does,
 /// whether the answer comes back, and how a write is harmed.
 #[derive(Clone, Copy)]
 pub(crate) struct Delivery<'t> {
@@ -52,9 +52,9 @@ pub(crate) struct Delivery<'t> {
 pub(crate) enum Response {
     /// The device's answer.
     Answered(Answer),
-    /// Nothing.
+    /// No response.
     Lost,
-    /// Restart of the device, and no answer.
+    /// A restart of the device, and no answer.
     Restarted,
 }
 
@@ -66,10 +66,10 @@ pub(crate) struct Answered {
     pub bytes: ArrayVec<u8, 4096>,
 }
 
-/// The delivery of each fate, if the device's program refuses nothing.
+/// Returns the delivery of a fate, if the device's program refuses nothing.
 fn plain_delivery(fate: Fate<'_>) -> Delivery<'_>
-    ensures delivery { delivery_in result ≡ delivery_of (fate_of fate.entry) }
-    ensures harm { harm_at result ≡ harm_in fate.entry }
+    ensures delivery { delivery_of_given result ≡ delivery_of (fate_of fate.entry) }
+    ensures harm { harm_at result ≡ harm_of_fate fate.entry }
 {
     let (handling, back, harming, writes, tear): (_, _, _, _, &[u8]) = match fate {
         Fate::Pass => (Handled::Once, true, MediumFault::NoWrite, 0, &[]),
@@ -92,10 +92,11 @@ fn plain_delivery(fate: Fate<'_>) -> Delivery<'_>
     }
 }
 
-/// The delivery of a fate. The device's program refuses the image that the action closes, or refuses none.
+/// Returns the delivery of a fate, with the objection of the device's program to the image that the action
+/// closes, if it has one.
 pub(crate) fn delivery_by(fate: Fate<'_>, refusing: Option<Objection>) -> Delivery<'_>
-    ensures delivery { delivery_in result ≡ delivery_of (refused_in refusing (fate_of fate.entry)) }
-    ensures harm { harm_at result ≡ harm_in fate.entry }
+    ensures delivery { delivery_of_given result ≡ delivery_of (fate_with_refusal refusing (fate_of fate.entry)) }
+    ensures harm { harm_at result ≡ harm_of_fate fate.entry }
 {
     let delivery = plain_delivery(fate);
     match refusing {

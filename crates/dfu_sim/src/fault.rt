@@ -5,18 +5,18 @@ use dfu_suffix::SuffixFault;
 use std::fmt;
 use thiserror::Error;
 
-/// Faults for which an event is refused.
+/// A fault for which an event is refused.
 #[derive(Clone, Copy, Debug, Error)]
 pub enum LinkFault {
-    /// A file is offered or an upload is to begin while a session is live. Looked for first.
+    /// An offer or an upload comes while a session is live. This is checked first.
     HostBusy,
-    /// A session is to be given up or an action is to go while none is live.
+    /// An abort or an action comes while no session is live.
     NoHost,
-    /// While no session is live: of an offer, the fault of `dfu_suffix::read`, else that of
-    /// `Host::download`, or `Host::download_verified` if it is to be verified; of an upload, that of
-    /// `Host::upload`.
+    /// While no session is live: for an offer, the fault of `dfu_suffix::read`, else that of
+    /// `Host::download`, or of `Host::download_verified` if the file is to be verified; for an upload, the
+    /// fault of `Host::upload`.
     BadOffer(OfferFault),
-    /// There was no memory for a report. Only `run` answers it.
+    /// There was no memory for a report. Only `run` returns this fault.
     NoMemory,
 }
 
@@ -31,14 +31,14 @@ impl fmt::Display for LinkFault {
     }
 }
 
-/// Faults for which an offer or an upload is refused.
+/// A fault for which an offer or an upload is refused.
 #[derive(Clone, Copy, Debug, Error)]
 pub enum OfferFault {
-    /// The bytes are no DFU file: this is the first fault of `dfu_suffix::read`. Only an offer has it.
+    /// The bytes are no DFU file; this is the first fault of `dfu_suffix::read`. Only an offer has it.
     Suffix(SuffixFault),
-    /// The file is read, and this is the first fault of `Host::download`, or of
-    /// `Host::download_verified` if it is to be verified, with the device's descriptor and
-    /// identifiers; or that of `Host::upload` with the descriptor.
+    /// The file was read, and this is the first fault of `Host::download`, or of `Host::download_verified` if
+    /// the file is to be verified, with the device's descriptor and identifiers; or that of `Host::upload`
+    /// with the descriptor.
     Host(HostFault),
 }
 

@@ -2,14 +2,14 @@
 //! be called by programs. `World::step` calls `image_shown`, only for its law.
 
 ghost use Rattle.dfu_sim.specs.Headline.{HeadlineAtStart};
-ghost use Rattle.dfu_sim.specs.LinkAgreement.{SomeAgrees, FreshAgrees, LinkAgreesOn, SessionsContinue};
+ghost use Rattle.dfu_sim.specs.LinkAgreement.{SomeMachineAgrees, FreshMachineAgrees, LinkAgreesOn, SessionsContinue};
 ghost use Rattle.dfu_sim.specs.CleanRun.{CleanRun};
-ghost use Rattle.dfu_sim.specs.CleanSteps.{StepsInstall, CleanStepsSucceed};
+ghost use Rattle.dfu_sim.specs.CleanSteps.{StepsInstallCleanly, CleanStepsSucceed};
 ghost use Rattle.dfu_sim.specs.UploadResults.{UploadsAreActive, RestIsSteady};
-ghost use Rattle.dfu_sim.specs.Simulation.{OnlyOffered, Simulation};
-ghost use Rattle.dfu_sim.specs.Accepting.{LinkAccepts, OffersAccepted};
-ghost use Rattle.dfu_sim.specs.OneAnswer.{OneEvent, OneRefusal, RefusedIsNoPlay, OneResult};
-ghost use Rattle.dfu_sim.specs.Understood.{BenchImageIsActive, PlaysMatchLinks, Understood, PowerOnSucceeds};
+ghost use Rattle.dfu_sim.specs.Simulation.{ActiveImageWasOffered, Simulation};
+ghost use Rattle.dfu_sim.specs.Accepting.{LinkImagesAccepted, OfferedImagesAccepted};
+ghost use Rattle.dfu_sim.specs.OneAnswer.{EventHasOneMeaning, EventHasOneRefusal, RefusedEventIsNoPlay, HarmedActionHasOneResult};
+ghost use Rattle.dfu_sim.specs.Understood.{BenchImageIsActive, PlaysMatchLinks, ResponsesUnderstood, PowerOnSucceeds};
 
 use dfu_slots::laws::active_image_is_one;
 
@@ -34,14 +34,14 @@ pub fn clean_run()
 /// A clean run by steps, with no premise on memory. The steps are an offer and at most the passes of a clean run, each as the clause `sure`
 /// of `World::step` says. Then the reports are those of a clean run, and no step is refused.
 pub fn clean_steps()
-    ensures install { StepsInstall }
+    ensures install { StepsInstallCleanly }
     ensures stand { CleanStepsSucceed }
 {}
 
-/// After a legal run the active image is the one before it, or a whole payload that was offered so
+/// After a legal run the active image is the one before the run, or the whole payload of a file offered so
 /// far.
 pub fn only_offered()
-    ensures { OnlyOffered }
+    ensures { ActiveImageWasOffered }
 {}
 
 /// Any events come to a `World`, and the program of its device makes any check. If each image that the
@@ -50,23 +50,23 @@ pub fn only_offered()
 /// or one whole payload that was offered and that the check accepts. A program that never asks takes
 /// every image.
 pub fn worlds_take_what_is_accepted()
-    ensures image { LinkAccepts }
-    ensures offered { OffersAccepted }
+    ensures image { LinkImagesAccepted }
+    ensures offered { OfferedImagesAccepted }
 {
     active_image_is_one();
 }
 
-/// Agreement is no empty word: some session machine agrees with each link, and if no session is
-/// live and no bytes are closed, one to which nothing was offered. If the image that is shown is
-/// the active image of the medium's bytes, such a machine agrees on them too.
+/// Agreement is no empty word. Some session machine agrees with each link; and if no session is live and no
+/// bytes are closed, a machine to which nothing was offered agrees. If the bench shows the active image of
+/// the medium's bytes, the machine agrees with the bench too.
 pub fn machine_agrees()
-    ensures some { SomeAgrees }
-    ensures fresh { FreshAgrees }
+    ensures some { SomeMachineAgrees }
+    ensures fresh { FreshMachineAgrees }
     ensures on { LinkAgreesOn }
 {}
 
-/// A world with no session is taken apart, and the next is made over its device: the session machine
-/// goes on, with nothing uploaded so far.
+/// If a world with no session is taken apart, and the next is made over its device, the session machine goes
+/// on, with nothing uploaded so far.
 pub fn sessions_go_on()
     ensures { SessionsContinue }
 {}
@@ -74,10 +74,10 @@ pub fn sessions_go_on()
 /// Messages on the wire are understood: the answer of a device to a request of a host, in bytes, is heard as the device meant it. A part of
 /// an upload may find no memory.
 pub fn understood()
-    ensures { Understood }
+    ensures { ResponsesUnderstood }
 {}
 
-/// A play with its bytes, over a device on a medium, is a play of the values that it shows.
+/// A play in bytes, over a device on a medium, is a play of the values that the device shows.
 pub fn bytes_show()
     ensures { PlaysMatchLinks }
 {}
@@ -87,36 +87,36 @@ pub fn bytes_show()
 /// says it: one device but for the count of failed writes, and one session and one answer by whether
 /// there was memory for a part of an upload.
 pub fn one_answer()
-    ensures fault { OneRefusal }
-    ensures no_play { RefusedIsNoPlay }
-    ensures event { OneEvent }
-    ensures result { OneResult }
+    ensures fault { EventHasOneRefusal }
+    ensures no_play { RefusedEventIsNoPlay }
+    ensures event { EventHasOneMeaning }
+    ensures result { HarmedActionHasOneResult }
 {}
 
-/// Whatever comes to a link that began with a device at rest, the bytes that come with Uploaded
-/// are those of the active image. So they are in a script.
+/// Whatever events come to a link that began with a device at rest, also in a script, the bytes that come
+/// with Uploaded are those of the active image.
 pub fn uploads_give_the_image()
     ensures gives { UploadsAreActive }
     ensures rest { RestIsSteady }
 {}
 
-/// If the medium's bytes have an active image, it is the one that plays speak of, and no other.
+/// If the medium's bytes have an active image, plays speak of that image and of no other.
 pub fn image_shown()
     ensures { BenchImageIsActive }
 {
     active_image_is_one();
 }
 
-/// The power comes back: if a bench shows the active image of its medium's bytes, as that of a
-/// `World` always does, `Device::power_on` is not refused on that medium.
+/// The power comes back: `Device::power_on` is not refused on the medium of a bench that shows the active
+/// image of the medium's bytes. The bench of a `World` always does.
 pub fn power_comes_back()
     ensures { PowerOnSucceeds }
 {
     active_image_is_one();
 }
 
-/// The headline holds of a device with no session that has no image to put in place: its factory
-/// image is the one that is active then.
+/// The headline holds for a device with no session and no image to put in place: its factory image is the
+/// image that is active then.
 pub fn headline_at_rest()
     ensures { HeadlineAtStart }
 {}

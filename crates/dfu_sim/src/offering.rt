@@ -2,11 +2,11 @@
 
 ghost use Rattle.std.specs.Prelude.{◌≡◌, ◌↔◌, Some, Err, IfOk, IfErr};
 ghost use Rattle.dfu_device.specs.Setting.{Setting};
-ghost use Rattle.dfu_host.specs.Host.{started};
+ghost use Rattle.dfu_host.specs.Host.{host_for_goal};
 ghost use Rattle.dfu_sim.specs.Opening.{goal_of_purpose};
 ghost use Rattle.dfu_sim.specs.inside.Acting.{SessionOpened};
 ghost use Rattle.dfu_sim.specs.Refusing.{first_offer_fault, IsBadOffer};
-ghost use Rattle.dfu_sim.specs.LinkInvariant.{bench_of, IsSteady};
+ghost use Rattle.dfu_sim.specs.LinkInvariant.{bench_of, IsSteadyLink};
 ghost use Rattle.dfu_sim.specs.Happening.{Uploads};
 ghost use Rattle.dfu_sim.specs.EventResults.{WorldEventAlone};
 
@@ -21,13 +21,13 @@ use std::alloc::Global;
 /// Purpose for which a file is offered: no call takes it, and the clause `clean` of `run` speaks of it.
 #[derive(Clone, Copy)]
 pub enum Purpose {
-    /// To be installed.
+    /// The file is installed.
     Install,
-    /// To be installed, and then compared with the device's active image.
+    /// The file is installed, and then compared with the device's active image.
     Verify,
 }
 
-/// A host for a file that was read, by the device's descriptor and identifiers.
+/// Makes a host for a file that was read, by the device's descriptor and identifiers.
 fn open<'f>(
     file: &File<'f>,
     functional: &Functional,
@@ -37,7 +37,7 @@ fn open<'f>(
 ) -> Result<Host<'f>, HostFault>
     ensures refused { (fault : HostFault) → (result ≡ Err fault) ↔
         (first_offer_fault purpose file.now functional.now device_ids ≡ Some fault) }
-    ensures started { IfOk result (λ host. host ≡ started functional.now (goal_of_purpose purpose file.now.payload) limits) }
+    ensures started { IfOk result (λ host. host ≡ host_for_goal functional.now (goal_of_purpose purpose file.now.payload) limits) }
 {
     match purpose {
         Purpose::Install => Host::download(file, functional, device_ids, limits),
@@ -45,7 +45,7 @@ fn open<'f>(
     }
 }
 
-/// A host for a file that is offered to a device with this functional descriptor and these identifiers.
+/// Makes a host for a file that is offered to a device with the given functional descriptor and identifiers.
 ///
 /// # Errors
 ///
@@ -72,14 +72,14 @@ pub fn begin<'f>(
     }
 }
 
-/// An upload is to begin. Its host takes no memory yet, and keeps the allocator.
+/// Begins an upload. Its host takes no memory yet, and keeps the allocator.
 pub(crate) fn upload<M: Medium>(
     alloc: Global,
     device: &Device<M>,
     host: &mut Option<Host<'_>>,
     limits: Limits,
 ) -> Result<Option<Report>, LinkFault>
-    requires { IsSteady (bench_of device.now host.old) }
+    requires { IsSteadyLink (bench_of device.now host.old) }
     ensures { WorldEventAlone (bench_of device.now host.old) (Uploads limits) (bench_of device.now host.new) result }
 {
     if host.is_some() {

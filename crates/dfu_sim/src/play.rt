@@ -2,11 +2,11 @@
 
 ghost use Rattle.std.specs.Prelude.{◌≡◌};
 ghost use Rattle.dfu_sim.specs.Delivery.{delivery_of};
-ghost use Rattle.dfu_sim.specs.Play.{given, notify_restart, session_aborted};
-ghost use Rattle.dfu_sim.specs.LinkInvariant.{session_of, given_by, bench_of, link_state, IsOnIn, SendsBytes, IsCountedIn, IsSteady};
-ghost use Rattle.dfu_sim.specs.Happening.{Offers, Goes, fate_of, harm_in, refused_in, happening};
+ghost use Rattle.dfu_sim.specs.Play.{uploaded_after, notify_restart, session_aborted};
+ghost use Rattle.dfu_sim.specs.LinkInvariant.{session_of, given_by, bench_of, link_state, IsSessionOn, SendsBytes, IsCountedIn, IsSteadyLink};
+ghost use Rattle.dfu_sim.specs.Happening.{Offers, Goes, fate_of, harm_of_fate, fate_with_refusal, happening};
 ghost use Rattle.dfu_sim.specs.EventResults.{WorldEventResult, WorldEventAlone};
-ghost use Rattle.dfu_sim.specs.inside.Acting.{report_of, ended, abort_answer};
+ghost use Rattle.dfu_sim.specs.inside.Acting.{report_of_phase, session_outcome, abort_answer};
 
 use crate::acting::{carry_out, power_cycle};
 use crate::delivery::Answered;
@@ -19,9 +19,9 @@ use dfu_host::{Action, Host, Limits, Report, Seen};
 use dfu_slots::{Faulty, Medium};
 use std::alloc::Global;
 
-/// The report of a host that is done.
+/// Returns the report of a host that is done, else None.
 fn report(host: &Host<'_>) -> Option<Report>
-    ensures { result ≡ report_of host.now.phase }
+    ensures { result ≡ report_of_phase host.now.phase }
 {
     match host.next() {
         Action::Done(report) => Some(report),
@@ -32,9 +32,9 @@ fn report(host: &Host<'_>) -> Option<Report>
 /// Ends the session of a host that is done, with its report. A host that reports Uploaded is kept.
 fn end<'f>(host: &mut Option<Host<'f>>, gave: &mut Option<Host<'f>>) -> Option<Report>
     requires { IsCountedIn (session_of host.old) }
-    ensures session { session_of host.new ≡ (ended (session_of host.old)).session }
-    ensures given { given_by gave.new ≡ given (ended (session_of host.old)).answer.gave (given_by gave.old) }
-    ensures report { result ≡ (ended (session_of host.old)).answer.report }
+    ensures session { session_of host.new ≡ (session_outcome (session_of host.old)).session }
+    ensures given { given_by gave.new ≡ uploaded_after (session_outcome (session_of host.old)).answer.gave (given_by gave.old) }
+    ensures report { result ≡ (session_outcome (session_of host.old)).answer.report }
 {
     let report = match host {
         None => None,
@@ -53,7 +53,7 @@ fn restart<'f>(host: &mut Option<Host<'f>>, gave: &mut Option<Host<'f>>) -> Opti
     requires sized { SendsBytes (session_of host.old) }
     requires counted { IsCountedIn (session_of host.old) }
     ensures session { session_of host.new ≡ (notify_restart (session_of host.old)).session }
-    ensures given { given_by gave.new ≡ given (notify_restart (session_of host.old)).answer.gave (given_by gave.old) }
+    ensures given { given_by gave.new ≡ uploaded_after (notify_restart (session_of host.old)).answer.gave (given_by gave.old) }
     ensures report { result ≡ (notify_restart (session_of host.old)).answer.report }
 {
     if let Some(live) = host {
@@ -62,7 +62,7 @@ fn restart<'f>(host: &mut Option<Host<'f>>, gave: &mut Option<Host<'f>>) -> Opti
     end(host, gave)
 }
 
-/// A file is offered.
+/// Begins a session that offers `file`, if none is live.
 fn offer<'f, M: Medium>(
     device: &Device<M>,
     host: &mut Option<Host<'f>>,
@@ -70,7 +70,7 @@ fn offer<'f, M: Medium>(
     file: &'f [u8],
     limits: Limits,
 ) -> Result<Option<Report>, LinkFault>
-    requires { IsSteady (bench_of device.now host.old) }
+    requires { IsSteadyLink (bench_of device.now host.old) }
     ensures { WorldEventAlone (bench_of device.now host.old) (Offers purpose file.now limits) (bench_of device.now host.new) result }
 {
     if host.is_some() {
@@ -85,9 +85,9 @@ fn offer<'f, M: Medium>(
     }
 }
 
-/// The session is given up.
+/// Ends the session of `host` by an abort.
 fn abort(host: &mut Option<Host<'_>>) -> Result<Option<Report>, LinkFault>
-    requires { IsOnIn (session_of host.old) }
+    requires { IsSessionOn (session_of host.old) }
     ensures session { session_of host.new ≡ session_aborted (session_of host.old) }
     ensures told { result ≡ abort_answer (session_of host.old) }
 {
@@ -100,7 +100,8 @@ fn abort(host: &mut Option<Host<'_>>) -> Result<Option<Report>, LinkFault>
     }
 }
 
-/// The host takes its next action, and the device's program refuses the image that it closes, or refuses none. `out` is room for an answer.
+/// Takes the next action of the host, by `fate`. The device's program refuses the image that the action closes, by `refusing`, or refuses
+/// none. `out` is room for an answer.
 fn take_action<'f, M: Faulty>(
     device: &mut Device<M>,
     host: &mut Option<Host<'f>>,
@@ -109,8 +110,8 @@ fn take_action<'f, M: Faulty>(
     refusing: Option<Objection>,
     out: &mut Answered,
 ) -> Result<Option<Report>, LinkFault>
-    requires { IsSteady (bench_of device.old host.old) }
-    ensures { WorldEventResult (link_state device.old host.old gave.old) (Goes (refused_in refusing (fate_of fate.entry)) (harm_in fate.entry))
+    requires { IsSteadyLink (bench_of device.old host.old) }
+    ensures { WorldEventResult (link_state device.old host.old gave.old) (Goes (fate_with_refusal refusing (fate_of fate.entry)) (harm_of_fate fate.entry))
         (link_state device.new host.new gave.new) result }
 {
     match host {
@@ -120,7 +121,7 @@ fn take_action<'f, M: Faulty>(
     Ok(end(host, gave))
 }
 
-/// An event comes. A refused one changes nothing. `out` is room for an answer.
+/// Takes `event`. A refused event changes nothing. `out` is room for an answer.
 pub(crate) fn apply_event<'f, M: Faulty>(
     alloc: Global,
     device: &mut Device<M>,
@@ -129,7 +130,7 @@ pub(crate) fn apply_event<'f, M: Faulty>(
     event: Event<'f, '_>,
     out: &mut Answered,
 ) -> Result<Option<Report>, LinkFault>
-    requires { IsSteady (bench_of device.old host.old) }
+    requires { IsSteadyLink (bench_of device.old host.old) }
     ensures { WorldEventResult (link_state device.old host.old gave.old) (happening event.entry) (link_state device.new host.new gave.new) result }
 {
     match event {

@@ -1,9 +1,9 @@
 //! A list of events.
 
 ghost use Rattle.std.specs.Prelude.{◌≡◌, ◌++◌, ◌<◌, vec_len, vec_capacity};
-ghost use Rattle.dfu_sim.specs.Session.{said};
+ghost use Rattle.dfu_sim.specs.Session.{report_list};
 ghost use Rattle.dfu_sim.specs.Running.{happenings, RunAnswers};
-ghost use Rattle.dfu_sim.specs.FollowingRun.{AllFollowRun};
+ghost use Rattle.dfu_sim.specs.FollowingRun.{AllMachinesFollowRun};
 ghost use Rattle.dfu_sim.specs.Headline.{RunPreservesHeadline};
 ghost use Rattle.dfu_sim.specs.CleanInstall.{RunsCleanly};
 
@@ -14,8 +14,8 @@ use dfu_host::Report;
 use dfu_slots::Faulty;
 use std::alloc::Global;
 
-/// Stop of a run: before the event `at`, counted from 0, which was refused or for whose report there was no memory. `reports` are those of
-/// the events before it.
+/// Stop of a run, before the event `at` (counted from 0): the event was refused, or there was no memory for its report. `reports` are the
+/// reports of the events before it.
 #[derive(Drop)]
 pub struct Stop {
     pub fault: LinkFault,
@@ -26,31 +26,31 @@ pub struct Stop {
 /// Adds a report, if there is one.
 fn note(reports: &mut Vec<Report>, report: Option<Report>)
     requires { vec_len reports.old < vec_capacity reports.old }
-    ensures { reports.new.items ≡ reports.old.items ++ said report }
+    ensures { reports.new.items ≡ reports.old.items ++ report_list report }
 {
     if let Some(report) = report {
         reports.push_reserved(report);
     }
 }
 
-/// Lets events come one after the other, up to the first that is refused, and answers their
-/// reports. Room for a report is made before each event.
+/// Takes `events` one after the other, up to the first that is refused, and returns their reports. Room for a report is made before each
+/// event.
 ///
-/// By `headline` the headline holds after each of the events, if it held before the first: the
-/// active image is the factory image or the payload of a file offered so far. If the event reports
-/// Installed or Verified, the device is in appIDLE with the payload of the last session.
+/// By `headline` the headline holds after each of the events, if it held before the first: the active image is the factory image or the
+/// payload of a file offered so far. If the event reports Installed or Verified, the device is in appIDLE with the payload of the last
+/// session.
 ///
 /// # Errors
 ///
-/// `Stop` if an event is refused, with its fault, or if there is no memory for a report,
-/// `NoMemory`. The link is then as it was before that event.
+/// `Stop` if an event is refused, with its fault, or if there is no memory for a report, `NoMemory`. The link is then as it was before
+/// that event.
 pub fn run<'f, M: Faulty>(
     world: &mut World<'f, M>,
     alloc: Global,
     events: &[Event<'f, '_>],
 ) -> Result<Vec<Report>, Stop>
     ensures runs { RunAnswers world.old (happenings events.now) world.new result }
-    ensures legal { AllFollowRun world.old (happenings events.now) world.new result }
+    ensures legal { AllMachinesFollowRun world.old (happenings events.now) world.new result }
     ensures headline { RunPreservesHeadline world.old events.now world.new result }
     ensures clean { RunsCleanly world.old.bench (happenings events.now) world.new.bench result }
 {

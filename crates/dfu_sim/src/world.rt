@@ -2,13 +2,13 @@
 
 ghost use Rattle.std.specs.Prelude.{◌≡◌, [], true, false, IfOk, IfErr, IfNone};
 ghost use Rattle.dfu_slots.specs.Medium.Fuse.{Whole};
-ghost use Rattle.dfu_sim.specs.LinkView.{Nobody, IsLive, BenchMatchesFlash};
-ghost use Rattle.dfu_sim.specs.Bytes.{armed};
+ghost use Rattle.dfu_sim.specs.LinkView.{NoLiveSession, IsLive, BenchMatchesFlash};
+ghost use Rattle.dfu_sim.specs.Bytes.{armed_device};
 ghost use Rattle.dfu_sim.specs.Happening.{happening};
 ghost use Rattle.dfu_sim.specs.EventResults.{WorldEventResult};
-ghost use Rattle.dfu_sim.specs.Following.{AllFollow};
+ghost use Rattle.dfu_sim.specs.Following.{AllMachinesFollow};
 ghost use Rattle.dfu_sim.specs.Headline.{StepPreservesHeadline};
-ghost use Rattle.dfu_sim.specs.Sure.{AllSure};
+ghost use Rattle.dfu_sim.specs.Sure.{AllEventsSure};
 ghost use Rattle.dfu_sim.specs.UploadResults.{UploadOrUnchanged};
 
 use crate::delivery::{Answered, Response};
@@ -47,10 +47,10 @@ impl<'f, M: Faulty> Model for World<'f, M> {
 }
 
 impl<'f, M: Faulty> World<'f, M> {
-    /// A link to a device, with no session and nothing uploaded. It disarms the device's medium,
+    /// Makes a link to a device, with no session and nothing uploaded. The call disarms the device's medium,
     /// and keeps the allocator for uploads to come.
     pub fn new(alloc: Global, device: Device<M>) -> World<'f, M>
-        ensures link { result ≡ record { bench = record { device = armed device Whole; session = Nobody }; up = [] } }
+        ensures link { result ≡ record { bench = record { device = armed_device device Whole; session = NoLiveSession }; up = [] } }
         ensures active { BenchMatchesFlash result.bench }
     {
         let mut device = device;
@@ -69,9 +69,8 @@ impl<'f, M: Faulty> World<'f, M> {
         }
     }
 
-    /// Lets an event come, and answers the report of the session that ends with it, if one does.
-    /// It takes memory only for the parts of an upload. If that is refused, the session ends with
-    /// the report NoMemory.
+    /// Lets an event come, and returns the report of the session that ends with it, if one does. Only the parts of an upload take
+    /// memory; if none is left, the session ends with the report NoMemory.
     ///
     /// By `headline` the headline holds after the event with the report that is answered, if it
     /// held before: the active image is the factory image or the payload of a file offered so far.
@@ -88,9 +87,9 @@ impl<'f, M: Faulty> World<'f, M> {
     ///    `Host::download_verified`; of an upload, that of `Host::upload`.
     pub fn step(&mut self, event: Event<'f, '_>) -> Result<Option<Report>, LinkFault>
         ensures play { WorldEventResult self.old (happening event.entry) self.new result }
-        ensures legal { AllFollow self.old (happening event.entry) self.new result }
+        ensures legal { AllMachinesFollow self.old (happening event.entry) self.new result }
         ensures headline { StepPreservesHeadline self.old event.entry self.new result }
-        ensures sure { AllSure self.old.bench (happening event.entry) self.new.bench result }
+        ensures sure { AllEventsSure self.old.bench (happening event.entry) self.new.bench result }
         ensures gives { UploadOrUnchanged self.old self.new result }
         ensures active { BenchMatchesFlash self.new.bench }
     {
@@ -107,9 +106,9 @@ impl<'f, M: Faulty> World<'f, M> {
         told
     }
 
-    /// The phase of the host that is live, if one is, and what it asks for next.
+    /// Returns the phase of the host that is live and the action that it asks for next; None if no session is live.
     pub fn asks(&self) -> Option<(Phase, Action<'f>)>
-        ensures { IfNone result (self.now.bench.session ≡ Nobody) }
+        ensures { IfNone result (self.now.bench.session ≡ NoLiveSession) }
     {
         match &self.host {
             None => None,
@@ -117,8 +116,8 @@ impl<'f, M: Faulty> World<'f, M> {
         }
     }
 
-    /// Returns the answer of the device to the host's last action, with the bytes of its answer, also if the answer was lost on its way
-    /// back. No clause speaks of it: it is for a trace.
+    /// Returns the answer of the device to the host's last action, with its bytes, also if the answer was lost on its way back. No
+    /// clause speaks of the result, because it is for a trace.
     pub fn answered(&self) -> Option<(Answer, &[u8])> {
         match self.out.came {
             Response::Answered(answer) => Some((answer, self.out.bytes.as_slice())),
@@ -126,8 +125,8 @@ impl<'f, M: Faulty> World<'f, M> {
         }
     }
 
-    /// Returns the bytes of the last session that reported Uploaded: by `gives` of `step` the device's active image at that time. At first
-    /// it is empty.
+    /// Returns the bytes of the last session that reported Uploaded: by `gives` of `step` the device's active image at that time. Before
+    /// the first such session there are none.
     pub fn uploaded(&self) -> &[u8]
         ensures { result.now ≡ self.now.up }
     {
@@ -137,7 +136,7 @@ impl<'f, M: Faulty> World<'f, M> {
         }
     }
 
-    /// The device.
+    /// Returns the device.
     pub fn device(&self) -> &Device<M>
         ensures device { result.now ≡ self.now.bench.device }
         ensures active { BenchMatchesFlash self.now.bench }
@@ -145,9 +144,9 @@ impl<'f, M: Faulty> World<'f, M> {
         &self.device
     }
 
-    /// The device back, without what was uploaded. While a session is live, the link back unchanged.
+    /// Returns the device, without what was uploaded; or while a session is live, as the error, the link unchanged.
     pub fn into_device(self) -> Result<Device<M>, World<'f, M>>
-        ensures ok { IfOk result (λ device. (self.entry.bench.session ≡ Nobody) × (device ≡ self.entry.bench.device)) }
+        ensures ok { IfOk result (λ device. (self.entry.bench.session ≡ NoLiveSession) × (device ≡ self.entry.bench.device)) }
         ensures err { IfErr result (λ world. IsLive self.entry.bench.session × (world ≡ self.entry)) }
         // The medium of the device isn't armed.
         ensures unarmed { IfOk result (λ device. device.slots.medium.fuse ≡ Whole) }
@@ -161,7 +160,7 @@ impl<'f, M: Faulty> World<'f, M> {
     /// Returns whether a session is live.
     pub fn is_live(&self) -> bool
         ensures live { result ≡ true → IsLive self.now.bench.session }
-        ensures none { result ≡ false → self.now.bench.session ≡ Nobody }
+        ensures none { result ≡ false → self.now.bench.session ≡ NoLiveSession }
     {
         match &self.host {
             None => false,
@@ -169,8 +168,8 @@ impl<'f, M: Faulty> World<'f, M> {
         }
     }
 
-    /// The device back, also while a session is live, which ends with the link and reports nothing. The bytes of an upload are dropped. (A
-    /// function of its own: within `into_device` the device would be moved piece by piece, in half a megabyte of code.)
+    /// Returns the device, also while a session is live, which ends with the link and reports nothing. The bytes of an upload are dropped.
+    /// (A function of its own: within `into_device` the device would be moved piece by piece, in half a megabyte of code.)
     #[inline(never)]
     pub fn release(self) -> Device<M>
         ensures device { result ≡ self.entry.bench.device }

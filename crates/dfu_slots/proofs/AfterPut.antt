@@ -4,29 +4,29 @@ use Rattle.std.proofs.lemmas.List.{length-take-le, append_assoc}
 use Rattle.dfu_slots.specs.declared.fault.PutFault.{PutFault}
 use Rattle.dfu_slots.specs.declared.fault.PutFault.TheVariants.{TooLarge, NotBegun}
 use Rattle.dfu_slots.specs.Units.{unit_size, whole_part, gate_room, Grain}
-use Rattle.dfu_slots.specs.Medium.{AllWrites, IsAhead, written}
+use Rattle.dfu_slots.specs.Medium.{AllWrites, IsWritableAhead, written}
 use Rattle.dfu_slots.specs.Writes.{put_writes, put_rest}
-use Rattle.dfu_slots.specs.Layout.{slot_size, Slot, slot, IsOpen}
+use Rattle.dfu_slots.specs.Layout.{slot_size, Slot, slot, HasOpenGate}
 use Rattle.dfu_slots.specs.Image.{gate_of, capacity_of, spare_at, spare}
-use Rattle.dfu_slots.specs.StoreView.{SlotsState, spare_slot, tail_at, data_place, spare_of, Put, writes_of, CallWorked}
-use Rattle.dfu_slots.specs.Store.{HasPuts, IsStore}
-use Rattle.dfu_slots.specs.Changes.{Changes}
-use Rattle.dfu_slots.specs.CallResults.{Refuses, StorePutResult}
+use Rattle.dfu_slots.specs.StoreView.{SlotsState, spare_slot, held_data_place, data_place, spare_of, Put, writes_of, CallWorked}
+use Rattle.dfu_slots.specs.Store.{HasPutBytes, IsStore}
+use Rattle.dfu_slots.specs.Changes.{CallChanges}
+use Rattle.dfu_slots.specs.CallResults.{CallIsRefused, StorePutResult}
 use Rattle.dfu_slots.specs.inside.PlaceMemory.{IsStoreAt}
-use Rattle.dfu_slots.proofs.Stands.{standing}
-use Rattle.dfu_slots.proofs.Newest.{places_are, place_end, spare_size}
-use Rattle.dfu_slots.proofs.Sectors.{IsEdge, gate_wide}
-use Rattle.dfu_slots.proofs.Multiples.{part_le, part_more, held_end}
-use Rattle.dfu_slots.proofs.Series.{AllInside}
-use Rattle.dfu_slots.proofs.SpareData.{DataLeaves, data_leaves, data_written, spare_front}
-use Rattle.dfu_slots.proofs.Anew.{Left}
-use Rattle.dfu_slots.proofs.Within.{front_written}
-use Rattle.dfu_slots.proofs.Edges.{end_edge}
-use Rattle.dfu_slots.proofs.PutAhead.{put_ahead}
-use Rattle.dfu_slots.proofs.Put.{whole_le, rest_length, put_inside, put_left, put_written, put_joined, put_behind}
-use Rattle.dfu_slots.proofs.Seeing.{room_capacity, begun_closed, spare_is, begun_from_gate}
-use Rattle.dfu_slots.proofs.Stays.{Stays, kept_on, stays_places, stays_has, stays_same, stays_image, stays_room, spare_there}
-use Rattle.dfu_slots.proofs.AfterCall.{put_refuses, Came, after_call, after_ok, on_ok_of, call_store, call_leaves}
+use Rattle.dfu_slots.proofs.Stands.{active_image_at_its_place}
+use Rattle.dfu_slots.proofs.Newest.{places_of_active_image, slot_place_ends_within, spare_data_has_capacity}
+use Rattle.dfu_slots.proofs.Sectors.{IsSectorEdge, gate_room_at_least_16}
+use Rattle.dfu_slots.proofs.Multiples.{part_at_most_length, part_after_whole_units, held_bytes_end_at_put_end}
+use Rattle.dfu_slots.proofs.Series.{AllWritesInside}
+use Rattle.dfu_slots.proofs.SpareData.{SpareDataResult, closed_spare_data_result, spare_data_after_write, spare_data_front_after_write}
+use Rattle.dfu_slots.proofs.Anew.{LeftBytes}
+use Rattle.dfu_slots.proofs.Within.{written_bytes_after_front}
+use Rattle.dfu_slots.proofs.Edges.{slot_ends_at_edge}
+use Rattle.dfu_slots.proofs.PutAhead.{erased_ahead_of_put}
+use Rattle.dfu_slots.proofs.Put.{whole_units_at_most_length, put_rest_length, put_writes_lie_inside, put_leaves_whole_units, put_without_sectors, put_with_rest_is_all_bytes, put_after_held_bytes}
+use Rattle.dfu_slots.proofs.Seeing.{room_is_capacity, begun_gate_is_closed, spare_is_data_with_held, begun_only_by_gate}
+use Rattle.dfu_slots.proofs.Stays.{ActiveImageStays, places_kept_by_store, staying_image_keeps_places, staying_image_exists, active_slot_stays, staying_image_is_seen, staying_room_is_kept, spare_same_by_grain}
+use Rattle.dfu_slots.proofs.AfterCall.{put_refusal_causes, CallWasMade, holds_after_any_result, holds_after_ok_call, holds_at_ok, store_after_any_call, result_common_to_calls}
 
 module _ (s now : SlotsState) (store : IsStore s) (at : ℕ) (new : List ℕ) (here : at ≡ s.put_end) where
   abbrev g : ℕ
@@ -39,212 +39,264 @@ module _ (s now : SlotsState) (store : IsStore s) (at : ℕ) (new : List ℕ) (h
   whole = whole_part s.medium.grain.unit (length all)
 
   place : store.has_image.active.spare ≡ spare_at g s.medium.bytes
-  place = (places_are g s.medium.bytes store.has_image.active.at store.has_image.active.spare store.has_image.image
-      (standing store.has_image.active)).1
+  place = (places_of_active_image g s.medium.bytes store.has_image.active.at store.has_image.active.spare store.has_image.image
+      (active_image_at_its_place store.has_image.active)).1
 
-  all_length : length all ≡ length s.held + length new
-  all_length = length-append s.held new
+  held_and_put_length : length all ≡ length s.held + length new
+  held_and_put_length = length-append s.held new
 
-  edge : IsEdge s.medium.grain.sector (store.has_image.active.spare + slot_size s.medium.bytes)
-  edge =
+  spare_end_is_sector_edge : IsSectorEdge s.medium.grain.sector (store.has_image.active.spare + slot_size s.medium.bytes)
+  spare_end_is_sector_edge =
       let a = store.has_image.active in
-      end_edge s.medium.grain s.medium.bytes (standing a).sized a.sized.whole a.at a.spare a.places
+      slot_ends_at_edge s.medium.grain s.medium.bytes (active_image_at_its_place a).sized a.sized.whole a.at a.spare a.places
 
-  -- The bytes lie in the spare's data.
-  inside : at + length new ≤ capacity_of s.medium
-      → AllInside (store.has_image.active.spare + 2 * g) (store.has_image.active.spare + slot_size s.medium.bytes)
+  -- All writes of a `put` lie in the spare's data.
+  put_writes_inside_spare : at + length new ≤ capacity_of s.medium
+      → AllWritesInside (store.has_image.active.spare + 2 * g) (store.has_image.active.spare + slot_size s.medium.bytes)
       (writes_of s (Put at new))
-  inside fits =
-      put_inside s.medium.grain s.held new (store.has_image.active.spare + 2 * g) (store.has_image.active.spare + slot_size s.medium.bytes)
-      (data_place s (at - length s.held)) edge (omega (arith, place))
-      (omega (arith, place, fits, here, all_length, held_end s store.puts, store.has_image.active.sized.room))
+  put_writes_inside_spare fits =
+      put_writes_lie_inside s.medium.grain s.held new (store.has_image.active.spare + 2 * g) (store.has_image.active.spare + slot_size
+      s.medium.bytes)
+      (data_place s (at - length s.held)) spare_end_is_sector_edge (omega (arith, place))
+      (omega (arith, place, fits, here, held_and_put_length, held_bytes_end_at_put_end s store.puts, store.has_image.active.sized.room))
 
-  -- After a `put` whose writes worked, or were broken off.
-  module _ (came : Came s now (Put at new)) where
+  -- Facts after a `put` whose writes worked, or were broken off.
+  module _ (came : CallWasMade s now (Put at new)) where
     fits : at + length new ≤ capacity_of s.medium
-    fits = omega (arith, came.fits, room_capacity s)
+    fits = omega (arith, came.fits, room_is_capacity s)
 
-    shut : ¬ IsOpen (slot g s.medium.bytes store.has_image.active.spare)
-    shut = subst (λ (q : ℕ). ¬ IsOpen (slot g s.medium.bytes q)) (sym place) (begun_closed s came.ready)
+    spare_is_closed_before_put : ¬ HasOpenGate (slot g s.medium.bytes store.has_image.active.spare)
+    spare_is_closed_before_put = subst (λ (q : ℕ). ¬ HasOpenGate (slot g s.medium.bytes q)) (sym place) (begun_gate_is_closed s came.ready)
 
-    left : DataLeaves g s.medium now.medium store.has_image.active.at store.has_image.active.spare store.has_image.image
-    left =
+    spare_data_after_put : SpareDataResult g s.medium now.medium store.has_image.active.at store.has_image.active.spare
+        store.has_image.image
+    spare_data_after_put =
         let a = store.has_image.active in
-        data_leaves g (gate_wide s.medium.grain) s.medium now.medium a.at a.spare store.has_image.image (standing a) shut
-        (writes_of s (Put at new)) (inside fits) came.ends
+        closed_spare_data_result g (gate_room_at_least_16 s.medium.grain) s.medium now.medium a.at a.spare store.has_image.image
+        (active_image_at_its_place a) spare_is_closed_before_put
+        (writes_of s (Put at new)) (put_writes_inside_spare fits) came.ends
 
-    stays_after : Stays s now store.has_image
-    stays_after = record { stands = left.stands; same = left.same }
+    active_stays_after_put : ActiveImageStays s now store.has_image
+    active_stays_after_put = record { stands = spare_data_after_put.stands; same = spare_data_after_put.same }
 
-    gate_after : (spare_slot now).gate ≡ (spare_slot s).gate
-    gate_after = ap (λ (p : Slot). p.gate) (spare_there s.medium now.medium left.same.grain) ∙ left.gate
+    spare_gate_after_put : (spare_slot now).gate ≡ (spare_slot s).gate
+    spare_gate_after_put = ap (λ (p : Slot). p.gate) (spare_same_by_grain s.medium now.medium spare_data_after_put.same.grain)
+        ∙ spare_data_after_put.gate
 
-  -- After a `put` that is Ok.
-  module _ (came : Came s now (Put at new)) (worked : CallWorked s (Put at new) now) where
-    rest_is : length now.held ≡ length all % unit_size s.medium.grain.unit
-    rest_is = ap length worked.held_is ∙ rest_length s.medium.grain s.held new ∙ omega (arith, part_le s.medium.grain.unit (length all))
+  -- Facts after a `put` that returned Ok.
+  module _ (came : CallWasMade s now (Put at new)) (worked : CallWorked s (Put at new) now) where
+    held_length_after_put : length now.held ≡ length all % unit_size s.medium.grain.unit
+    held_length_after_put = ap length worked.held_is ∙ put_rest_length s.medium.grain s.held new
+        ∙ omega (arith, part_at_most_length s.medium.grain.unit (length all))
 
-    part_is : length now.held ≡ now.put_end % unit_size s.medium.grain.unit
-    part_is =
-        rest_is
-        ∙ ap (λ (n : ℕ). n % unit_size s.medium.grain.unit) (all_length ∙ ap (λ (n : ℕ). n + length new) store.puts.part)
-        ∙ part_more s.medium.grain.unit s.put_end (length new)
+    held_part_after_put : length now.held ≡ now.put_end % unit_size s.medium.grain.unit
+    held_part_after_put =
+        held_length_after_put
+        ∙ ap (λ (n : ℕ). n % unit_size s.medium.grain.unit) (held_and_put_length ∙ ap (λ (n : ℕ). n + length new) store.puts.part)
+        ∙ part_after_whole_units s.medium.grain.unit s.put_end (length new)
         ∙ ap (λ (n : ℕ). n % unit_size s.medium.grain.unit) (ap (λ (n : ℕ). n + length new) (sym here) ∙ sym worked.end_is)
 
-    -- Place at which the bytes held back now belong.
-    held_now : tail_at now ≡ tail_at s + whole
-    held_now = omega (
+    -- The place of the held bytes moved on by the whole units that were written.
+    held_place_after_put : held_data_place now ≡ held_data_place s + whole
+    held_place_after_put = omega (
       arith,
       here,
       worked.end_is,
       ap length worked.held_is,
-      rest_length s.medium.grain s.held new,
-      all_length,
-      whole_le s.medium.grain s.held new,
-      held_end s store.puts,
+      put_rest_length s.medium.grain s.held new,
+      held_and_put_length,
+      whole_units_at_most_length s.medium.grain s.held new,
+      held_bytes_end_at_put_end s store.puts,
     )
 
-    data_size : length (spare_slot s).data_bytes ≡ capacity_of s.medium
-    data_size = spare_size g s.medium.bytes (standing store.has_image.active).sized
+    spare_data_size_before_put : length (spare_slot s).data_bytes ≡ capacity_of s.medium
+    spare_data_size_before_put = spare_data_has_capacity g s.medium.bytes (active_image_at_its_place store.has_image.active).sized
 
-    room : tail_at s + length all ≤ length (spare_slot s).data_bytes
-    room = omega (arith, data_size, fits came, here, all_length, held_end s store.puts)
+    put_bytes_fit_spare_data : held_data_place s + length all ≤ length (spare_slot s).data_bytes
+    put_bytes_fit_spare_data = omega (
+      arith,
+      spare_data_size_before_put,
+      fits came,
+      here,
+      held_and_put_length,
+      held_bytes_end_at_put_end s
+          store.puts,
+    )
 
-    grain : now.medium.grain ≡ s.medium.grain
-    grain = (left came).same.grain
+    grain_stays_after_put : now.medium.grain ≡ s.medium.grain
+    grain_stays_after_put = (spare_data_after_put came).same.grain
 
     kept : spare_at g now.medium.bytes ≡ spare_at g s.medium.bytes
-    kept = (left came).spare_stays
+    kept = (spare_data_after_put came).spare_place_stays
 
-    end : store.has_image.active.spare + slot_size s.medium.bytes ≤ length s.medium.bytes
-    end =
+    spare_ends_within_medium : store.has_image.active.spare + slot_size s.medium.bytes ≤ length s.medium.bytes
+    spare_ends_within_medium =
         let a = store.has_image.active in
-        (place_end g s.medium.bytes a.at a.spare (standing a).sized (standing a).places).1
+        (slot_place_ends_within g s.medium.bytes a.at a.spare (active_image_at_its_place a).sized (active_image_at_its_place a).places).1
 
-    whole_size : length (take whole all) ≡ whole
-    whole_size = length-take-le whole all (whole_le s.medium.grain s.held new)
+    whole_units_length : length (take whole all) ≡ whole
+    whole_units_length = length-take-le whole all (whole_units_at_most_length s.medium.grain s.held new)
 
-    ahead_after : IsAhead now.medium (data_place now (tail_at now))
-    ahead_after =
+    erased_ahead_after_put : IsWritableAhead now.medium (data_place now (held_data_place now))
+    erased_ahead_after_put =
         let a = store.has_image.active in
-        let p = data_place s (tail_at s) in
+        let p = data_place s (held_data_place s) in
         let same : data_place s (at - length s.held) ≡ p = ap (λ (n : ℕ). data_place s (n - length s.held)) here in
-        let gate : gate_of now.medium ≡ g = ap gate_room grain in
+        let gate : gate_of now.medium ≡ g = ap gate_room grain_stays_after_put in
         let spare_is_there : spare_at (gate_of now.medium) now.medium.bytes ≡ spare_at g s.medium.bytes =
-        ap (λ (w : Grain). spare_at (gate_room w) now.medium.bytes) grain ∙ kept in
-        let there : p + whole ≡ data_place now (tail_at now) = omega (arith, gate, spare_is_there, held_now) in
-        let high : p + length all ≤ length s.medium.bytes = omega (arith, place, end, room, data_size, a.sized.room) in
-        subst (λ (q : ℕ). IsAhead now.medium q) there
-        (put_ahead s.medium now.medium p s.held new a.sized high
+        ap (λ (w : Grain). spare_at (gate_room w) now.medium.bytes) grain_stays_after_put ∙ kept in
+        let there : p + whole ≡ data_place now (held_data_place now) = omega (arith, gate, spare_is_there, held_place_after_put) in
+        let high : p + length all ≤ length s.medium.bytes = omega (
+          arith,
+          place,
+          spare_ends_within_medium,
+          put_bytes_fit_spare_data,
+          spare_data_size_before_put,
+          a.sized.room,
+        ) in
+        subst (λ (q : ℕ). IsWritableAhead now.medium q) there
+        (erased_ahead_of_put s.medium now.medium p s.held new a.sized high
         (subst (λ (q : ℕ). AllWrites s.medium (put_writes s.medium.grain q s.held new) now.medium) same worked.writes) store.puts.ahead)
 
-    puts_after : HasPuts now
-    puts_after = record {
-      fits = omega (arith, fits came, here, worked.end_is, ap gate_room grain, (left came).same.size);
-      ahead = ahead_after;
-      part = part_is ∙ ap (λ (w : Grain). now.put_end % unit_size w.unit) (sym grain);
+    put_bytes_after_put : HasPutBytes now
+    put_bytes_after_put = record {
+      fits = omega (arith, fits came, here, worked.end_is, ap gate_room grain_stays_after_put, (spare_data_after_put came).same.size);
+      ahead = erased_ahead_after_put;
+      part = held_part_after_put ∙ ap (λ (w : Grain). now.put_end % unit_size w.unit) (sym grain_stays_after_put);
     }
 
-    -- The whole units follow what was there.
-    data_begins : take (tail_at s + whole) (spare_slot now).data_bytes ≡ take (tail_at s) (spare_slot s).data_bytes ++ take whole all
-    data_begins =
+    -- The spare's data has the whole units after what was there before.
+    spare_data_begins_after_put : take (held_data_place s + whole) (spare_slot now).data_bytes
+        ≡ take (held_data_place s) (spare_slot s).data_bytes ++ take whole all
+    spare_data_begins_after_put =
         let a = store.has_image.active in
         let p = data_place s (at - length s.held) in
         let to = a.spare + slot_size s.medium.bytes in
-        let same : p ≡ data_place s (tail_at s) = ap (λ (n : ℕ). data_place s (n - length s.held)) here in
-        let high : p + length all ≤ to = omega (arith, place, here, room, data_size, a.sized.room) in
-        ap (λ (q : Slot). take (tail_at s + whole) q.data_bytes) (spare_there s.medium now.medium grain)
-        ∙ ap (λ (n : ℕ). take (tail_at s + n) (spare g now.medium.bytes).data_bytes) (sym whole_size)
-        ∙ spare_front g s.medium.bytes now.medium.bytes (standing a).sized kept (tail_at s) (take whole all) to
-        (omega (arith, room, data_size, whole_size, whole_le s.medium.grain s.held new))
-        (subst (λ (q : ℕ). Left q to (take whole all) s.medium.bytes now.medium.bytes) same
-        (put_left s.medium.grain s.held new s.medium now.medium to p edge high end worked.writes))
+        let same : p ≡ data_place s (held_data_place s) = ap (λ (n : ℕ). data_place s (n - length s.held)) here in
+        let high : p + length all ≤ to = omega (arith, place, here, put_bytes_fit_spare_data, spare_data_size_before_put, a.sized.room) in
+        ap (λ (q : Slot). take (held_data_place s + whole) q.data_bytes) (spare_same_by_grain s.medium now.medium grain_stays_after_put)
+        ∙ ap (λ (n : ℕ). take (held_data_place s + n) (spare g now.medium.bytes).data_bytes) (sym whole_units_length)
+        ∙ spare_data_front_after_write g s.medium.bytes now.medium.bytes (active_image_at_its_place a).sized kept (held_data_place s) (take
+        whole all) to
+        (omega (
+          arith,
+          put_bytes_fit_spare_data,
+          spare_data_size_before_put,
+          whole_units_length,
+          whole_units_at_most_length s.medium.grain
+              s.held new,
+        ))
+        (subst (λ (q : ℕ). LeftBytes q to (take whole all) s.medium.bytes now.medium.bytes) same
+        (put_leaves_whole_units s.medium.grain s.held new s.medium now.medium to p spare_end_is_sector_edge high spare_ends_within_medium
+        worked.writes))
 
-    data_size_now : length (spare_slot now).data_bytes ≡ capacity_of s.medium
-    data_size_now =
-        ap (λ (q : Slot). length q.data_bytes) (spare_there s.medium now.medium grain)
-        ∙ spare_size g now.medium.bytes (left came).stands.sized
-        ∙ ap (λ (n : ℕ). n / 2 - 2 * g) (left came).same.size
+    spare_data_length_after_put : length (spare_slot now).data_bytes ≡ capacity_of s.medium
+    spare_data_length_after_put =
+        ap (λ (q : Slot). length q.data_bytes) (spare_same_by_grain s.medium now.medium grain_stays_after_put)
+        ∙ spare_data_has_capacity g now.medium.bytes (spare_data_after_put came).stands.sized
+        ∙ ap (λ (n : ℕ). n / 2 - 2 * g) (spare_data_after_put came).same.size
 
-    front_after : take (at + length new) (spare_of now) ≡ take at (spare_of s) ++ new
-    front_after =
+    spare_front_after_put : take (at + length new) (spare_of now) ≡ take at (spare_of s) ++ new
+    spare_front_after_put =
         let d = (spare_slot s).data_bytes in
-        let k = tail_at s in
+        let k = held_data_place s in
         let rest = put_rest s.medium.grain.unit s.held new in
-        let long = rest_length s.medium.grain s.held new in
-        let some = whole_le s.medium.grain s.held new in
-        let e : k + length s.held ≡ at = held_end s store.puts ∙ sym here in
-        let f : at + length new ≡ k + whole + length rest = omega (arith, e, long, some, all_length) in
+        let long = put_rest_length s.medium.grain s.held new in
+        let some = whole_units_at_most_length s.medium.grain s.held new in
+        let e : k + length s.held ≡ at = held_bytes_end_at_put_end s store.puts ∙ sym here in
+        let f : at + length new ≡ k + whole + length rest = omega (arith, e, long, some, held_and_put_length) in
         ap (λ (l : List ℕ). take (at + length new) l)
-        (spare_is now ∙ (λ i. written (spare_slot now).data_bytes (held_now i) (worked.held_is i)))
+        (spare_is_data_with_held now ∙ (λ i. written (spare_slot now).data_bytes (held_place_after_put i) (worked.held_is i)))
         ∙ ap (λ (n : ℕ). take n (written (spare_slot now).data_bytes (k + whole) rest)) f
-        ∙ front_written (spare_slot now).data_bytes (k + whole) rest (omega (arith, data_size_now, data_size, room, some))
-        ∙ ap (λ (l : List ℕ). l ++ rest) data_begins
+        ∙ written_bytes_after_front (spare_slot now).data_bytes (k + whole) rest (omega (
+          arith,
+          spare_data_length_after_put,
+          spare_data_size_before_put,
+          put_bytes_fit_spare_data,
+          some,
+        ))
+        ∙ ap (λ (l : List ℕ). l ++ rest) spare_data_begins_after_put
         ∙ append_assoc (take k d) (take whole all) rest
         ∙ ap (λ (l : List ℕ). take k d ++ l) (take-append-drop whole all)
         ∙ sym (append_assoc (take k d) s.held new)
-        ∙ ap (λ (l : List ℕ). l ++ new) (sym (front_written d k s.held (omega (arith, room, all_length)))
-        ∙ (λ i. take (e i) (sym (spare_is s) i)))
+        ∙ ap (λ (l : List ℕ). l ++ new) (sym (written_bytes_after_front d k s.held (omega (
+          arith,
+          put_bytes_fit_spare_data,
+          held_and_put_length,
+        )))
+        ∙ (λ i. take (e i) (sym (spare_is_data_with_held s) i)))
 
-    data_now : s.medium.grain.sector ≡ 0 → (spare_slot now).data_bytes ≡ written (spare_slot s).data_bytes (tail_at s) (take whole all)
-    data_now none =
+    spare_data_without_sectors : s.medium.grain.sector ≡ 0 → (spare_slot now).data_bytes
+        ≡ written (spare_slot s).data_bytes (held_data_place s) (take whole all)
+    spare_data_without_sectors none =
         let a = store.has_image.active in
-        ap (λ (p : Slot). p.data_bytes) (spare_there s.medium now.medium grain)
-        ∙ data_written g s.medium.bytes now.medium.bytes (standing a).sized kept (tail_at s) (take whole all)
-        (omega (arith, room, data_size, whole_size, whole_le s.medium.grain s.held new))
-        (put_written s.medium.grain s.held new s.medium now.medium (data_place s (at - length s.held)) none
-        (omega (arith, place, here, end, room, data_size, a.sized.room)) worked.writes
+        ap (λ (p : Slot). p.data_bytes) (spare_same_by_grain s.medium now.medium grain_stays_after_put)
+        ∙ spare_data_after_write g s.medium.bytes now.medium.bytes (active_image_at_its_place a).sized kept (held_data_place s) (take whole
+        all)
+        (omega (
+          arith,
+          put_bytes_fit_spare_data,
+          spare_data_size_before_put,
+          whole_units_length,
+          whole_units_at_most_length s.medium.grain
+              s.held new,
+        ))
+        (put_without_sectors s.medium.grain s.held new s.medium now.medium (data_place s (at - length s.held)) none
+        (omega (arith, place, here, spare_ends_within_medium, put_bytes_fit_spare_data, spare_data_size_before_put, a.sized.room))
+        worked.writes
         ∙ ap (λ (n : ℕ). written s.medium.bytes (data_place s (n - length s.held)) (take whole all)) here)
 
-    spare_after : s.medium.grain.sector ≡ 0 → spare_of now ≡ written (spare_of s) at new
-    spare_after none =
+    spare_bytes_without_sectors : s.medium.grain.sector ≡ 0 → spare_of now ≡ written (spare_of s) at new
+    spare_bytes_without_sectors none =
         let d = (spare_slot s).data_bytes in
-        let k = tail_at s in
-        let e : k + length s.held ≡ at = held_end s store.puts ∙ sym here in
-        spare_is now
-        ∙ (λ i. written (data_now none i) (held_now i) (worked.held_is i))
-        ∙ put_joined s.medium.grain s.held new d k room
-        ∙ put_behind s.medium.grain s.held new d k room
-        ∙ (λ i. written (sym (spare_is s) i) (e i) new)
+        let k = held_data_place s in
+        let e : k + length s.held ≡ at = held_bytes_end_at_put_end s store.puts ∙ sym here in
+        spare_is_data_with_held now
+        ∙ (λ i. written (spare_data_without_sectors none i) (held_place_after_put i) (worked.held_is i))
+        ∙ put_with_rest_is_all_bytes s.medium.grain s.held new d k put_bytes_fit_spare_data
+        ∙ put_after_held_bytes s.medium.grain s.held new d k put_bytes_fit_spare_data
+        ∙ (λ i. written (sym (spare_is_data_with_held s) i) (e i) new)
 
 module _ {T : Type 0} (s now : SlotsState) (store : IsStore s) (at : ℕ) (new : List ℕ) (here : at ≡ s.put_end) (result : Result T PutFault)
-    (refuses : Refuses s (Put at new) result) (changes : Changes s (Put at new) result now) where
-  put_stays : Stays s now store.has_image
-  put_stays = after_call s now (Put at new) result refuses changes (stays_after s now store at new here)
-      (stays_same s now store.has_image)
+    (refuses : CallIsRefused s (Put at new) result) (changes : CallChanges s (Put at new) result now) where
+  image_stays_at_put : ActiveImageStays s now store.has_image
+  image_stays_at_put = holds_after_any_result s now (Put at new) result refuses changes (active_stays_after_put s now store at new here)
+      (active_slot_stays s now store.has_image)
 
-  put_gate : (spare_slot now).gate ≡ (spare_slot s).gate
-  put_gate = after_call s now (Put at new) result refuses changes (gate_after s now store at new here)
+  gate_stays_at_put : (spare_slot now).gate ≡ (spare_slot s).gate
+  gate_stays_at_put = holds_after_any_result s now (Put at new) result refuses changes (spare_gate_after_put s now store at new here)
       (ap (λ (x : SlotsState). (spare_slot x).gate))
 
-  put_store : IsStore now
-  put_store =
-      let has = stays_has s now store.has_image put_stays in
-      call_store s now (Put at new) result changes store has (after_ok s now (Put at new) result refuses changes
-      (λ came worked. record { has_image = has; puts = puts_after s now store at new here came worked }))
+  store_after_put : IsStore now
+  store_after_put =
+      let has = staying_image_exists s now store.has_image image_stays_at_put in
+      store_after_any_call s now (Put at new) result changes store has (holds_after_ok_call s now (Put at new) result refuses changes
+      (λ came worked. record { has_image = has; puts = put_bytes_after_put s now store at new here came worked }))
 
-  put_leaves : StorePutResult s at new result now
-  put_leaves = record {
-    common = call_leaves s now (Put at new) result refuses changes put_store (stays_room s now store.has_image put_stays);
-    image = stays_image s now store.has_image put_stays;
-    front = after_ok s now (Put at new) result refuses changes (front_after s now store at new here);
-    spare = after_ok s now (Put at new) result refuses changes (spare_after s now store at new here);
-    end = after_ok s now (Put at new) result refuses changes (λ came worked. worked.end_is);
-    gate = on_ok_of result put_gate;
-    shut = on_ok_of result (begun_from_gate s now put_gate);
+  put_result_holds : StorePutResult s at new result now
+  put_result_holds = record {
+    common = result_common_to_calls s now (Put at new) result refuses changes store_after_put (staying_room_is_kept s now store.has_image
+        image_stays_at_put);
+    image = staying_image_is_seen s now store.has_image image_stays_at_put;
+    front = holds_after_ok_call s now (Put at new) result refuses changes (spare_front_after_put s now store at new here);
+    spare = holds_after_ok_call s now (Put at new) result refuses changes (spare_bytes_without_sectors s now store at new here);
+    end = holds_after_ok_call s now (Put at new) result refuses changes (λ came worked. worked.end_is);
+    gate = holds_at_ok result gate_stays_at_put;
+    shut = holds_at_ok result (begun_only_by_gate s now gate_stays_at_put);
   }
 
--- The effect of the private `put` on the inside of a store that is seen as `v` is the effect of `put` on the store, and its places are
--- kept.
-pub put_done : {T : Type 0} {s v : SlotsState} {active spare : ℕ} → s ≡ v → IsStoreAt s active spare → (now : SlotsState) (at : ℕ)
-    (new : List ℕ) → at ≡ v.put_end → (result : Result T PutFault) → (IsErrOf result NotBegun ↔ IsOpen (spare_slot s))
-    → (IsErrOf result TooLarge ↔ ((¬ IsOpen (spare_slot s)) × (capacity_of s.medium < at + length new)))
-    → Changes s (Put at new) result now → IsStoreAt now active spare × StorePutResult v at new result now
-put_done {T} {s} {v} view kept now at new place result not_begun too_large changes =
+-- The effect of the private `put` on the inside of a store that is seen as `v` is the effect of `put` on that store, and the store keeps
+-- its places.
+pub put_keeps_places : {T : Type 0} {s v : SlotsState} {active spare : ℕ} → s ≡ v → IsStoreAt s active spare → (now : SlotsState) (at : ℕ)
+    (new : List ℕ) → at ≡ v.put_end → (result : Result T PutFault) → (IsErrOf result NotBegun ↔ HasOpenGate (spare_slot s))
+    → (IsErrOf result TooLarge ↔ ((¬ HasOpenGate (spare_slot s)) × (capacity_of s.medium < at + length new)))
+    → CallChanges s (Put at new) result now → IsStoreAt now active spare × StorePutResult v at new result now
+put_keeps_places {T} {s} {v} view kept now at new place result not_begun too_large changes =
     let store = kept.store in
     let here : at ≡ s.put_end = place ∙ sym (ap (λ (x : SlotsState). x.put_end) view) in
-    let refuses = put_refuses s result not_begun at new too_large in
-    let leaves = put_leaves s now store at new here result refuses changes in (
-      kept_on kept leaves.common.store (stays_places s now store.has_image (put_stays s now store at new here result refuses changes)),
+    let refuses = put_refusal_causes s result not_begun at new too_large in
+    let leaves = put_result_holds s now store at new here result refuses changes in (
+      places_kept_by_store kept leaves.common.store (staying_image_keeps_places s now store.has_image (image_stays_at_put s now store at
+          new here result refuses changes)),
       subst (λ (x : SlotsState). StorePutResult x at new result now) view leaves,
     )

@@ -1,102 +1,106 @@
--- Bytes that are erased ahead of the writes.
+-- Bytes that are erased ahead of the next write.
 use Rattle.std.proofs.Common.{◌≡◌, ◌≢◌, ◌⊎◌, ◌==◌, true, false, if◌then◌else◌, ℕ, zero, suc, ◌+◌, ◌-◌, ◌%◌, ◌≤◌, ◌<◌, List, [], ◌∷◌, ◌++◌, length, get_or, take, drop, replicate, slice_index, inl, inr, refl, sym, ◌∙◌, ap, subst, arith, ⊎_elim}
 use Rattle.std.proofs.lemmas.List.{length-replicate, get_or-replicate, get_or-take, get_or-drop}
 use Rattle.std.proofs.lemmas.Bool.{cases_lt, eqb-true, eqb-false}
 use Rattle.std.proofs.Math.Nat.{add-mod_right}
 use Rattle.dfu_slots.specs.Units.{Grain}
-use Rattle.dfu_slots.specs.Medium.{MediumState, Write, AllWrites, FrameOutside, IsErased, IsAhead, IsWritable, written}
-use Rattle.dfu_slots.specs.Image.{IsSized}
-use Rattle.dfu_slots.specs.Writes.{erase_write, erases, write_anew, write_some}
-use Rattle.dfu_slots.proofs.Torn.{written_torn, written_range, byte_outside}
-use Rattle.dfu_slots.proofs.Series.{all_keep, all_parts, all_if, all_unless, all_grain}
-use Rattle.dfu_slots.proofs.Sectors.{IsEdge, edge_next}
-use Rattle.dfu_slots.proofs.Edges.{sized_edge}
-use Rattle.dfu_slots.proofs.Anew.{erases_inside}
-use Rattle.dfu_slots.proofs.SizedOn.{anew_is, erases_same}
+use Rattle.dfu_slots.specs.Medium.{MediumState, Write, AllWrites, FrameOutside, IsErasedToSector, IsWritableAhead, IsWritable, written}
+use Rattle.dfu_slots.specs.Image.{IsSizedMedium}
+use Rattle.dfu_slots.specs.Writes.{erase_write, sector_erases, write_anew, write_some}
+use Rattle.dfu_slots.proofs.Torn.{whole_write_is_torn, written_bytes_in_range, byte_kept_outside_write}
+use Rattle.dfu_slots.proofs.Series.{writes_inside_keep_rest, list_has_two_parts, all_if, writes_unless_test, writes_keep_grain}
+use Rattle.dfu_slots.proofs.Sectors.{IsSectorEdge, sector_ends_before_edge}
+use Rattle.dfu_slots.proofs.Edges.{sized_medium_ends_at_edge}
+use Rattle.dfu_slots.proofs.Anew.{sector_erases_lie_inside}
+use Rattle.dfu_slots.proofs.SizedOn.{write_anew_with_sectors, erases_keep_size}
 
--- If a sector begins, nothing is asked.
-pub edge_ahead : (m : MediumState) (at : ℕ) → IsEdge m.grain.sector at → IsAhead m at
-edge_ahead m at edge some p low high none = absurd (none at (omega arith) low (edge some))
+-- A place at which a sector begins can be written on from, because the sector is erased first.
+pub writable_ahead_at_edge : (m : MediumState) (at : ℕ) → IsSectorEdge m.grain.sector at → IsWritableAhead m at
+writable_ahead_at_edge m at edge some p low high none = absurd (none at (omega arith) low (edge some))
 
--- A byte of a range that was written with FFh.
-erased_byte : (old : List ℕ) (at n p : ℕ) → at + n ≤ length old → at ≤ p → p < at + n
+-- Each byte of a range that was written with FFh is FFh.
+byte_of_erased_range : (old : List ℕ) (at n p : ℕ) → at + n ≤ length old → at ≤ p → p < at + n
     → slice_index (written old at (replicate n 255)) p ≡ 255
-erased_byte old at n p fits low high =
+byte_of_erased_range old at n p fits low high =
     let now = written old at (replicate n 255) in
     let size : length (replicate {A = ℕ} n 255) ≡ n = length-replicate {A = ℕ} n 255 in
     let e : at + (p - at) ≡ p = omega (arith, low) in
     let f : at + length (replicate {A = ℕ} n 255) - at ≡ n = omega (arith, size) in
     let range : take n (drop at now) ≡ replicate n 255 =
-    ap (λ (k : ℕ). take k (drop at now)) (sym f) ∙ written_range old at (replicate n 255) (omega (arith, size, fits)) in
+    ap (λ (k : ℕ). take k (drop at now)) (sym f) ∙ written_bytes_in_range old at (replicate n 255) (omega (arith, size, fits)) in
     ap (λ (k : ℕ). get_or now k 0) (sym e) ∙ sym (get_or-drop at now (p - at) 0)
     ∙ sym (get_or-take n (drop at now) (p - at) 0 (omega (arith, low, high)))
     ∙ ap (λ (l : List ℕ). get_or l (p - at) 0) range ∙ get_or-replicate n (p - at) 255 0 (omega (arith, low, high))
 
 module _ (sector : ℕ) (some : 0 < sector) where
-  -- After the erase of the sector that begins there, the bytes after its first one are erased up to the next sector.
-  one_erased : (old : List ℕ) (at : ℕ) → at + sector ≤ length old → at % sector ≡ 0
-      → IsErased sector (written old at (replicate sector 255)) (at + 1) (at + 1)
-  one_erased old at fits begins p low high none =
+  -- After the erase of the sector that begins at a place, the bytes from the next place on are erased up to the next sector.
+  erased_after_sector_erase : (old : List ℕ) (at : ℕ) → at + sector ≤ length old → at % sector ≡ 0
+      → IsErasedToSector sector (written old at (replicate sector 255)) (at + 1) (at + 1)
+  erased_after_sector_erase old at fits begins p low high none =
       ⊎_elim
-      (λ inner. erased_byte old at sector p fits (omega (arith, low)) inner)
+      (λ inner. byte_of_erased_range old at sector p fits (omega (arith, low)) inner)
       (λ past. absurd (none (at + sector) (omega (arith, some)) past (add-mod_right at sector ∙ begins)))
       (cases_lt p (at + sector))
 
-  -- If no sector begins, the byte is erased, and so are those after it up to the next sector.
-  next_erased : (bytes : List ℕ) (at : ℕ) → at % sector ≢ 0 → IsErased sector bytes at at → IsErased sector bytes (at + 1) (at + 1)
-  next_erased bytes at inner erased p low high none =
+  -- If no sector begins at a place from which on bytes are erased up to the next sector, they are so from the next place on.
+  erased_from_next_byte : (bytes : List ℕ) (at : ℕ) → at % sector ≢ 0 → IsErasedToSector sector bytes at at →
+      IsErasedToSector sector bytes (at + 1) (at + 1)
+  erased_from_next_byte bytes at inner erased p low high none =
       erased p (omega (arith, low)) high (λ q from to. by_place q from to (cases_lt at q))
     where
       by_place : (q : ℕ) → at ≤ q → q ≤ p → ((at < q) ⊎ (q ≤ at)) → q % sector ≢ 0
       by_place q from to (inl behind) = none q (omega (arith, behind)) to
       by_place q from to (inr here) = let e : at ≡ q = omega (arith, from, here) in subst (λ (k : ℕ). k % sector ≢ 0) e inner
 
-  here_erased : (bytes : List ℕ) (at : ℕ) → at < length bytes → at % sector ≢ 0 → IsErased sector bytes at at → slice_index bytes at ≡ 255
-  here_erased bytes at fits inner erased =
+  byte_here_is_erased : (bytes : List ℕ) (at : ℕ) → at < length bytes → at % sector ≢ 0 → IsErasedToSector sector bytes at at →
+      slice_index bytes at ≡ 255
+  byte_here_is_erased bytes at fits inner erased =
       erased at (omega arith) fits
       (λ q from to. let e : at ≡ q = omega (arith, from, to) in subst (λ (k : ℕ). k % sector ≢ 0) e inner)
 
-  -- Medium after the erase of a sector that begins there, or the same medium if none does.
-  abbrev First : MediumState → ℕ → MediumState → Type 0
-  First s at mid = (length mid.bytes ≡ length s.bytes) × (slice_index mid.bytes at ≡ 255) × IsErased sector mid.bytes (at + 1) (at + 1)
+  -- Medium after the erase of the sector that begins at a place; the same medium if none begins there.
+  abbrev FirstSectorErased : MediumState → ℕ → MediumState → Type 0
+  FirstSectorErased s at mid = (length mid.bytes ≡ length s.bytes) × (slice_index mid.bytes at ≡ 255)
+      × IsErasedToSector sector mid.bytes (at + 1) (at + 1)
 
-  -- After the erases of the sectors that begin in a range all its bytes are erased, and those after it up to the next sector.
-  pub erases_ahead : (at n : ℕ) (s e : MediumState) → at + n ≤ length s.bytes → length s.bytes % sector ≡ 0
-      → AllWrites s (erases sector at n) e → IsErased sector s.bytes at at → IsErased sector e.bytes at (at + n)
-  erases_ahead at zero s e fits end same erased =
+  -- After the erases of the sectors that begin in a range, all bytes of the range are erased, and those after it up to the next sector.
+  pub range_erased_by_erases : (at n : ℕ) (s e : MediumState) → at + n ≤ length s.bytes → length s.bytes % sector ≡ 0
+      → AllWrites s (sector_erases sector at n) e → IsErasedToSector sector s.bytes at at → IsErasedToSector sector e.bytes at (at + n)
+  range_erased_by_erases at zero s e fits end same erased =
       let none : at ≡ at + 0 = omega arith in
-      subst (λ (m : MediumState). IsErased sector m.bytes at (at + 0)) (sym same)
-      (subst (λ (k : ℕ). IsErased sector s.bytes at k) none erased)
-  erases_ahead at (suc n) s e fits end all erased =
-      let parts = all_parts (if at % sector == 0 then erase_write sector at ∷ [] else []) (erases sector (at + 1) n) s e all in
+      subst (λ (m : MediumState). IsErasedToSector sector m.bytes at (at + 0)) (sym same)
+      (subst (λ (k : ℕ). IsErasedToSector sector s.bytes at k) none erased)
+  range_erased_by_erases at (suc n) s e fits end all erased =
+      let parts = list_has_two_parts (if at % sector == 0 then erase_write sector at ∷ [] else [])
+      (sector_erases sector (at + 1) n) s e all in
       let first = begun (all_if s parts.0 (at % sector == 0) (erase_write sector at ∷ []) parts.1.first) in
       further parts.0 first parts.1.second
-      (λ room whole rest ahead. erases_ahead (at + 1) n parts.0 e room whole rest ahead)
+      (λ room whole rest ahead. range_erased_by_erases (at + 1) n parts.0 e room whole rest ahead)
     where
       begun : {mid : MediumState} → (((at % sector == 0) ≡ true) × AllWrites s (erase_write sector at ∷ []) mid)
-          ⊎ (((at % sector == 0) ≡ false) × (mid ≡ s)) → First s at mid
+          ⊎ (((at % sector == 0) ≡ false) × (mid ≡ s)) → FirstSectorErased s at mid
       begun {mid} (inl (found, one)) =
           let begins : at % sector ≡ 0 = eqb-true _ _ found in
-          let room : at + sector ≤ length s.bytes = edge_next sector at (length s.bytes) begins end (omega (arith, fits)) in
+          let room : at + sector ≤ length s.bytes = sector_ends_before_edge sector at (length s.bytes) begins end (omega (arith, fits)) in
           let is : mid.bytes ≡ written s.bytes at (replicate sector 255) = ap (λ (m : MediumState). m.bytes) one.2 ∙ one.1.bytes in
-          let torn = written_torn s.bytes at (replicate sector 255) (omega (arith, room, length-replicate {A = ℕ} sector 255)) in (
+          let torn = whole_write_is_torn s.bytes at (replicate sector 255) (omega (arith, room, length-replicate {A = ℕ} sector 255)) in (
             ap length is ∙ torn.size,
-            ap (λ (l : List ℕ). slice_index l at) is ∙ erased_byte s.bytes at sector at room (omega arith) (omega (arith, some)),
-            subst (λ (l : List ℕ). IsErased sector l (at + 1) (at + 1)) (sym is) (one_erased s.bytes at room begins),
+            ap (λ (l : List ℕ). slice_index l at) is ∙ byte_of_erased_range s.bytes at sector at room (omega arith) (omega (arith, some)),
+            subst (λ (l : List ℕ). IsErasedToSector sector l (at + 1) (at + 1)) (sym is) (erased_after_sector_erase s.bytes at room begins),
           )
       begun {mid} (inr (missing, same)) =
           let inner : at % sector ≢ 0 = eqb-false _ _ missing in
-          subst (λ (m : MediumState). First s at m) (sym same)
-          (refl, here_erased s.bytes at (omega (arith, fits)) inner erased, next_erased s.bytes at inner erased)
+          subst (λ (m : MediumState). FirstSectorErased s at m) (sym same)
+          (refl, byte_here_is_erased s.bytes at (omega (arith, fits)) inner erased, erased_from_next_byte s.bytes at inner erased)
 
-      further : (mid : MediumState) → First s at mid → AllWrites mid (erases sector (at + 1) n) e
-          → (at + 1 + n ≤ length mid.bytes → length mid.bytes % sector ≡ 0 → AllWrites mid (erases sector (at + 1) n) e
-          → IsErased sector mid.bytes (at + 1) (at + 1) → IsErased sector e.bytes (at + 1) (at + 1 + n))
-          → IsErased sector e.bytes at (at + suc n)
+      further : (mid : MediumState) → FirstSectorErased s at mid → AllWrites mid (sector_erases sector (at + 1) n) e
+          → (at + 1 + n ≤ length mid.bytes → length mid.bytes % sector ≡ 0 → AllWrites mid (sector_erases sector (at + 1) n) e
+          → IsErasedToSector sector mid.bytes (at + 1) (at + 1) → IsErasedToSector sector e.bytes (at + 1) (at + 1 + n))
+          → IsErasedToSector sector e.bytes at (at + suc n)
       further mid first rest later p low high none =
           let keeps : FrameOutside (at + 1) (length mid.bytes) mid.bytes e.bytes =
-          all_keep (at + 1) (length mid.bytes) (erases sector (at + 1) n) mid e (omega arith)
-          (erases_inside sector (at + 1) (length mid.bytes) (ap (λ (k : ℕ). k % sector) first.0 ∙ end) (at + 1) n (omega arith)
+          writes_inside_keep_rest (at + 1) (length mid.bytes) (sector_erases sector (at + 1) n) mid e (omega arith)
+          (sector_erases_lie_inside sector (at + 1) (length mid.bytes) (ap (λ (k : ℕ). k % sector) first.0 ∙ end) (at + 1) n (omega arith)
           (omega (arith, first.0, fits))) rest in
           let more = later (omega (arith, first.0, fits)) (ap (λ (k : ℕ). k % sector) first.0 ∙ end) rest first.2 in
           let to : at + suc n ≡ at + 1 + n = omega arith in
@@ -105,44 +109,45 @@ module _ (sector : ℕ) (some : 0 < sector) where
           (λ here.
           let e_at : p ≡ at = omega (arith, low, here) in
           ap (λ (k : ℕ). slice_index e.bytes k) e_at
-          ∙ byte_outside (at + 1) (length mid.bytes) mid.bytes e.bytes at keeps (inl (omega arith)) ∙ first.1)
+          ∙ byte_kept_outside_write (at + 1) (length mid.bytes) mid.bytes e.bytes at keeps (inl (omega arith)) ∙ first.1)
           (cases_lt at p)
 
--- A range is writable after the erases of the sectors that begin in it.
-pub erases_writable : (m e : MediumState) (at n : ℕ) → IsSized m → 0 < m.grain.sector → at + n ≤ length m.bytes
-    → AllWrites m (erases m.grain.sector at n) e → IsAhead m at → IsWritable e at n
-erases_writable m e at n sized some fits all ahead other p low high =
-    erases_ahead m.grain.sector some at n m e fits (sized_edge m sized some) all (ahead some) p low
-    (omega (arith, high, fits, (erases_same m e at n sized some fits all).size))
+-- After the erases of the sectors that begin in a range, the range is writable.
+pub range_writable_after_erases : (m e : MediumState) (at n : ℕ) → IsSizedMedium m → 0 < m.grain.sector → at + n ≤ length m.bytes
+    → AllWrites m (sector_erases m.grain.sector at n) e → IsWritableAhead m at → IsWritable e at n
+range_writable_after_erases m e at n sized some fits all ahead other p low high =
+    range_erased_by_erases m.grain.sector some at n m e fits (sized_medium_ends_at_edge m sized some) all (ahead some) p low
+    (omega (arith, high, fits, (erases_keep_size m e at n sized some fits all).size))
     (λ q from to. absurd (omega (arith, from, to, high)))
 
--- After a write the bytes that follow it are erased up to the next sector.
-pub anew_ahead : (m now : MediumState) (at : ℕ) (bytes : List ℕ) → IsSized m → at + length bytes ≤ length m.bytes
-    → AllWrites m (write_anew m.grain.sector at bytes) now → IsAhead m at → IsAhead now (at + length bytes)
-anew_ahead m now at bytes sized fits all ahead other p low high none =
-    let grain : now.grain ≡ m.grain = all_grain (write_anew m.grain.sector at bytes) m now all in
+-- After a write with its erases, the bytes that follow it are erased up to the next sector.
+pub erased_ahead_of_write : (m now : MediumState) (at : ℕ) (bytes : List ℕ) → IsSizedMedium m → at + length bytes ≤ length m.bytes
+    → AllWrites m (write_anew m.grain.sector at bytes) now → IsWritableAhead m at → IsWritableAhead now (at + length bytes)
+erased_ahead_of_write m now at bytes sized fits all ahead other p low high none =
+    let grain : now.grain ≡ m.grain = writes_keep_grain (write_anew m.grain.sector at bytes) m now all in
     let some : 0 < m.grain.sector = subst (λ (w : Grain). 0 < w.sector) grain other in
-    let cut : AllWrites m (erases m.grain.sector at (length bytes) ++ record { at = at; bytes = bytes } ∷ []) now =
-    subst (λ (ws : List Write). AllWrites m ws now) (anew_is m.grain.sector at bytes (λ e. omega (arith, some, e))) all in
-    let parts = all_parts (erases m.grain.sector at (length bytes)) (record { at = at; bytes = bytes } ∷ []) m now cut in
+    let cut : AllWrites m (sector_erases m.grain.sector at (length bytes) ++ record { at = at; bytes = bytes } ∷ []) now =
+    subst (λ (ws : List Write). AllWrites m ws now) (write_anew_with_sectors m.grain.sector at bytes (λ e. omega (arith, some, e))) all in
+    let parts = list_has_two_parts (sector_erases m.grain.sector at (length bytes)) (record { at = at; bytes = bytes } ∷ []) m now cut in
     let e = parts.0 in
-    let size = (erases_same m e at (length bytes) sized some fits parts.1.first).size in
+    let size = (erases_keep_size m e at (length bytes) sized some fits parts.1.first).size in
     let is : now.bytes ≡ written e.bytes at bytes = ap (λ (s : MediumState). s.bytes) parts.1.second.2 ∙ parts.1.second.1.bytes in
-    let torn = written_torn e.bytes at bytes (omega (arith, fits, size)) in
+    let torn = whole_write_is_torn e.bytes at bytes (omega (arith, fits, size)) in
     ap (λ (l : List ℕ). slice_index l p) is
-    ∙ byte_outside at (at + length bytes) e.bytes (written e.bytes at bytes) p torn (inr low)
-    ∙ erases_ahead m.grain.sector some at (length bytes) m e fits (sized_edge m sized some) parts.1.first (ahead some) p
+    ∙ byte_kept_outside_write at (at + length bytes) e.bytes (written e.bytes at bytes) p torn (inr low)
+    ∙ range_erased_by_erases m.grain.sector some at (length bytes) m e fits (sized_medium_ends_at_edge m sized some) parts.1.first (ahead
+    some) p
     (omega (arith, low)) (omega (arith, high, ap length is, torn.size))
     (subst (λ (w : Grain). (q : ℕ) → at + length bytes ≤ q → q ≤ p → q % w.sector ≢ 0) grain none)
 
--- So they are after some bytes, or none.
-pub some_ahead : (m now : MediumState) (at : ℕ) (bytes : List ℕ) → IsSized m → at + length bytes ≤ length m.bytes
-    → AllWrites m (write_some m.grain.sector at bytes) now → IsAhead m at → IsAhead now (at + length bytes)
-some_ahead m now at bytes sized fits all ahead =
+-- After a write of some bytes with its erases, or of none, the bytes that follow are erased up to the next sector.
+pub erased_ahead_of_some_bytes : (m now : MediumState) (at : ℕ) (bytes : List ℕ) → IsSizedMedium m → at + length bytes ≤ length m.bytes
+    → AllWrites m (write_some m.grain.sector at bytes) now → IsWritableAhead m at → IsWritableAhead now (at + length bytes)
+erased_ahead_of_some_bytes m now at bytes sized fits all ahead =
     ⊎_elim
     (λ none.
     let zero_is : length bytes ≡ 0 = eqb-true _ _ none.0 in
     let e : at ≡ at + length bytes = omega (arith, zero_is) in
-    subst (λ (s : MediumState). IsAhead s (at + length bytes)) (sym none.1) (subst (λ (k : ℕ). IsAhead m k) e ahead))
-    (λ one. anew_ahead m now at bytes sized fits one.1 ahead)
-    (all_unless m now (length bytes == 0) (write_anew m.grain.sector at bytes) all)
+    subst (λ (s : MediumState). IsWritableAhead s (at + length bytes)) (sym none.1) (subst (λ (k : ℕ). IsWritableAhead m k) e ahead))
+    (λ one. erased_ahead_of_write m now at bytes sized fits one.1 ahead)
+    (writes_unless_test m now (length bytes == 0) (write_anew m.grain.sector at bytes) all)

@@ -6,99 +6,101 @@ use Rattle.dfu_slots.specs.declared.operation.Op.{Op}
 use Rattle.dfu_slots.specs.declared.fault.WriteFault.{WriteFault}
 use Rattle.dfu_slots.specs.Medium.{MediumState, Write, AllWrites, BrokenWrites}
 use Rattle.dfu_slots.specs.Operations.{op_writes, ops_writes, op_at}
-use Rattle.dfu_slots.specs.inside.Carry.{MayCarry, MayCarryAll}
-use Rattle.dfu_slots.proofs.Series.{all_grain, all_append, broken_first, broken_later}
+use Rattle.dfu_slots.specs.inside.Carry.{MayCarryOp, MayCarryAll}
+use Rattle.dfu_slots.proofs.Series.{writes_keep_grain, writes_one_after_other, broken_in_first_part, broken_in_second_part}
 
--- The first of several operations are carried out, and the others may be.
-pub record Carried (m now : MediumState) (held block header : List ℕ) (os : List Op) (n : ℕ) : Type 0 where
+-- The first n operations of a list are carried out, and the others may be.
+pub record FirstOpsCarried (m now : MediumState) (held block header : List ℕ) (os : List Op) (n : ℕ) : Type 0 where
   pub done : AllWrites m (ops_writes m.grain.sector held block header (take n os)) now
   pub may : MayCarryAll now held block header (drop n os)
 
--- The operations up to one, and that one.
-front_op : (os : List Op) (n : ℕ) (o : Op) → op_at os n ≡ Some o → take (suc n) os ≡ take n os ++ o ∷ []
-front_op [] n o is = absurd (none-some o is)
-front_op (p ∷ os) zero o is = ap (λ (q : Op). q ∷ []) (same_Some _ _ is)
-front_op (p ∷ os) (suc n) o is = ap (λ (l : List Op). p ∷ l) (front_op os n o is)
+-- The operations up to number n and that one are the first n, and operation n after them.
+take_next_op : (os : List Op) (n : ℕ) (o : Op) → op_at os n ≡ Some o → take (suc n) os ≡ take n os ++ o ∷ []
+take_next_op [] n o is = absurd (none-some o is)
+take_next_op (p ∷ os) zero o is = ap (λ (q : Op). q ∷ []) (same_Some _ _ is)
+take_next_op (p ∷ os) (suc n) o is = ap (λ (l : List Op). p ∷ l) (take_next_op os n o is)
 
--- The list has that one, and the operations after it.
-back_op : (os : List Op) (n : ℕ) (o : Op) → op_at os n ≡ Some o → drop n os ≡ o ∷ drop (suc n) os
-back_op [] n o is = absurd (none-some o is)
-back_op (p ∷ os) zero o is = ap (λ (q : Op). q ∷ os) (same_Some _ _ is)
-back_op (p ∷ os) (suc n) o is = back_op os n o is
+-- A list without its first n operations begins with operation n.
+drop_begins_with_op : (os : List Op) (n : ℕ) (o : Op) → op_at os n ≡ Some o → drop n os ≡ o ∷ drop (suc n) os
+drop_begins_with_op [] n o is = absurd (none-some o is)
+drop_begins_with_op (p ∷ os) zero o is = ap (λ (q : Op). q ∷ os) (same_Some _ _ is)
+drop_begins_with_op (p ∷ os) (suc n) o is = drop_begins_with_op os n o is
 
--- If there is none with this number, all come before it.
-front_all : (os : List Op) (n : ℕ) → op_at os n ≡ None → take n os ≡ os
-front_all [] zero is = refl
-front_all [] (suc n) is = refl
-front_all (p ∷ os) zero is = absurd (none-some p (sym is))
-front_all (p ∷ os) (suc n) is = ap (λ (l : List Op). p ∷ l) (front_all os n is)
+-- If a list has no operation of number n, its first n operations are all of them.
+take_all_ops : (os : List Op) (n : ℕ) → op_at os n ≡ None → take n os ≡ os
+take_all_ops [] zero is = refl
+take_all_ops [] (suc n) is = refl
+take_all_ops (p ∷ os) zero is = absurd (none-some p (sym is))
+take_all_ops (p ∷ os) (suc n) is = ap (λ (l : List Op). p ∷ l) (take_all_ops os n is)
 
 module _ (sector : ℕ) (held block header : List ℕ) where
-  -- The writes of two lists of operations.
-  ops_append : (xs ys : List Op) → ops_writes sector held block header (xs ++ ys)
+  -- The writes of two lists of operations are the writes of the first, and then those of the second.
+  ops_writes_append : (xs ys : List Op) → ops_writes sector held block header (xs ++ ys)
       ≡ ops_writes sector held block header xs ++ ops_writes sector held block header ys
-  ops_append [] ys = refl
-  ops_append (x ∷ xs) ys =
-      ap (λ (l : List Write). op_writes sector held block header x ++ l) (ops_append xs ys)
+  ops_writes_append [] ys = refl
+  ops_writes_append (x ∷ xs) ys =
+      ap (λ (l : List Write). op_writes sector held block header x ++ l) (ops_writes_append xs ys)
       ∙ sym (append_assoc (op_writes sector held block header x) (ops_writes sector held block header xs)
       (ops_writes sector held block header ys))
 
-  -- Those up to an operation, and its own.
-  ops_next : (os : List Op) (n : ℕ) (o : Op) → op_at os n ≡ Some o → ops_writes sector held block header (take (suc n) os)
+  -- The writes up to an operation and its own are the writes before it, and then its own.
+  ops_writes_to_next_op : (os : List Op) (n : ℕ) (o : Op) → op_at os n ≡ Some o → ops_writes sector held block header (take (suc n) os)
       ≡ ops_writes sector held block header (take n os) ++ op_writes sector held block header o
-  ops_next os n o is =
-      ap (λ (l : List Op). ops_writes sector held block header l) (front_op os n o is)
-      ∙ ops_append (take n os) (o ∷ [])
+  ops_writes_to_next_op os n o is =
+      ap (λ (l : List Op). ops_writes sector held block header l) (take_next_op os n o is)
+      ∙ ops_writes_append (take n os) (o ∷ [])
       ∙ ap (λ (l : List Write). ops_writes sector held block header (take n os) ++ l)
       (append-nil (op_writes sector held block header o))
 
-  -- All of them are those up to an operation, and its own, and those after it.
-  ops_cut : (os : List Op) (n : ℕ) (o : Op) → op_at os n ≡ Some o → ops_writes sector held block header os
+  -- The writes of a list are those before an operation, its own, and those after it.
+  ops_writes_cut_at_op : (os : List Op) (n : ℕ) (o : Op) → op_at os n ≡ Some o → ops_writes sector held block header os
       ≡ ops_writes sector held block header (take n os)
       ++ (op_writes sector held block header o ++ ops_writes sector held block header (drop (suc n) os))
-  ops_cut [] n o is = absurd (none-some o is)
-  ops_cut (p ∷ os) zero o is =
+  ops_writes_cut_at_op [] n o is = absurd (none-some o is)
+  ops_writes_cut_at_op (p ∷ os) zero o is =
       ap (λ (q : Op). op_writes sector held block header q ++ ops_writes sector held block header os) (same_Some _ _ is)
-  ops_cut (p ∷ os) (suc n) o is =
-      ap (λ (l : List Write). op_writes sector held block header p ++ l) (ops_cut os n o is)
+  ops_writes_cut_at_op (p ∷ os) (suc n) o is =
+      ap (λ (l : List Write). op_writes sector held block header p ++ l) (ops_writes_cut_at_op os n o is)
       ∙ sym (append_assoc (op_writes sector held block header p) (ops_writes sector held block header (take n os)) _)
 
 module _ {m : MediumState} {held block header : List ℕ} {os : List Op} where
-  -- Nothing is carried out yet.
-  pub carried_none : MayCarryAll m held block header os → Carried m m held block header os 0
-  carried_none may = record { done = refl; may = may }
+  -- At first no operation is carried out.
+  pub no_op_carried_yet : MayCarryAll m held block header os → FirstOpsCarried m m held block header os 0
+  no_op_carried_yet may = record { done = refl; may = may }
 
-  module _ {mid : MediumState} {n : ℕ} (so : Carried m mid held block header os n) where
-    grain_is : mid.grain ≡ m.grain
-    grain_is = all_grain (ops_writes m.grain.sector held block header (take n os)) m mid so.done
+  module _ {mid : MediumState} {n : ℕ} (so : FirstOpsCarried m mid held block header os n) where
+    grain_after_ops : mid.grain ≡ m.grain
+    grain_after_ops = writes_keep_grain (ops_writes m.grain.sector held block header (take n os)) m mid so.done
 
-    -- The next one may be carried out.
-    pub may_next : (o : Op) → op_at os n ≡ Some o → MayCarry mid held block o
-    may_next o is = (subst (λ (l : List Op). MayCarryAll mid held block header l) (back_op os n o is) so.may).0
+    -- The next operation may be carried out.
+    pub next_op_may_be_carried : (o : Op) → op_at os n ≡ Some o → MayCarryOp mid held block o
+    next_op_may_be_carried o is = (subst (λ (l : List Op). MayCarryAll mid held block header l) (drop_begins_with_op os n o is) so.may).0
 
-    -- It is.
-    pub carried_next : (o : Op) (now : MediumState) → op_at os n ≡ Some o
-        → AllWrites mid (op_writes mid.grain.sector held block header o) now → Carried m now held block header os (n + 1)
-    carried_next o now is all = let next : suc n ≡ n + 1 = omega arith in
-        subst (λ (k : ℕ). Carried m now held block header os k) next (record {
-          done = subst (λ (ws : List Write). AllWrites m ws now) (sym (ops_next m.grain.sector held block header os n o is))
-              (all_append (ops_writes m.grain.sector held block header (take n os)) (op_writes m.grain.sector held block header o) m mid now
-              so.done (subst (λ (k : ℕ). AllWrites mid (op_writes k held block header o) now) (λ i. (grain_is i).sector) all));
-          may = (subst (λ (l : List Op). MayCarryAll mid held block header l) (back_op os n o is) so.may).1 now all;
+    -- If the next operation is carried out, one operation more is.
+    pub next_op_carried : (o : Op) (now : MediumState) → op_at os n ≡ Some o
+        → AllWrites mid (op_writes mid.grain.sector held block header o) now → FirstOpsCarried m now held block header os (n + 1)
+    next_op_carried o now is all = let next : suc n ≡ n + 1 = omega arith in
+        subst (λ (k : ℕ). FirstOpsCarried m now held block header os k) next (record {
+          done = subst (λ (ws : List Write). AllWrites m ws now) (sym (ops_writes_to_next_op m.grain.sector held block header os n o is))
+              (writes_one_after_other (ops_writes m.grain.sector held block header (take n os)) (op_writes m.grain.sector held block header
+              o) m mid now
+              so.done (subst (λ (k : ℕ). AllWrites mid (op_writes k held block header o) now) (λ i. (grain_after_ops i).sector) all));
+          may = (subst (λ (l : List Op). MayCarryAll mid held block header l) (drop_begins_with_op os n o is) so.may).1 now all;
         })
 
-    -- It failed.
-    pub carried_broken : (o : Op) (now : MediumState) (fault : WriteFault) → op_at os n ≡ Some o
+    -- If the next operation fails, the writes of the list are broken off by its fault.
+    pub next_op_broke_off : (o : Op) (now : MediumState) (fault : WriteFault) → op_at os n ≡ Some o
         → BrokenWrites fault mid (op_writes mid.grain.sector held block header o) now
         → BrokenWrites fault m (ops_writes m.grain.sector held block header os) now
-    carried_broken o now fault is broken =
+    next_op_broke_off o now fault is broken =
         let mine = op_writes m.grain.sector held block header o in
         let rest = ops_writes m.grain.sector held block header (drop (suc n) os) in
-        subst (λ (ws : List Write). BrokenWrites fault m ws now) (sym (ops_cut m.grain.sector held block header os n o is))
-        (broken_later fault (ops_writes m.grain.sector held block header (take n os)) (mine ++ rest) m mid now so.done
-        (broken_first fault mine rest mid now
-        (subst (λ (k : ℕ). BrokenWrites fault mid (op_writes k held block header o) now) (λ i. (grain_is i).sector) broken)))
+        subst (λ (ws : List Write). BrokenWrites fault m ws now) (sym (ops_writes_cut_at_op m.grain.sector held block header os n o is))
+        (broken_in_second_part fault (ops_writes m.grain.sector held block header (take n os)) (mine ++ rest) m mid now so.done
+        (broken_in_first_part fault mine rest mid now
+        (subst (λ (k : ℕ). BrokenWrites fault mid (op_writes k held block header o) now) (λ i. (grain_after_ops i).sector) broken)))
 
-    -- All are.
-    pub carried_all : op_at os n ≡ None → AllWrites m (ops_writes m.grain.sector held block header os) mid
-    carried_all is = subst (λ (l : List Op). AllWrites m (ops_writes m.grain.sector held block header l) mid) (front_all os n is) so.done
+    -- If no operation is left, all are carried out.
+    pub all_ops_carried : op_at os n ≡ None → AllWrites m (ops_writes m.grain.sector held block header os) mid
+    all_ops_carried is = subst (λ (l : List Op). AllWrites m (ops_writes m.grain.sector held block header l) mid) (take_all_ops os n is)
+        so.done

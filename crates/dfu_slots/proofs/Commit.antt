@@ -1,42 +1,42 @@
--- What `commit` leaves.
+-- Medium that `commit` leaves.
 use Rattle.std.proofs.Common.{◌≡◌, ◌⊎◌, inl, inr, ⊎_elim, ℕ, ◌+◌, ◌-◌, ◌*◌, ◌^◌, ◌≤◌, ◌<◌, List, length, take, replicate, slice_index, slice_range, sym, ◌∙◌, ap, subst, arith, length-append}
 use Rattle.std.proofs.lemmas.List.{length-take-le}
 use Rattle.std.proofs.lemmas.Bool.{cases_eq}
 use Rattle.dfu_suffix.specs.Register.{register}
 use Rattle.dfu_slots.specs.declared.fault.WriteFault.{WriteFault}
 use Rattle.dfu_slots.specs.Medium.{MediumState, Write, FrameOutside, AllWrites, BrokenWrites, written}
-use Rattle.dfu_slots.specs.Layout.{slot_size, capacity, Slot, slot, OPEN, IsOpen, generation, next_generation, header, HasHeader, gate_unit, header_unit}
+use Rattle.dfu_slots.specs.Layout.{slot_size, capacity, Slot, slot, OPEN, HasOpenGate, generation, next_generation, header, HasHeader, gate_unit, header_unit}
 use Rattle.dfu_slots.specs.Image.{active_at, spare_at, spare}
 use Rattle.dfu_slots.specs.Units.{Grain, gate_size, gate_room, IsWhole}
 use Rattle.dfu_slots.specs.Writes.{write_anew, commit_writes}
-use Rattle.dfu_slots.proofs.Sectors.{IsEdge, unit_wide, gate_wide}
-use Rattle.dfu_slots.proofs.Edges.{header_edge, data_edge}
-use Rattle.dfu_slots.proofs.Anew.{WrittenAnew, anew_inside, anew_written}
+use Rattle.dfu_slots.proofs.Sectors.{IsSectorEdge, gate_unit_at_least_16, gate_room_at_least_16}
+use Rattle.dfu_slots.proofs.Edges.{header_begins_at_edge, data_begins_at_edge}
+use Rattle.dfu_slots.proofs.Anew.{WrittenAnew, write_with_erases_inside, written_over_erases}
 use Rattle.dfu_slots.proofs.Stands.{ActiveAt}
-use Rattle.dfu_slots.proofs.Counting.{header_length_is, header_two}
-use Rattle.dfu_slots.proofs.Torn.{written_torn, written_range, keeps_both, keeps_wider}
-use Rattle.dfu_slots.proofs.ReadBack.{front_stands}
-use Rattle.dfu_slots.proofs.Parts.{length-gate_unit, length-header_unit, header_outside, data_outside, data_length, size_kept, sized_kept}
-use Rattle.dfu_slots.proofs.Newest.{places_are, place_end}
-use Rattle.dfu_slots.proofs.Kept.{mine_kept, closed_change, active_kept}
-use Rattle.dfu_slots.proofs.Series.{AllInside, all_keep, broken_keep, all_parts, broken_parts}
-use Rattle.dfu_slots.proofs.Begun.{gate_written}
+use Rattle.dfu_slots.proofs.Counting.{length_in_formed_header, version_two_header_formed}
+use Rattle.dfu_slots.proofs.Torn.{whole_write_is_torn, written_bytes_in_range, two_changes_of_range, wider_frame_holds}
+use Rattle.dfu_slots.proofs.ReadBack.{first_part_stands}
+use Rattle.dfu_slots.proofs.Parts.{gate_unit_length, header_unit_length, header_kept_outside_change, data_kept_outside_change, data_length, slot_size_kept_by_change, two_slots_of_same_length}
+use Rattle.dfu_slots.proofs.Newest.{places_of_active_image, slot_place_ends_within}
+use Rattle.dfu_slots.proofs.Kept.{active_slot_kept, closed_slot_change_keeps_image, active_image_kept}
+use Rattle.dfu_slots.proofs.Series.{AllWritesInside, writes_inside_keep_rest, broken_writes_keep_rest, list_has_two_parts, broken_in_either_part}
+use Rattle.dfu_slots.proofs.Begun.{gate_byte_of_written_unit}
 
--- A header unit that was written begins with the header.
-pub header_written : (g : ℕ) → 16 ≤ g → (old : List ℕ) (p gen len crc : ℕ) → p + g ≤ length old
+-- A header unit that was written begins with its header.
+pub header_of_written_unit : (g : ℕ) → 16 ≤ g → (old : List ℕ) (p gen len crc : ℕ) → p + g ≤ length old
     → slice_range (written old p (header_unit g gen len crc)) p (p + 16) ≡ header 2 gen len crc
-header_written g wide old p gen len crc fits =
+header_of_written_unit g wide old p gen len crc fits =
     let unit = header_unit g gen len crc in
     let zeros = replicate {A = ℕ} (g - 16) 0 in
-    let size = length-header_unit g gen len crc wide in
+    let size = header_unit_length g gen len crc wide in
     let room : p + length unit ≤ length old = omega (arith, size, fits) in
     let parts = length-append (header 2 gen len crc) zeros in
     let long : length (header 2 gen len crc) ≡ 16 = omega arith in
     ap (λ (n : ℕ). slice_range (written old p unit) p (p + n)) (sym long)
-    ∙ front_stands (written old p unit) p (header 2 gen len crc) zeros
-    (omega (arith, (written_torn old p unit room).size, parts, room)) (written_range old p unit room)
+    ∙ first_part_stands (written old p unit) p (header 2 gen len crc) zeros
+    (omega (arith, (whole_write_is_torn old p unit room).size, parts, room)) (written_bytes_in_range old p unit room)
 
--- The gate of a slot whose header and data are a new image's.
+-- A slot with the header and the data of a new image, whose gate is open or closed.
 
 module _ (g : ℕ) (wide : 16 ≤ g) (old mid left : List ℕ) (mine other : ℕ) (image : List ℕ) (a : ActiveAt g old mine other image)
     (len : ℕ) (whole : List ℕ) (fits : len ≤ length whole) (bound : len < 2 ^ 32)
@@ -47,87 +47,95 @@ module _ (g : ℕ) (wide : 16 ≤ g) (old mid left : List ℕ) (mine other : ℕ
   abbrev gen : ℕ
   gen = next_generation (generation (slot g old mine))
 
-  abbrev next_image : List ℕ
-  next_image = take len whole
+  abbrev spare_front_image : List ℕ
+  spare_front_image = take len whole
 
-  left_keeps : FrameOutside other (other + slot_size old) old left
-  left_keeps =
-      keeps_both other (other + slot_size old) old mid left
-      (keeps_wider (other + g) (other + slot_size old) other (other + slot_size old) old mid keeps (omega arith) (omega arith))
-      (keeps_wider other (other + g) other (other + slot_size old) mid left torn (omega arith) (omega (arith, a.sized.room)))
+  change_within_spare : FrameOutside other (other + slot_size old) old left
+  change_within_spare =
+      two_changes_of_range other (other + slot_size old) old mid left
+      (wider_frame_holds (other + g) (other + slot_size old) other (other + slot_size old) old mid keeps (omega arith) (omega arith))
+      (wider_frame_holds other (other + g) other (other + slot_size old) mid left torn (omega arith) (omega (arith, a.sized.room)))
 
-  left_size : slot_size left ≡ slot_size old
-  left_size = size_kept other (other + slot_size old) old left left_keeps
+  slot_size_with_new_image : slot_size left ≡ slot_size old
+  slot_size_with_new_image = slot_size_kept_by_change other (other + slot_size old) old left change_within_spare
 
-  left_head : (slot g left other).header ≡ header 2 gen len (register (take len whole))
-  left_head = header_outside g other (other + g) mid left other torn (inr (omega arith)) ∙ head
+  header_of_new_image : (slot g left other).header ≡ header 2 gen len (register (take len whole))
+  header_of_new_image = header_kept_outside_change g other (other + g) mid left other torn (inr (omega arith)) ∙ head
 
-  left_data : (slot g left other).data_bytes ≡ whole
-  left_data = data_outside g other (other + g) mid left other torn (inr (omega arith)) ∙ data_is
+  data_of_new_image : (slot g left other).data_bytes ≡ whole
+  data_of_new_image = data_kept_outside_change g other (other + g) mid left other torn (inr (omega arith)) ∙ data_is
 
-  mine_is : slot g left mine ≡ slot g old mine
-  mine_is = mine_kept g wide old left mine other image other (other + slot_size old) a left_keeps (omega arith) (omega arith)
+  active_slot_as_before : slot g left mine ≡ slot g old mine
+  active_slot_as_before = active_slot_kept g wide old left mine other image other (other + slot_size old) a change_within_spare (omega
+      arith) (omega arith)
 
-  image_length : length next_image ≡ len
-  image_length = length-take-le len whole fits
+  new_image_length : length spare_front_image ≡ len
+  new_image_length = length-take-le len whole fits
 
-  generation_is : generation (slot g left other) ≡ gen
-  generation_is = ap (λ (h : List ℕ). slice_index h 0) left_head
+  generation_of_new_image : generation (slot g left other) ≡ gen
+  generation_of_new_image = ap (λ (h : List ℕ). slice_index h 0) header_of_new_image
 
-  -- It has a well-formed header of the new image, whatever its gate is.
-  left_header : HasHeader (slot g left other) len
-  left_header = header_two (slot g left other) gen len
-      (left_head ∙ ap (λ (d : List ℕ). header 2 gen len (register (take len d))) (sym left_data))
-      (omega (arith, ap length left_data, fits))
+  -- The header of the slot is well formed for the new image, whatever its gate is.
+  new_header_well_formed : HasHeader (slot g left other) len
+  new_header_well_formed = version_two_header_formed (slot g left other) gen len
+      (header_of_new_image ∙ ap (λ (d : List ℕ). header 2 gen len (register (take len d))) (sym data_of_new_image))
+      (omega (arith, ap length data_of_new_image, fits))
 
-  -- Open, it is the newest slot, and has the new image.
-  pub opened : IsOpen (slot g left other) → ActiveAt g left other mine next_image
-  opened is_open = record {
-    sized = sized_kept g old left left_keeps.size a.sized;
-    places = ⊎_elim (λ p. inr (p.1 ∙ sym left_size, p.0)) (λ p. inl (p.1, p.0 ∙ sym left_size)) a.places;
+  -- If its gate is open, the slot is the newest, and the new image is active.
+  pub new_image_active_if_open : HasOpenGate (slot g left other) → ActiveAt g left other mine spare_front_image
+  new_image_active_if_open is_open = record {
+    sized = two_slots_of_same_length g old left change_within_spare.size a.sized;
+    places = ⊎_elim (λ p. inr (p.1 ∙ sym slot_size_with_new_image, p.0)) (λ p. inl (p.1, p.0 ∙ sym slot_size_with_new_image)) a.places;
     newest = record {
       counts = record {
         is_open = is_open;
         intact = λ two.
-            subst (HasHeader (slot g left other)) (sym (header_length_is (slot g left other) len left_header bound)) left_header;
+            subst (HasHeader (slot g left other)) (sym (length_in_formed_header (slot g left other) len new_header_well_formed bound))
+            new_header_well_formed;
       };
-      newer = inr (generation_is ∙ ap (λ (x : Slot). next_generation (generation x)) (sym mine_is));
+      other_is_older = inr (generation_of_new_image ∙ ap (λ (x : Slot). next_generation (generation x)) (sym active_slot_as_before));
     };
-    header_is = subst (HasHeader (slot g left other)) (sym image_length) left_header;
-    image_is = ap (λ (n : ℕ). take n whole) (sym image_length) ∙ ap (λ (d : List ℕ). take (length next_image) d) (sym left_data);
+    header_is = subst (HasHeader (slot g left other)) (sym new_image_length) new_header_well_formed;
+    image_is = ap (λ (n : ℕ). take n whole) (sym new_image_length)
+        ∙ ap (λ (d : List ℕ). take (length spare_front_image) d) (sym data_of_new_image);
   }
 
-  -- Closed, it does not count, and the old image stays.
-  pub closed : ¬ IsOpen (slot g left other) → ActiveAt g left mine other image
-  closed shut = active_kept g wide old left mine other image other (other + slot_size old) a left_keeps (omega arith) (omega arith)
+  -- If its gate is closed, the slot does not count, and the old image stays active.
+  pub old_image_stays_if_closed : ¬ HasOpenGate (slot g left other) → ActiveAt g left mine other image
+  old_image_stays_if_closed shut = active_image_kept g wide old left mine other image other (other + slot_size old) a change_within_spare
+      (omega arith) (omega arith)
       (inl (λ c. shut c.is_open))
 
-  either_way : ActiveAt g left mine other image ⊎ ActiveAt g left other mine next_image
-  either_way = elim (cases_eq (slot g left other).gate OPEN) [ inl is_open ↦ inr (opened is_open) | inr shut ↦ inl (closed shut) ]
+  old_or_new_image_active : ActiveAt g left mine other image ⊎ ActiveAt g left other mine spare_front_image
+  old_or_new_image_active = elim (cases_eq (slot g left other).gate OPEN) [
+    | inl is_open ↦ inr (new_image_active_if_open is_open)
+    | inr shut
+        ↦ inl (old_image_stays_if_closed shut)
+  ]
 
 -- The writes of a commit.
 
 module _ (w : Grain) (s : MediumState) (mine other : ℕ) (image : List ℕ) (a : ActiveAt (gate_room w) s.bytes mine other image)
-    (whole : IsWhole w (capacity (gate_room w) s.bytes)) (shut : ¬ IsOpen (slot (gate_room w) s.bytes other))
+    (whole : IsWhole w (capacity (gate_room w) s.bytes)) (shut : ¬ HasOpenGate (slot (gate_room w) s.bytes other))
     (len : ℕ) (fits : len ≤ capacity (gate_room w) s.bytes) where
   abbrev g : ℕ
   g = gate_room w
 
-  -- So many bytes of the gate and of the header are written.
+  -- Bytes of a gate unit; a header unit has as many.
   abbrev k : ℕ
   k = gate_size w.unit
 
   wide : 16 ≤ g
-  wide = gate_wide w
+  wide = gate_room_at_least_16 w
 
   abbrev was : List ℕ
   was = s.bytes
 
   places_of : (mine ≡ active_at g was) × (other ≡ spare_at g was)
-  places_of = places_are g was mine other image a
+  places_of = places_of_active_image g was mine other image a
 
   end : other + slot_size was ≤ length was
-  end = (place_end g was mine other a.sized a.places).1
+  end = (slot_place_ends_within g was mine other a.sized a.places).1
 
   abbrev crc : ℕ
   crc = register (take len (spare g was).data_bytes)
@@ -135,107 +143,131 @@ module _ (w : Grain) (s : MediumState) (mine other : ℕ) (image : List ℕ) (a 
   abbrev next : ℕ
   next = next_generation (generation (slot g was (active_at g was)))
 
-  abbrev head_unit : List ℕ
-  head_unit = header_unit k next len crc
+  abbrev new_header_unit : List ℕ
+  new_header_unit = header_unit k next len crc
 
-  head_length : length head_unit ≡ k
-  head_length = length-header_unit k next len crc (unit_wide w.unit)
+  new_header_unit_length : length new_header_unit ≡ k
+  new_header_unit_length = header_unit_length k next len crc (gate_unit_at_least_16 w.unit)
 
-  gate_length : length (gate_unit k OPEN) ≡ k
-  gate_length = length-gate_unit k OPEN (unit_wide w.unit)
+  opening_unit_length : length (gate_unit k OPEN) ≡ k
+  opening_unit_length = gate_unit_length k OPEN (gate_unit_at_least_16 w.unit)
 
-  abbrev before_gate : List Write
-  before_gate = write_anew w.sector (spare_at g was + g) head_unit
+  abbrev writes_before_gate : List Write
+  writes_before_gate = write_anew w.sector (spare_at g was + g) new_header_unit
 
-  abbrev gate_write : List Write
-  gate_write = write_anew w.sector (spare_at g was) (gate_unit k OPEN)
+  abbrev opening_gate_writes : List Write
+  opening_gate_writes = write_anew w.sector (spare_at g was) (gate_unit k OPEN)
 
-  head_edge : IsEdge w.sector (other + 2 * g)
-  head_edge = data_edge w was a.sized whole mine other a.places
+  header_end_is_edge : IsSectorEdge w.sector (other + 2 * g)
+  header_end_is_edge = data_begins_at_edge w was a.sized whole mine other a.places
 
-  gate_edge : IsEdge w.sector (other + g)
-  gate_edge = header_edge w was a.sized whole mine other a.places
+  gate_end_is_edge : IsSectorEdge w.sector (other + g)
+  gate_end_is_edge = header_begins_at_edge w was a.sized whole mine other a.places
 
-  pub head_inside : AllInside (other + g) (other + 2 * g) before_gate
-  head_inside =
-      anew_inside w.sector (other + g) (other + 2 * g) (spare_at g was + g) head_unit head_edge (omega (arith, places_of.1))
-      (omega (arith, places_of.1, head_length))
+  pub header_writes_inside : AllWritesInside (other + g) (other + 2 * g) writes_before_gate
+  header_writes_inside =
+      write_with_erases_inside w.sector (other + g) (other + 2 * g) (spare_at g was + g) new_header_unit header_end_is_edge (omega (
+        arith,
+        places_of.1,
+      ))
+      (omega (arith, places_of.1, new_header_unit_length))
 
-  pub gate_inside : AllInside other (other + g) gate_write
-  gate_inside =
-      anew_inside w.sector other (other + g) (spare_at g was) (gate_unit k OPEN) gate_edge (omega (arith, places_of.1))
-      (omega (arith, places_of.1, gate_length))
+  pub gate_writes_inside : AllWritesInside other (other + g) opening_gate_writes
+  gate_writes_inside =
+      write_with_erases_inside w.sector other (other + g) (spare_at g was) (gate_unit k OPEN) gate_end_is_edge (omega (arith, places_of.1))
+      (omega (arith, places_of.1, opening_unit_length))
 
-  whole_length : length (slot g was other).data_bytes ≡ capacity g was
-  whole_length = data_length g was other end (omega (arith, a.sized.room))
+  spare_length_at_commit : length (slot g was other).data_bytes ≡ capacity g was
+  spare_length_at_commit = data_length g was other end (omega (arith, a.sized.room))
 
   bound : len < 2 ^ 32
   bound = omega (arith, fits, a.sized.bound)
 
-  -- After the writes before the gate.
-  module _ (mid : MediumState) (first : AllWrites s before_gate mid) where
-    head_keeps : FrameOutside (other + g) (other + 2 * g) was mid.bytes
-    head_keeps = all_keep (other + g) (other + 2 * g) before_gate s mid (omega (arith, end, a.sized.room)) head_inside first
+  -- Facts after the writes before the gate.
+  module _ (mid : MediumState) (first : AllWrites s writes_before_gate mid) where
+    header_write_within_header : FrameOutside (other + g) (other + 2 * g) was mid.bytes
+    header_write_within_header = writes_inside_keep_rest (other + g) (other + 2 * g) writes_before_gate s mid (omega (
+      arith,
+      end,
+      a.sized.room,
+    )) header_writes_inside first
 
-    mid_keeps : FrameOutside (other + g) (other + slot_size was) was mid.bytes
-    mid_keeps = keeps_wider (other + g) (other + 2 * g) (other + g) (other + slot_size was) was mid.bytes head_keeps (omega arith)
+    header_write_within_slot : FrameOutside (other + g) (other + slot_size was) was mid.bytes
+    header_write_within_slot = wider_frame_holds (other + g) (other + 2 * g) (other + g) (other + slot_size was) was mid.bytes
+        header_write_within_header (omega arith)
         (omega (arith, a.sized.room))
 
-    last : WrittenAnew (spare_at g was + g) (other + 2 * g) head_unit was mid.bytes
-    last = anew_written w.sector (other + 2 * g) (spare_at g was + g) head_unit head_edge (omega (arith, places_of.1, head_length)) s mid
+    header_written_anew : WrittenAnew (spare_at g was + g) (other + 2 * g) new_header_unit was mid.bytes
+    header_written_anew = written_over_erases w.sector (other + 2 * g) (spare_at g was + g) new_header_unit header_end_is_edge (omega
+        (arith, places_of.1, new_header_unit_length)) s mid
         (omega (arith, end, a.sized.room)) first
 
-    mid_head : (slot g mid.bytes other).header
+    header_before_gate_write : (slot g mid.bytes other).header
         ≡ header 2 (next_generation (generation (slot g was mine))) len (register (take len (slot g was other).data_bytes))
-    mid_head =
+    header_before_gate_write =
         ap (λ (q : ℕ). slice_range mid.bytes (q + g) (q + g + 16)) places_of.1
-        ∙ ap (λ (l : List ℕ). slice_range l (spare_at g was + g) (spare_at g was + g + 16)) last.is
-        ∙ header_written k (unit_wide w.unit) last.left (spare_at g was + g) next len crc
-        (omega (arith, last.erased.size, places_of.1, end, a.sized.room))
+        ∙ ap (λ (l : List ℕ). slice_range l (spare_at g was + g) (spare_at g was + g + 16)) header_written_anew.is
+        ∙ header_of_written_unit k (gate_unit_at_least_16 w.unit) header_written_anew.left (spare_at g was + g) next len crc
+        (omega (arith, header_written_anew.erased.size, places_of.1, end, a.sized.room))
         ∙ (λ i. header 2 (next_generation (generation (slot g was (sym places_of.0 i)))) len
         (register (take len (slot g was (sym places_of.1 i)).data_bytes)))
 
-    mid_data : (slot g mid.bytes other).data_bytes ≡ (slot g was other).data_bytes
-    mid_data = data_outside g (other + g) (other + 2 * g) was mid.bytes other head_keeps (inr (omega arith))
+    data_before_gate_write : (slot g mid.bytes other).data_bytes ≡ (slot g was other).data_bytes
+    data_before_gate_write = data_kept_outside_change g (other + g) (other + 2 * g) was mid.bytes other header_write_within_header (inr
+        (omega arith))
 
   abbrev new_image : List ℕ
   new_image = take len (spare g was).data_bytes
 
-  -- All of them.
-  pub commit_done : (now : MediumState) → AllWrites s (commit_writes w was len crc) now → ActiveAt g now.bytes other mine new_image
-  commit_done now all =
-      let parts = all_parts before_gate gate_write s now all in
+  -- After all writes of a commit the new image is active.
+  pub committed_image_is_active : (now : MediumState) → AllWrites s (commit_writes w was len crc) now →
+      ActiveAt g now.bytes other mine new_image
+  committed_image_is_active now all =
+      let parts = list_has_two_parts writes_before_gate opening_gate_writes s now all in
       let mid = parts.0 in
       let first = parts.1.first in
-      let size = (mid_keeps mid first).size in
-      let torn = all_keep other (other + g) gate_write mid now (omega (arith, size, end, a.sized.room)) gate_inside parts.1.second in
-      let opens = anew_written w.sector (other + g) (spare_at g was) (gate_unit k OPEN) gate_edge (omega (arith, places_of.1, gate_length))
+      let size = (header_write_within_slot mid first).size in
+      let torn = writes_inside_keep_rest other (other + g) opening_gate_writes mid now (omega (arith, size, end, a.sized.room))
+      gate_writes_inside parts.1.second in
+      let opens = written_over_erases w.sector (other + g) (spare_at g was) (gate_unit k OPEN) gate_end_is_edge (omega (
+        arith,
+        places_of.1,
+        opening_unit_length,
+      ))
       mid now (omega (arith, size, end, a.sized.room)) parts.1.second in
-      let is_open : IsOpen (slot g now.bytes other) =
+      let is_open : HasOpenGate (slot g now.bytes other) =
       ap (λ (q : ℕ). slice_index now.bytes q) places_of.1 ∙ ap (λ (l : List ℕ). slice_index l (spare_at g was)) opens.is
-      ∙ gate_written k (unit_wide w.unit) opens.left (spare_at g was) OPEN
+      ∙ gate_byte_of_written_unit k (gate_unit_at_least_16 w.unit) opens.left (spare_at g was) OPEN
       (omega (arith, opens.erased.size, size, end, places_of.1, a.sized.room)) in
       subst (λ (q : ℕ). ActiveAt g now.bytes other mine (take len (slot g was q).data_bytes)) places_of.1
-      (opened g wide was mid.bytes now.bytes mine other image a len (slot g was other).data_bytes (omega (arith, whole_length)) bound
-      (mid_keeps mid first) torn (mid_head mid first) (mid_data mid first) is_open)
+      (new_image_active_if_open g wide was mid.bytes now.bytes mine other image a len (slot g was other).data_bytes (omega (
+        arith,
+        spare_length_at_commit,
+      )) bound
+      (header_write_within_slot mid first) torn (header_before_gate_write mid first) (data_before_gate_write mid first) is_open)
 
-  -- Those up to one that failed.
-  pub commit_broken : (fault : WriteFault) (now : MediumState) → BrokenWrites fault s (commit_writes w was len crc) now
+  -- After the writes of a commit up to one that failed, the old image or the new one is active.
+  pub broken_commit_leaves_one : (fault : WriteFault) (now : MediumState) → BrokenWrites fault s (commit_writes w was len crc) now
       → ActiveAt g now.bytes mine other image
       ⊎ ActiveAt g now.bytes other mine new_image
-  commit_broken fault now broken = elim (broken_parts fault before_gate gate_write s now broken) [
+  broken_commit_leaves_one fault now broken = elim (broken_in_either_part fault writes_before_gate opening_gate_writes s now broken) [
     | inl early ↦
-        inl (closed_change g wide was now.bytes mine other image (other + g) (other + 2 * g) a
-        (broken_keep (other + g) (other + 2 * g) fault before_gate s now (omega (arith, end, a.sized.room)) head_inside early) shut
+        inl (closed_slot_change_keeps_image g wide was now.bytes mine other image (other + g) (other + 2 * g) a
+        (broken_writes_keep_rest (other + g) (other + 2 * g) fault writes_before_gate s now (omega (arith, end, a.sized.room))
+        header_writes_inside early) shut
         (omega (arith, wide)) (omega (arith, a.sized.room)))
     | inr late ↦
         let mid = late.0 in
         let first = late.1.first in
-        let size = (mid_keeps mid first).size in
-        let torn = broken_keep other (other + g) fault gate_write mid now (omega (arith, size, end, a.sized.room)) gate_inside
+        let size = (header_write_within_slot mid first).size in
+        let torn = broken_writes_keep_rest other (other + g) fault opening_gate_writes mid now (omega (arith, size, end, a.sized.room))
+        gate_writes_inside
         late.1.second in
         subst (λ (q : ℕ). ActiveAt g now.bytes mine other image
         ⊎ ActiveAt g now.bytes other mine (take len (slot g was q).data_bytes)) places_of.1
-        (either_way g wide was mid.bytes now.bytes mine other image a len (slot g was other).data_bytes (omega (arith, whole_length)) bound
-        (mid_keeps mid first) torn (mid_head mid first) (mid_data mid first))
+        (old_or_new_image_active g wide was mid.bytes now.bytes mine other image a len (slot g was other).data_bytes (omega (
+          arith,
+          spare_length_at_commit,
+        )) bound
+        (header_write_within_slot mid first) torn (header_before_gate_write mid first) (data_before_gate_write mid first))
   ]

@@ -6,38 +6,38 @@ use Rattle.dfu_slots.specs.declared.layout.Unit.{Unit as WriteUnit}
 use Rattle.dfu_slots.specs.Units.{unit_size, whole_part}
 use Rattle.dfu_slots.specs.Medium.{written}
 use Rattle.dfu_slots.specs.Writes.{put_rest}
-use Rattle.dfu_slots.proofs.Torn.{drop_past}
-use Rattle.dfu_slots.proofs.Within.{take_past}
-use Rattle.dfu_slots.proofs.Multiples.{part_le, multiple_part, unit_more}
+use Rattle.dfu_slots.proofs.Torn.{drop_in_two_steps}
+use Rattle.dfu_slots.proofs.Within.{take_past_first_list}
+use Rattle.dfu_slots.proofs.Multiples.{part_at_most_length, whole_part_is_multiple, multiple_has_a_unit}
 
--- If a unit is full, the end of the block is held back.
-pub rest_left : (u : WriteUnit) (held bytes : List ℕ) (n size : ℕ) → n ≡ length held → size ≡ unit_size u → length held < unit_size u
+-- If the put makes a unit full, the end of the block is held back.
+pub block_end_held : (u : WriteUnit) (held bytes : List ℕ) (n size : ℕ) → n ≡ length held → size ≡ unit_size u → length held < unit_size u
     → (n + length bytes) % size ≢ n + length bytes
     → drop (length bytes - (n + length bytes) % size) bytes ≡ put_rest u held bytes
-rest_left u held bytes n size n_is size_is part more =
+block_end_held u held bytes n size n_is size_is part more =
     let all = length held + length bytes in
     let rest : (n + length bytes) % size ≡ all % unit_size u = λ i. (n_is i + length bytes) % size_is i in
-    let le = part_le u all in
+    let le = part_at_most_length u all in
     let some : 0 < all - all % unit_size u = omega (arith, le, rest, n_is, more) in
-    let full = unit_more u (all - all % unit_size u) (multiple_part u all) some in
+    let full = multiple_has_a_unit u (all - all % unit_size u) (whole_part_is_multiple u all) some in
     let whole : whole_part u (length (held ++ bytes)) ≡ all - all % unit_size u = ap (λ (k : ℕ). whole_part u k) (length-append held bytes) in
     let k = whole_part u (length (held ++ bytes)) in
     let e : length bytes - (n + length bytes) % size ≡ k - length held = omega (arith, whole, rest, full, part, le) in
     ap (λ (j : ℕ). drop j bytes) e
-    ∙ sym (drop_past (held ++ bytes) (length held) k (omega (arith, whole, full, part))
+    ∙ sym (drop_in_two_steps (held ++ bytes) (length held) k (omega (arith, whole, full, part))
     ∙ ap (λ (l : List ℕ). drop (k - length held) l) (drop_at held bytes (length held) (omega arith)))
 
--- The front of what was put is that of the data, and then that of what is held back.
-pub put_front : (d held : List ℕ) (at len front : ℕ) → front ≡ min at len → at ≤ length d → len ≤ at + length held
+-- A front of the data, and then one of the held bytes, are the front of the data with the held bytes written at their place.
+pub front_with_held_bytes : (d held : List ℕ) (at len front : ℕ) → front ≡ min at len → at ≤ length d → len ≤ at + length held
     → take front d ++ take (len - front) held ≡ take len (written d at held)
-put_front d held at len front is fits le =
+front_with_held_bytes d held at len front is fits le =
     let size = length-take-le at d fits in
     let cut = take-append-le len (take at d ++ held) (drop (at + length held) d) (omega (arith, size, le, length-append (take at d) held)) in
     ⊎_elim
     (λ lt.
     let here : front ≡ at = omega (arith, is, lt) in
     (λ i. take (here i) d ++ take (len - (here ∙ sym size) i) held)
-    ∙ sym (cut ∙ take_past (take at d) held len (omega (arith, size, lt))))
+    ∙ sym (cut ∙ take_past_first_list (take at d) held len (omega (arith, size, lt))))
     (λ ge.
     let here : front ≡ len = omega (arith, is, ge) in
     let none : len - front ≡ 0 = omega (arith, here) in

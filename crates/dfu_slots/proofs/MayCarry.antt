@@ -1,4 +1,4 @@
--- The operations of a sequence may be carried out.
+-- Operations of a sequence that may be carried out.
 use Rattle.std.proofs.Common.{◌≡◌, ◌≢◌, ◌⊎◌, inl, inr, ◌==◌, Bool, true, false, if◌then◌else◌, ℕ, ◌+◌, ◌-◌, ◌≤◌, ◌<◌, min, List, [], ◌++◌, length, replicate, refl, sym, subst, arith, length-append}
 use Rattle.std.proofs.lemmas.Bool.{cases_eq, eqb-true, cond-true, cond-false, ne_eqb, eq-eqb}
 use Rattle.std.proofs.lemmas.List.{length-replicate}
@@ -9,81 +9,82 @@ use Rattle.dfu_slots.specs.declared.operation.Op.TheVariants.{Erase, Program}
 use Rattle.dfu_slots.specs.declared.operation.Source.{Source}
 use Rattle.dfu_slots.specs.declared.operation.Source.TheVariants.{Joined, Held, Header, Closed}
 use Rattle.dfu_slots.specs.declared.sequence.Sequence.TheVariants.{Close, Put, Commit}
-use Rattle.dfu_slots.specs.Units.{Grain, unit_size, gate_size, IsMultiple, whole_part, fill_size, filled}
-use Rattle.dfu_slots.specs.Medium.{MediumState, IsAhead}
+use Rattle.dfu_slots.specs.Units.{Grain, unit_size, gate_size, IsMultiple, whole_part, fill_size, filled_units}
+use Rattle.dfu_slots.specs.Medium.{MediumState, IsWritableAhead}
 use Rattle.dfu_slots.specs.Layout.{slot_size}
-use Rattle.dfu_slots.specs.Image.{gate_of, capacity_of, IsSized}
-use Rattle.dfu_slots.specs.Operations.{source_of, range_of, held_from, operations}
-use Rattle.dfu_slots.specs.inside.Carry.{MayWrite, MayCarry, MayCarryAll}
-use Rattle.dfu_slots.proofs.Series.{SameSize, same_both}
-use Rattle.dfu_slots.proofs.SizedOn.{some_same}
-use Rattle.dfu_slots.proofs.Sectors.{IsEdge, edge_add, gate_most, multiple_gate, room_edge, room_multiple}
-use Rattle.dfu_slots.proofs.Ahead.{edge_ahead, some_ahead}
-use Rattle.dfu_slots.proofs.Multiples.{multiple_zero, multiple_add, multiple_part, multiple_unit, length-filled, filled_within, sized_after}
-use Rattle.dfu_slots.proofs.Ranges.{range_size}
+use Rattle.dfu_slots.specs.Image.{gate_of, capacity_of, IsSizedMedium}
+use Rattle.dfu_slots.specs.Operations.{source_content, range_of, held_from, operations}
+use Rattle.dfu_slots.specs.inside.Carry.{MayWriteRange, MayCarryOp, MayCarryAll}
+use Rattle.dfu_slots.proofs.Series.{SameSize, size_is_transitive}
+use Rattle.dfu_slots.proofs.SizedOn.{write_some_keeps_size}
+use Rattle.dfu_slots.proofs.Sectors.{IsSectorEdge, edge_sum_is_edge, gate_unit_at_most_256, gate_size_is_multiple, gate_room_ends_at_edge, gate_room_is_multiple}
+use Rattle.dfu_slots.proofs.Ahead.{writable_ahead_at_edge, erased_ahead_of_some_bytes}
+use Rattle.dfu_slots.proofs.Multiples.{zero_is_multiple, sum_is_multiple, whole_part_is_multiple, largest_unit_is_multiple, filled_units_length, filled_bytes_within, sized_on_same_size}
+use Rattle.dfu_slots.proofs.Ranges.{length_of_range_within}
 
--- Filled bytes are a multiple of the unit.
-pub multiple_filled : (u : WriteUnit) (n : ℕ) → IsMultiple u (n + fill_size u n)
-multiple_filled Byte n = omega arith
-multiple_filled _ n = omega arith
+-- A length that is filled up is a multiple of the unit.
+pub filled_length_is_multiple : (u : WriteUnit) (n : ℕ) → IsMultiple u (n + fill_size u n)
+filled_length_is_multiple Byte n = omega arith
+filled_length_is_multiple _ n = omega arith
 
--- So is the first write of a `put`, and what is left after it.
-multiple_head : (u : WriteUnit) (n k : ℕ) → IsMultiple u k → IsMultiple u (if n == 0 then 0 else min (unit_size u) k)
-multiple_head u n k whole = by_test (n == 0)
+-- The first write of a `put`, and what is left after it, are multiples of the unit.
+head_write_is_multiple : (u : WriteUnit) (n k : ℕ) → IsMultiple u k → IsMultiple u (if n == 0 then 0 else min (unit_size u) k)
+head_write_is_multiple u n k whole = by_test (n == 0)
   where
     least : (v : WriteUnit) → IsMultiple v k → IsMultiple v (min (unit_size v) k)
     least Byte x = omega (arith, x)
     least _ x = omega (arith, x)
 
     by_test : (b : Bool) → IsMultiple u (if b then 0 else min (unit_size u) k)
-    by_test true = multiple_zero u
+    by_test true = zero_is_multiple u
     by_test false = least u whole
 
-multiple_left : (u : WriteUnit) (a b : ℕ) → IsMultiple u a → IsMultiple u b → IsMultiple u (a - b)
-multiple_left Byte a b x y = omega (arith, x, y)
-multiple_left _ a b x y = omega (arith, x, y)
+difference_is_multiple : (u : WriteUnit) (a b : ℕ) → IsMultiple u a → IsMultiple u b → IsMultiple u (a - b)
+difference_is_multiple Byte a b x y = omega (arith, x, y)
+difference_is_multiple _ a b x y = omega (arith, x, y)
 
--- So many bytes a range of a source has.
-pub range_length : (source : Source) (held block header : List ℕ) (skip n : ℕ)
-    → skip + n ≤ length (source_of source held block header) + 256 → length (range_of source held block header skip n) ≡ n
-range_length source held block header skip n within =
-    let all = source_of source held block header in
-    range_size (all ++ replicate 256 0) skip n
+-- A range of a source has as many bytes as were asked for, up to 256 past its end.
+pub source_range_length : (source : Source) (held block header : List ℕ) (skip n : ℕ)
+    → skip + n ≤ length (source_content source held block header) + 256 → length (range_of source held block header skip n) ≡ n
+source_range_length source held block header skip n within =
+    let all = source_content source held block header in
+    length_of_range_within (all ++ replicate 256 0) skip n
     (omega (arith, within, length-append all (replicate 256 0), length-replicate {A = ℕ} 256 0))
 
--- The unit of a gate or of a header may be written on a medium of the same size.
-unit_may : {m now : MediumState} (at : ℕ) → SameSize m now → IsSized m → IsEdge m.grain.sector at
-    → at + gate_size m.grain.unit ≤ length m.bytes → IsMultiple m.grain.unit at → MayWrite now at (gate_size m.grain.unit)
-unit_may {m} {now} at same sized edge within place = record {
-  sized = sized_after same sized;
-  ahead = edge_ahead now at (subst (λ (w : Grain). IsEdge w.sector at) (sym same.grain) edge);
+-- A gate unit or a header unit may be written on a medium of the same size.
+unit_may_be_written : {m now : MediumState} (at : ℕ) → SameSize m now → IsSizedMedium m → IsSectorEdge m.grain.sector at
+    → at + gate_size m.grain.unit ≤ length m.bytes → IsMultiple m.grain.unit at → MayWriteRange now at (gate_size m.grain.unit)
+unit_may_be_written {m} {now} at same sized edge within place = record {
+  sized = sized_on_same_size same sized;
+  ahead = writable_ahead_at_edge now at (subst (λ (w : Grain). IsSectorEdge w.sector at) (sym same.grain) edge);
   within = omega (arith, within, same.size);
   place = subst (λ (w : Grain). IsMultiple w.unit at) (sym same.grain) place;
-  whole = subst (λ (w : Grain). IsMultiple w.unit (gate_size m.grain.unit)) (sym same.grain) (multiple_gate m.grain.unit);
+  whole = subst (λ (w : Grain). IsMultiple w.unit (gate_size m.grain.unit)) (sym same.grain) (gate_size_is_multiple m.grain.unit);
 }
 
-same_self : {m : MediumState} → SameSize m m
-same_self = record { grain = refl; size = refl }
+size_is_reflexive : {m : MediumState} → SameSize m m
+size_is_reflexive = record { grain = refl; size = refl }
 
 -- The gate of a slot may be closed.
-pub may_close : (m : MediumState) (slot : ℕ) (held block header : List ℕ) → IsSized m → slot + gate_of m ≤ length m.bytes
-    → IsMultiple m.grain.unit slot → IsEdge m.grain.sector slot
+pub may_carry_close : (m : MediumState) (slot : ℕ) (held block header : List ℕ) → IsSizedMedium m → slot + gate_of m ≤ length m.bytes
+    → IsMultiple m.grain.unit slot → IsSectorEdge m.grain.sector slot
     → MayCarryAll m held block header (operations m.grain (Close slot))
-may_close m slot held block header sized within place edge = (by_sector (cases_eq m.grain.sector 0), λ now all. tt)
+may_carry_close m slot held block header sized within place edge = (by_sector (cases_eq m.grain.sector 0), λ now all. tt)
   where
     by_sector : (m.grain.sector ≡ 0) ⊎ (m.grain.sector ≢ 0)
-        → MayCarry m held block (if m.grain.sector == 0 then Program slot Closed 0 (gate_size m.grain.unit) else Erase slot)
+        → MayCarryOp m held block (if m.grain.sector == 0 then Program slot Closed 0 (gate_size m.grain.unit) else Erase slot)
     by_sector (inl none) =
-        subst (λ (o : Op). MayCarry m held block o) (sym (cond-true (m.grain.sector == 0) _ (Erase slot) (eq-eqb _ _ none)))
-        (unit_may slot same_self sized edge (omega (arith, within)) place, (refl, gate_most m.grain.unit))
+        subst (λ (o : Op). MayCarryOp m held block o) (sym (cond-true (m.grain.sector == 0) _ (Erase slot) (eq-eqb _ _ none)))
+        (unit_may_be_written slot size_is_reflexive sized edge (omega (arith, within)) place, (refl, gate_unit_at_most_256 m.grain.unit))
     by_sector (inr some) =
-        subst (λ (o : Op). MayCarry m held block o)
+        subst (λ (o : Op). MayCarryOp m held block o)
         (sym (cond-false (m.grain.sector == 0) (Program slot Closed 0 (gate_size m.grain.unit)) (Erase slot) (ne_eqb _ _ some)))
         (omega (arith, within), edge (omega (arith, some)))
 
--- The bytes that are held may be written, and the slot opened.
-module _ (m : MediumState) (slot end : ℕ) (held header : List ℕ) (sized : IsSized m) (room : slot + slot_size m.bytes ≤ length m.bytes)
-    (place : IsMultiple m.grain.unit slot) (edge : IsEdge m.grain.sector slot) (few : length held ≤ 256) where
+-- The held bytes may be written, and the slot may be opened.
+module _ (m : MediumState) (slot end : ℕ) (held header : List ℕ) (sized : IsSizedMedium m)
+    (room : slot + slot_size m.bytes ≤ length m.bytes)
+    (place : IsMultiple m.grain.unit slot) (edge : IsSectorEdge m.grain.sector slot) (few : length held ≤ 256) where
   abbrev u : WriteUnit
   u = m.grain.unit
 
@@ -96,36 +97,52 @@ module _ (m : MediumState) (slot end : ℕ) (held header : List ℕ) (sized : Is
   abbrev n : ℕ
   n = length held + fill_size u (length held)
 
-  most : n ≤ 256
-  most = omega (arith, filled_within u 256 held (multiple_unit u) few, length-filled u held)
+  held_at_most_256 : n ≤ 256
+  held_at_most_256 = omega (arith, filled_bytes_within u 256 held (largest_unit_is_multiple u) few, filled_units_length u held)
 
-  head_place : IsMultiple u (slot + gate_of m)
-  head_place = multiple_add u slot (gate_of m) place (room_multiple m.grain (capacity_of m) sized.whole)
+  header_place_is_multiple : IsMultiple u (slot + gate_of m)
+  header_place_is_multiple = sum_is_multiple u slot (gate_of m) place (gate_room_is_multiple m.grain (capacity_of m) sized.whole)
 
-  head_edge : IsEdge m.grain.sector (slot + gate_of m)
-  head_edge = edge_add m.grain.sector slot (gate_of m) edge (room_edge m.grain (capacity_of m) sized.whole)
+  header_place_is_edge : IsSectorEdge m.grain.sector (slot + gate_of m)
+  header_place_is_edge = edge_sum_is_edge m.grain.sector slot (gate_of m) edge (gate_room_ends_at_edge m.grain (capacity_of m) sized.whole)
 
-  pub may_commit : IsAhead m at → at + length (filled u held) ≤ length m.bytes → IsMultiple u at
+  pub may_carry_commit : IsWritableAhead m at → at + length (filled_units u held) ≤ length m.bytes → IsMultiple u at
       → MayCarryAll m held [] header (operations m.grain (Commit slot end (length held)))
-  may_commit ahead within whole =
-      let fits : at + n ≤ length m.bytes = omega (arith, within, length-filled u held) in (
-        (record { sized = sized; ahead = ahead; within = fits; place = whole; whole = multiple_filled u (length held) }, (refl, most)),
+  may_carry_commit ahead within whole =
+      let fits : at + n ≤ length m.bytes = omega (arith, within, filled_units_length u held) in (
+        (
+          record { sized = sized; ahead = ahead; within = fits; place = whole; whole = filled_length_is_multiple u (length held) },
+          (
+            refl,
+            held_at_most_256,
+          ),
+        ),
         λ a first.
-            let size = range_length Held held [] header 0 n (omega (arith, most)) in
-            let one = some_same m a at (range_of Held held [] header 0 n) sized (omega (arith, size, fits)) first in (
-              (unit_may (slot + gate_of m) one sized head_edge (omega (arith, room, sized.room)) head_place, (refl, gate_most u)),
+            let size = source_range_length Held held [] header 0 n (omega (arith, held_at_most_256)) in
+            let one = write_some_keeps_size m a at (range_of Held held [] header 0 n) sized (omega (arith, size, fits)) first in (
+              (
+                unit_may_be_written (slot + gate_of m) one sized header_place_is_edge (omega (arith, room, sized.room))
+                    header_place_is_multiple,
+                (refl, gate_unit_at_most_256 u),
+              ),
               λ b second.
-                  let long = range_length Header held [] header 0 g (omega (arith, gate_most u)) in
-                  let two = some_same a b (slot + gate_of m) (range_of Header held [] header 0 g) (sized_after one sized)
+                  let long = source_range_length Header held [] header 0 g (omega (arith, gate_unit_at_most_256 u)) in
+                  let two = write_some_keeps_size a b (slot + gate_of m) (range_of Header held [] header 0 g) (sized_on_same_size one sized)
                   (omega (arith, long, room, sized.room, one.size)) second in (
-                    (unit_may slot (same_both one two) sized edge (omega (arith, room, sized.room)) place, (refl, gate_most u)),
+                    (
+                      unit_may_be_written slot (size_is_transitive one two) sized edge (omega (arith, room, sized.room)) place,
+                      (
+                        refl,
+                        gate_unit_at_most_256 u,
+                      ),
+                    ),
                     λ c third. tt,
                   ),
             ),
       )
 
--- A block may be put after what is held.
-module _ (m : MediumState) (slot end : ℕ) (held block header : List ℕ) (sized : IsSized m) where
+-- A block may be put after the held bytes.
+module _ (m : MediumState) (slot end : ℕ) (held block header : List ℕ) (sized : IsSizedMedium m) where
   abbrev v : WriteUnit
   v = m.grain.unit
 
@@ -139,39 +156,42 @@ module _ (m : MediumState) (slot end : ℕ) (held block header : List ℕ) (size
   head = if length held == 0 then 0 else min (unit_size v) count
 
   module _ (part : length held < unit_size v) where
-    head_most : (head ≤ count) × (head ≤ 256) × (head < length held → count ≡ head)
-    head_most = by_test (length held == 0) refl
+    head_write_bounds : (head ≤ count) × (head ≤ 256) × (head < length held → count ≡ head)
+    head_write_bounds = by_test (length held == 0) refl
       where
         by_test : (b : Bool) → (length held == 0) ≡ b → ((if b then 0 else min (unit_size v) count) ≤ count)
             × ((if b then 0 else min (unit_size v) count) ≤ 256)
             × ((if b then 0 else min (unit_size v) count) < length held → count ≡ (if b then 0 else min (unit_size v) count))
         by_test true is = (omega arith, omega arith, λ lt. omega (arith, lt, eqb-true _ _ is))
-        by_test false is = (omega arith, omega (arith, gate_most v), λ lt. omega (arith, lt, part))
+        by_test false is = (omega arith, omega (arith, gate_unit_at_most_256 v), λ lt. omega (arith, lt, part))
 
-    pub may_put : IsAhead m from → from + (length held + length block) ≤ length m.bytes → IsMultiple v from
+    pub may_carry_put : IsWritableAhead m from → from + (length held + length block) ≤ length m.bytes → IsMultiple v from
         → MayCarryAll m held block header (operations m.grain (Put slot end (length held) (length block)))
-    may_put ahead within whole =
-        let parts = multiple_part v (length held + length block) in
-        let first = multiple_head v (length held) count parts in
+    may_carry_put ahead within whole =
+        let parts = whole_part_is_multiple v (length held + length block) in
+        let first = head_write_is_multiple v (length held) count parts in
         let few : count ≤ length held + length block = omega arith in (
           (
-            record { sized = sized; ahead = ahead; within = omega (arith, within, head_most.0, few); place = whole; whole = first },
-            (λ none. omega (arith, none, head_most.0, few), λ some. head_most.1),
+            record { sized = sized; ahead = ahead; within = omega (arith, within, head_write_bounds.0, few); place = whole; whole = first },
+            (λ none. omega (arith, none, head_write_bounds.0, few), λ some. head_write_bounds.1),
           ),
           λ a all.
-              let size = range_length Joined held block header 0 head (omega (arith, head_most.1)) in
+              let size = source_range_length Joined held block header 0 head (omega (arith, head_write_bounds.1)) in
               let bytes = range_of Joined held block header 0 head in
-              let fits : from + length bytes ≤ length m.bytes = omega (arith, size, within, head_most.0, few) in
-              let same = some_same m a from bytes sized fits all in (
+              let fits : from + length bytes ≤ length m.bytes = omega (arith, size, within, head_write_bounds.0, few) in
+              let same = write_some_keeps_size m a from bytes sized fits all in (
                 (
                   record {
-                    sized = sized_after same sized;
-                    ahead = subst (λ (k : ℕ). IsAhead a (from + k)) size (some_ahead m a from bytes sized fits all ahead);
-                    within = omega (arith, within, head_most.0, few, same.size);
-                    place = subst (λ (w : Grain). IsMultiple w.unit (from + head)) (sym same.grain) (multiple_add v from head whole first);
-                    whole = subst (λ (w : Grain). IsMultiple w.unit (count - head)) (sym same.grain) (multiple_left v count head parts first);
+                    sized = sized_on_same_size same sized;
+                    ahead = subst (λ (k : ℕ). IsWritableAhead a (from + k)) size (erased_ahead_of_some_bytes m a from bytes sized fits all
+                        ahead);
+                    within = omega (arith, within, head_write_bounds.0, few, same.size);
+                    place = subst (λ (w : Grain). IsMultiple w.unit (from + head)) (sym same.grain) (sum_is_multiple v from head whole
+                        first);
+                    whole = subst (λ (w : Grain). IsMultiple w.unit (count - head)) (sym same.grain) (difference_is_multiple v count head
+                        parts first);
                   },
-                  (λ low. omega (arith, low, head_most.0, few), λ some. omega (arith, head_most.2 some)),
+                  (λ low. omega (arith, low, head_write_bounds.0, few), λ some. omega (arith, head_write_bounds.2 some)),
                 ),
                 λ b second. tt,
               ),

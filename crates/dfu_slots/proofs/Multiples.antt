@@ -1,124 +1,132 @@
--- Places and lengths that are whole in a unit.
+-- Places and lengths that are multiples of a unit.
 use Rattle.std.proofs.Common.{◌≡◌, ℕ, ◌+◌, ◌-◌, ◌*◌, ◌/◌, ◌%◌, ◌≤◌, ◌<◌, List, length, replicate, sym, ◌∙◌, ap, subst, arith, length-append}
 use Rattle.std.proofs.lemmas.List.{length-replicate}
 use Rattle.dfu_slots.specs.declared.layout.Unit.{Unit as WriteUnit}
 use Rattle.dfu_slots.specs.declared.layout.Unit.TheVariants.{Byte}
-use Rattle.dfu_slots.specs.Units.{IsWhole, unit_size, IsMultiple, whole_part, fill_size, filled, gate_room, Grain}
+use Rattle.dfu_slots.specs.Units.{IsWhole, unit_size, IsMultiple, whole_part, fill_size, filled_units, gate_room, Grain}
 use Rattle.dfu_slots.specs.Medium.{MediumState}
-use Rattle.dfu_slots.specs.Image.{gate_of, capacity_of, IsSized}
-use Rattle.dfu_slots.specs.StoreView.{SlotsState, tail_at, data_place}
-use Rattle.dfu_slots.specs.Store.{HasPuts}
-use Rattle.dfu_slots.proofs.Stands.{two_slots}
-use Rattle.dfu_slots.proofs.Newest.{spare_end}
+use Rattle.dfu_slots.specs.Image.{gate_of, capacity_of, IsSizedMedium}
+use Rattle.dfu_slots.specs.StoreView.{SlotsState, held_data_place, data_place}
+use Rattle.dfu_slots.specs.Store.{HasPutBytes}
+use Rattle.dfu_slots.proofs.Stands.{sized_medium_has_two_slots}
+use Rattle.dfu_slots.proofs.Newest.{spare_place_ends_within}
 use Rattle.dfu_slots.proofs.Series.{SameSize}
 
 -- Sums.
 
--- No bytes are whole in every unit.
-pub multiple_zero : (u : WriteUnit) → IsMultiple u 0
-multiple_zero Byte = omega arith
-multiple_zero _ = omega arith
+-- 0 is a multiple of every unit.
+pub zero_is_multiple : (u : WriteUnit) → IsMultiple u 0
+zero_is_multiple Byte = omega arith
+zero_is_multiple _ = omega arith
 
--- A full piece is a multiple of every unit.
-pub multiple_piece : (u : WriteUnit) → IsMultiple u 4096
-multiple_piece Byte = omega arith
-multiple_piece _ = omega arith
+-- A full piece, of 4096 bytes, is a multiple of every unit.
+pub piece_size_is_multiple : (u : WriteUnit) → IsMultiple u 4096
+piece_size_is_multiple Byte = omega arith
+piece_size_is_multiple _ = omega arith
 
--- So is the largest unit.
-pub multiple_unit : (u : WriteUnit) → IsMultiple u 256
-multiple_unit Byte = omega arith
-multiple_unit _ = omega arith
+-- 256, the largest unit, is a multiple of every unit.
+pub largest_unit_is_multiple : (u : WriteUnit) → IsMultiple u 256
+largest_unit_is_multiple Byte = omega arith
+largest_unit_is_multiple _ = omega arith
 
--- The sum of two multiples is one.
-pub multiple_add : (u : WriteUnit) (a b : ℕ) → IsMultiple u a → IsMultiple u b → IsMultiple u (a + b)
-multiple_add Byte a b x y = omega (arith, x, y)
-multiple_add _ a b x y = omega (arith, x, y)
+-- The sum of two multiples is a multiple.
+pub sum_is_multiple : (u : WriteUnit) (a b : ℕ) → IsMultiple u a → IsMultiple u b → IsMultiple u (a + b)
+sum_is_multiple Byte a b x y = omega (arith, x, y)
+sum_is_multiple _ a b x y = omega (arith, x, y)
 
 -- Parts.
 
--- The part that makes no whole unit of a length is no more than the length.
-pub part_le : (u : WriteUnit) (n : ℕ) → n % unit_size u ≤ n
-part_le Byte n = omega arith
-part_le _ n = omega arith
+-- The part of a length that makes no whole unit is no more than the length.
+pub part_at_most_length : (u : WriteUnit) (n : ℕ) → n % unit_size u ≤ n
+part_at_most_length Byte n = omega arith
+part_at_most_length _ n = omega arith
 
 -- The whole units of a length make a multiple.
-pub multiple_part : (u : WriteUnit) (n : ℕ) → IsMultiple u (whole_part u n)
-multiple_part Byte n = omega arith
-multiple_part _ n = omega arith
+pub whole_part_is_multiple : (u : WriteUnit) (n : ℕ) → IsMultiple u (whole_part u n)
+whole_part_is_multiple Byte n = omega arith
+whole_part_is_multiple _ n = omega arith
 
--- No bytes leave nothing over.
-pub zero_part : (u : WriteUnit) → 0 % unit_size u ≡ 0
-zero_part u = multiple_zero u
+-- No bytes leave no part.
+pub no_part_of_no_bytes : (u : WriteUnit) → 0 % unit_size u ≡ 0
+no_part_of_no_bytes u = zero_is_multiple u
 
--- The part that makes no whole unit does not depend on whole units before it.
-pub part_more : (u : WriteUnit) (n k : ℕ) → (n % unit_size u + k) % unit_size u ≡ (n + k) % unit_size u
-part_more Byte n k = omega arith
-part_more _ n k = omega arith
+-- The part that makes no whole unit does not depend on the whole units before it.
+pub part_after_whole_units : (u : WriteUnit) (n k : ℕ) → (n % unit_size u + k) % unit_size u ≡ (n + k) % unit_size u
+part_after_whole_units Byte n k = omega arith
+part_after_whole_units _ n k = omega arith
 
--- More than a whole number of units has one unit more.
-pub unit_more : (u : WriteUnit) (w : ℕ) → IsMultiple u w → 0 < w → unit_size u ≤ w
-unit_more Byte w x some = omega (arith, x, some)
-unit_more _ w x some = omega (arith, x, some)
+-- A multiple that is not 0 has a unit at least.
+pub multiple_has_a_unit : (u : WriteUnit) (w : ℕ) → IsMultiple u w → 0 < w → unit_size u ≤ w
+multiple_has_a_unit Byte w x some = omega (arith, x, some)
+multiple_has_a_unit _ w x some = omega (arith, x, some)
 
--- Filled up with zeros.
+-- Lengths that are filled up with zeros.
 
--- Bytes from a whole place on that end within a whole length do so filled up too.
-fill_fits : (u : WriteUnit) (k n c : ℕ) → IsMultiple u k → IsMultiple u c → k + n ≤ c → k + (n + fill_size u n) ≤ c
-fill_fits Byte k n c x y le = omega (arith, x, y, le)
-fill_fits _ k n c x y le = omega (arith, x, y, le)
+-- If bytes from a whole place on end within a whole length, they end within it filled up too.
+fill_ends_within_multiple : (u : WriteUnit) (k n c : ℕ) → IsMultiple u k → IsMultiple u c → k + n ≤ c → k + (n + fill_size u n) ≤ c
+fill_ends_within_multiple Byte k n c x y le = omega (arith, x, y, le)
+fill_ends_within_multiple _ k n c x y le = omega (arith, x, y, le)
 
--- Filled bytes are longer by the zeros.
-pub length-filled : (u : WriteUnit) (bytes : List ℕ) → length (filled u bytes) ≡ length bytes + fill_size u (length bytes)
-length-filled u bytes = length-append bytes (replicate (fill_size u (length bytes)) 0)
+-- Filled bytes are as long as the bytes and the zeros.
+pub filled_units_length : (u : WriteUnit) (bytes : List ℕ) → length (filled_units u bytes) ≡ length bytes + fill_size u (length bytes)
+filled_units_length u bytes = length-append bytes (replicate (fill_size u (length bytes)) 0)
     ∙ ap (λ (n : ℕ). length bytes + n) (length-replicate {A = ℕ} (fill_size u (length bytes)) 0)
 
-filled_fits : (u : WriteUnit) (k c : ℕ) (bytes : List ℕ) → IsMultiple u k → IsMultiple u c → k + length bytes ≤ c
-    → k + length (filled u bytes) ≤ c
-filled_fits u k c bytes x y le = omega (arith, length-filled u bytes, fill_fits u k (length bytes) c x y le)
+filled_units_end_within : (u : WriteUnit) (k c : ℕ) (bytes : List ℕ) → IsMultiple u k → IsMultiple u c → k + length bytes ≤ c
+    → k + length (filled_units u bytes) ≤ c
+filled_units_end_within u k c bytes x y le = omega (
+  arith,
+  filled_units_length u bytes,
+  fill_ends_within_multiple u k (length bytes) c x y
+      le,
+)
 
--- Bytes that are no more than a whole length are so filled up too.
-pub filled_within : (u : WriteUnit) (c : ℕ) (bytes : List ℕ) → IsMultiple u c → length bytes ≤ c → length (filled u bytes) ≤ c
-filled_within u c bytes whole le = omega
-    (arith, length-filled u bytes, fill_fits u 0 (length bytes) c (multiple_zero u) whole (omega (arith, le)))
+-- If bytes fit in a whole length, they fit filled up too.
+pub filled_bytes_within : (u : WriteUnit) (c : ℕ) (bytes : List ℕ) → IsMultiple u c → length bytes ≤ c → length (filled_units u bytes) ≤ c
+filled_bytes_within u c bytes whole le = omega
+    (arith, filled_units_length u bytes, fill_ends_within_multiple u 0 (length bytes) c (zero_is_multiple u) whole (omega (arith, le)))
 
--- The places of a medium.
+-- Places of a medium.
 
--- A length that is whole in the data of a slot is so on a medium of the same size.
-pub whole_after : {m n : MediumState} → SameSize m n → IsWhole m.grain (capacity_of m) → IsWhole n.grain (capacity_of n)
-whole_after {m} {n} same whole = subst (λ (w : Grain). IsWhole w (length n.bytes / 2 - 2 * gate_room w)) (sym same.grain)
+-- A capacity that is whole in the grain is whole on a medium of the same size.
+pub whole_on_same_size : {m n : MediumState} → SameSize m n → IsWhole m.grain (capacity_of m) → IsWhole n.grain (capacity_of n)
+whole_on_same_size {m} {n} same whole = subst (λ (w : Grain). IsWhole w (length n.bytes / 2 - 2 * gate_room w)) (sym same.grain)
     (subst (λ (k : ℕ). IsWhole m.grain (k / 2 - 2 * gate_of m)) (sym same.size) whole)
 
--- A medium of the same size is two slots too.
-pub sized_after : {m n : MediumState} → SameSize m n → IsSized m → IsSized n
-sized_after same sized = record {
+-- A medium of the same size as one of two slots has two slots.
+pub sized_on_same_size : {m n : MediumState} → SameSize m n → IsSizedMedium m → IsSizedMedium n
+sized_on_same_size same sized = record {
   even = omega (arith, same.size, sized.even);
   room = omega (arith, same.size, ap gate_room same.grain, sized.room);
   bound = omega (arith, same.size, ap gate_room same.grain, sized.bound);
-  whole = whole_after same sized.whole;
+  whole = whole_on_same_size same sized.whole;
 }
 
--- Bytes that a store holds back.
+-- Held bytes.
 
-module _ (s : SlotsState) (puts : HasPuts s) where
-  -- The bytes held back end where the puts end.
-  pub held_end : tail_at s + length s.held ≡ s.put_end
-  held_end = omega (arith, puts.part, part_le s.medium.grain.unit s.put_end)
+module _ (s : SlotsState) (puts : HasPutBytes s) where
+  -- The held bytes end where the puts end.
+  pub held_bytes_end_at_put_end : held_data_place s + length s.held ≡ s.put_end
+  held_bytes_end_at_put_end = omega (arith, puts.part, part_at_most_length s.medium.grain.unit s.put_end)
 
-  held_multiple : IsMultiple s.medium.grain.unit (tail_at s)
-  held_multiple =
-      subst (λ (n : ℕ). IsMultiple s.medium.grain.unit (s.put_end - n)) (sym puts.part) (multiple_part s.medium.grain.unit s.put_end)
+  held_place_is_multiple : IsMultiple s.medium.grain.unit (held_data_place s)
+  held_place_is_multiple =
+      subst (λ (n : ℕ). IsMultiple s.medium.grain.unit (s.put_end - n)) (sym puts.part) (whole_part_is_multiple s.medium.grain.unit
+      s.put_end)
 
-  -- Filled up with zeros, they end within the data of a slot.
-  pub held_fits : IsMultiple s.medium.grain.unit (capacity_of s.medium)
-      → tail_at s + length (filled s.medium.grain.unit s.held) ≤ capacity_of s.medium
-  held_fits whole = filled_fits s.medium.grain.unit (tail_at s) (capacity_of s.medium) s.held held_multiple whole
-      (omega (arith, held_end, puts.fits))
+  -- The held bytes, filled up with zeros, end within the data of a slot.
+  pub filled_held_fits_capacity : IsMultiple s.medium.grain.unit (capacity_of s.medium)
+      → held_data_place s + length (filled_units s.medium.grain.unit s.held) ≤ capacity_of s.medium
+  filled_held_fits_capacity whole = filled_units_end_within s.medium.grain.unit (held_data_place s) (capacity_of s.medium) s.held
+      held_place_is_multiple whole
+      (omega (arith, held_bytes_end_at_put_end, puts.fits))
 
-  -- And within the medium.
-  pub place_fits : IsSized s.medium → data_place s (tail_at s) + length (filled s.medium.grain.unit s.held) ≤ length s.medium.bytes
-  place_fits sized = omega (
+  -- The held bytes, filled up with zeros, end within the medium.
+  pub filled_held_fits_medium : IsSizedMedium s.medium → data_place s (held_data_place s) + length
+      (filled_units s.medium.grain.unit s.held) ≤ length s.medium.bytes
+  filled_held_fits_medium sized = omega (
     arith,
-    held_fits sized.whole.units,
-    spare_end (gate_of s.medium) s.medium.bytes (two_slots s.medium sized),
+    filled_held_fits_capacity sized.whole.units,
+    spare_place_ends_within (gate_of s.medium) s.medium.bytes (sized_medium_has_two_slots s.medium sized),
     sized.room,
   )

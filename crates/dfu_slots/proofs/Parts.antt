@@ -1,28 +1,28 @@
--- The parts of a slot, and what a change elsewhere leaves of them.
+-- Parts of a slot, and what a change elsewhere leaves of them.
 use Rattle.std.proofs.Common.{◌≡◌, ◌⊎◌, inl, inr, ⊎_elim, ℕ, ◌+◌, ◌-◌, ◌*◌, ◌/◌, ◌≤◌, ◌<◌, List, length, get_or, drop, replicate, slice_index, slice_range, sym, ◌∙◌, ap, arith, length-append, length-drop}
 use Rattle.std.proofs.lemmas.List.{get_or-take, get_or-drop, length-take-le, length-replicate}
 use Rattle.dfu_slots.specs.Medium.{FrameOutside}
 use Rattle.dfu_slots.specs.Layout.{slot_size, capacity, slot, generation, header, HasHeader, gate_unit, header_unit}
 use Rattle.dfu_slots.proofs.Stands.{HasTwoSlots}
-use Rattle.dfu_slots.proofs.Torn.{range_outside, byte_outside}
+use Rattle.dfu_slots.proofs.Torn.{range_kept_outside_write, byte_kept_outside_write}
 
--- A gate unit that is written has the size of a gate unit.
-pub length-gate_unit : (g gate : ℕ) → 16 ≤ g → length (gate_unit g gate) ≡ g
-length-gate_unit g gate wide = omega (arith, length-replicate {A = ℕ} (g - 1) 0)
+-- A gate unit as it is written has the size of a gate.
+pub gate_unit_length : (g gate : ℕ) → 16 ≤ g → length (gate_unit g gate) ≡ g
+gate_unit_length g gate wide = omega (arith, length-replicate {A = ℕ} (g - 1) 0)
 
--- A header unit that is written has the same size.
-pub length-header_unit : (g gen len crc : ℕ) → 16 ≤ g → length (header_unit g gen len crc) ≡ g
-length-header_unit g gen len crc wide = omega
+-- A header unit as it is written has the size of a gate.
+pub header_unit_length : (g gen len crc : ℕ) → 16 ≤ g → length (header_unit g gen len crc) ≡ g
+header_unit_length g gen len crc wide = omega
     (arith, length-append (header 2 gen len crc) (replicate (g - 16) 0), length-replicate {A = ℕ} (g - 16) 0)
 
--- The byte after the gate unit is the generation.
-pub generation_at : (g : ℕ) (bytes : List ℕ) (at : ℕ) → slice_index bytes (at + g) ≡ generation (slot g bytes at)
-generation_at g bytes at =
+-- The first byte after the gate unit is the generation.
+pub generation_byte_in_slot : (g : ℕ) (bytes : List ℕ) (at : ℕ) → slice_index bytes (at + g) ≡ generation (slot g bytes at)
+generation_byte_in_slot g bytes at =
     let e : at + g ≡ at + g + 0 = omega arith in
     ap (λ (k : ℕ). get_or bytes k 0) e ∙ sym (get_or-drop (at + g) bytes 0 0)
     ∙ sym (get_or-take (at + g + 16 - (at + g)) (drop (at + g) bytes) 0 0 (omega arith))
 
--- A slot has the capacity.
+-- The data of a slot has as many bytes as the capacity.
 pub data_length : (g : ℕ) (bytes : List ℕ) (at : ℕ) → at + slot_size bytes ≤ length bytes → 2 * g ≤ slot_size bytes
     → length (slot g bytes at).data_bytes ≡ capacity g bytes
 data_length g bytes at end room = omega (
@@ -31,48 +31,49 @@ data_length g bytes at end room = omega (
       (omega (arith, length-drop (at + 2 * g) bytes, end)),
 )
 
--- Sixteen bytes that are read after the gate unit, and are a header of version 1 that fits, are a well-formed header of the slot.
-pub header_from : (g : ℕ) (bytes : List ℕ) (at len : ℕ) (out : List ℕ) → out ≡ (slot g bytes at).header
+-- Sixteen bytes that were read after the gate unit, and are a header of version 1 that fits, make the slot's header well formed.
+pub read_header_is_formed : (g : ℕ) (bytes : List ℕ) (at len : ℕ) (out : List ℕ) → out ≡ (slot g bytes at).header
     → out ≡ header 1 (get_or out 0 0) len 0 → len ≤ capacity g bytes
     → at + slot_size bytes ≤ length bytes → 2 * g ≤ slot_size bytes → HasHeader (slot g bytes at) len
-header_from g bytes at len out read is fits end room = record {
+read_header_is_formed g bytes at len out read is fits end room = record {
   well_formed = inl (sym read ∙ is ∙ ap (λ (l : List ℕ). header 1 (get_or l 0 0) len 0) read);
   fits = omega (arith, data_length g bytes at end room);
 }
 
 -- A change within a range keeps the size of a slot.
-pub size_kept : (from to : ℕ) (old now : List ℕ) → FrameOutside from to old now → slot_size now ≡ slot_size old
-size_kept from to old now keeps = ap (λ (n : ℕ). n / 2) keeps.size
+pub slot_size_kept_by_change : (from to : ℕ) (old now : List ℕ) → FrameOutside from to old now → slot_size now ≡ slot_size old
+slot_size_kept_by_change from to old now keeps = ap (λ (n : ℕ). n / 2) keeps.size
 
--- Bytes of the same length are two slots too.
-pub sized_kept : (g : ℕ) (old now : List ℕ) → length now ≡ length old → HasTwoSlots g old → HasTwoSlots g now
-sized_kept g old now same sized = record {
+-- Bytes of the same length as two slots are two slots.
+pub two_slots_of_same_length : (g : ℕ) (old now : List ℕ) → length now ≡ length old → HasTwoSlots g old → HasTwoSlots g now
+two_slots_of_same_length g old now same sized = record {
   even = omega (arith, same, sized.even);
   room = omega (arith, same, sized.room);
   bound = omega (arith, same, sized.bound);
 }
 
 module _ (g from to : ℕ) (old now : List ℕ) (p : ℕ) (keeps : FrameOutside from to old now) where
-  -- The parts of a slot that lie outside a change are as they were.
-  pub gate_outside : (p < from) ⊎ (to ≤ p) → (slot g now p).gate ≡ (slot g old p).gate
-  gate_outside apart = byte_outside from to old now p keeps apart
+  -- The gate of a slot stays if it lies outside a change.
+  pub gate_kept_outside_change : (p < from) ⊎ (to ≤ p) → (slot g now p).gate ≡ (slot g old p).gate
+  gate_kept_outside_change apart = byte_kept_outside_write from to old now p keeps apart
 
-  -- So is the header.
-  pub header_outside : (p + g + 16 ≤ from) ⊎ (to ≤ p + g) → (slot g now p).header ≡ (slot g old p).header
-  header_outside apart = range_outside from to old now (p + g) (p + g + 16) keeps apart
+  -- The header of a slot stays if it lies outside a change.
+  pub header_kept_outside_change : (p + g + 16 ≤ from) ⊎ (to ≤ p + g) → (slot g now p).header ≡ (slot g old p).header
+  header_kept_outside_change apart = range_kept_outside_write from to old now (p + g) (p + g + 16) keeps apart
 
-  -- So is the data.
-  pub data_outside : (p + slot_size old ≤ from) ⊎ (to ≤ p + 2 * g) → (slot g now p).data_bytes ≡ (slot g old p).data_bytes
-  data_outside apart =
-      ap (λ (s : ℕ). slice_range now (p + 2 * g) (p + s)) (size_kept from to old now keeps)
-      ∙ range_outside from to old now (p + 2 * g) (p + slot_size old) keeps apart
+  -- The data of a slot stays if it lies outside a change.
+  pub data_kept_outside_change : (p + slot_size old ≤ from) ⊎ (to ≤ p + 2 * g) → (slot g now p).data_bytes ≡ (slot g old p).data_bytes
+  data_kept_outside_change apart =
+      ap (λ (s : ℕ). slice_range now (p + 2 * g) (p + s)) (slot_size_kept_by_change from to old now keeps)
+      ∙ range_kept_outside_write from to old now (p + 2 * g) (p + slot_size old) keeps apart
 
-  -- And so is a slot that lies outside it.
-  pub slot_outside : 16 ≤ g → 2 * g ≤ slot_size old → (p + slot_size old ≤ from) ⊎ (to ≤ p) → slot g now p ≡ slot g old p
-  slot_outside wide room apart =
-      let gate : (slot g now p).gate ≡ (slot g old p).gate = gate_outside (⊎_elim (λ le. inl (omega arith)) (λ le. inr le) apart) in
+  -- A slot stays if all of it lies outside a change.
+  pub slot_kept_outside_change : 16 ≤ g → 2 * g ≤ slot_size old → (p + slot_size old ≤ from) ⊎ (to ≤ p) → slot g now p ≡ slot g old p
+  slot_kept_outside_change wide room apart =
+      let gate : (slot g now p).gate ≡ (slot g old p).gate = gate_kept_outside_change (⊎_elim (λ le. inl (omega arith)) (λ le. inr le)
+      apart) in
       let head : (slot g now p).header ≡ (slot g old p).header =
-      header_outside (⊎_elim (λ le. inl (omega arith)) (λ le. inr (omega arith)) apart) in
+      header_kept_outside_change (⊎_elim (λ le. inl (omega arith)) (λ le. inr (omega arith)) apart) in
       let data_kept : (slot g now p).data_bytes ≡ (slot g old p).data_bytes =
-      data_outside (⊎_elim (λ le. inl le) (λ le. inr (omega arith)) apart) in
+      data_kept_outside_change (⊎_elim (λ le. inl le) (λ le. inr (omega arith)) apart) in
       λ i. record { gate = gate i; header = head i; data_bytes = data_kept i }

@@ -5,25 +5,25 @@ use Rattle.std.proofs.lemmas.Bool.{cases_lt}
 use Rattle.dfu_slots.specs.declared.fault.WriteFault.{WriteFault}
 use Rattle.dfu_slots.specs.Medium.{MediumState, Write, AllWrites, BrokenWrites}
 use Rattle.dfu_slots.specs.Writes.{write_anew, piece_writes}
-use Rattle.dfu_slots.proofs.Series.{AllInside, all_append, broken_first, broken_later, inside_append}
-use Rattle.dfu_slots.proofs.Sectors.{IsEdge}
-use Rattle.dfu_slots.proofs.Anew.{anew_inside}
+use Rattle.dfu_slots.proofs.Series.{AllWritesInside, writes_one_after_other, broken_in_first_part, broken_in_second_part, appended_writes_inside}
+use Rattle.dfu_slots.proofs.Sectors.{IsSectorEdge}
+use Rattle.dfu_slots.proofs.Anew.{write_with_erases_inside}
 
--- No bytes have no pieces.
-pub pieces_nil : (sector n at : ℕ) → piece_writes sector n at [] ≡ []
-pieces_nil sector zero at = refl
-pieces_nil sector (suc n) at = refl
+-- No bytes make no pieces.
+pub no_bytes_no_pieces : (sector n at : ℕ) → piece_writes sector n at [] ≡ []
+no_bytes_no_pieces sector zero at = refl
+no_bytes_no_pieces sector (suc n) at = refl
 
--- The first piece and the others.
-pieces_step : (sector n at : ℕ) (bytes : List ℕ) → 0 < length bytes → length bytes ≤ n
+-- The pieces of some bytes are the first one, and then those of the rest.
+first_piece_and_rest : (sector n at : ℕ) (bytes : List ℕ) → 0 < length bytes → length bytes ≤ n
     → (m : ℕ) × (length (drop 4096 bytes) ≤ m)
     × (piece_writes sector n at bytes ≡ write_anew sector at (take 4096 bytes) ++ piece_writes sector m (at + 4096) (drop 4096 bytes))
-pieces_step sector n at [] some le = absurd (omega (arith, some))
-pieces_step sector zero at (b ∷ bs) some le = absurd (omega (arith, le))
-pieces_step sector (suc m) at (b ∷ bs) some le = (m, omega (arith, le, length-drop 4096 (b ∷ bs)), refl)
+first_piece_and_rest sector n at [] some le = absurd (omega (arith, some))
+first_piece_and_rest sector zero at (b ∷ bs) some le = absurd (omega (arith, le))
+first_piece_and_rest sector (suc m) at (b ∷ bs) some le = (m, omega (arith, le, length-drop 4096 (b ∷ bs)), refl)
 
--- The pieces up to a place are written, and the rest of the bytes is not.
-pub record WrittenTo (old mid : MediumState) (sector n at : ℕ) (bytes : List ℕ) (place : ℕ) (rest : List ℕ) : Type 0 where
+-- The pieces up to `place` are written, and those of `rest` are not.
+pub record PiecesWrittenTo (old mid : MediumState) (sector n at : ℕ) (bytes : List ℕ) (place : ℕ) (rest : List ℕ) : Type 0 where
   pub front : List Write
   pub left : ℕ
   pub all : AllWrites old front mid
@@ -31,58 +31,59 @@ pub record WrittenTo (old mid : MediumState) (sector n at : ℕ) (bytes : List �
   pub pieces : piece_writes sector n at bytes ≡ front ++ piece_writes sector left place rest
 
 -- Before the first piece nothing is written.
-pub written_none : (s : MediumState) (sector n at : ℕ) (bytes : List ℕ) → length bytes ≤ n → WrittenTo s s sector n at bytes at bytes
-written_none s sector n at bytes le = record { front = []; left = n; all = refl; enough = le; pieces = refl }
+pub no_piece_written : (s : MediumState) (sector n at : ℕ) (bytes : List ℕ) → length bytes ≤ n →
+    PiecesWrittenTo s s sector n at bytes at bytes
+no_piece_written s sector n at bytes le = record { front = []; left = n; all = refl; enough = le; pieces = refl }
 
 module _ {old mid : MediumState} {sector n at : ℕ} {bytes : List ℕ} {place : ℕ} {rest : List ℕ}
-    (w : WrittenTo old mid sector n at bytes place rest) (some : 0 < length rest) (now : MediumState) where
-  -- One piece more.
-  pub written_more : AllWrites mid (write_anew sector place (take 4096 rest)) now
-      → WrittenTo old now sector n at bytes (place + 4096) (drop 4096 rest)
-  written_more came =
-      let step = pieces_step sector w.left place rest some w.enough in
+    (w : PiecesWrittenTo old mid sector n at bytes place rest) (some : 0 < length rest) (now : MediumState) where
+  -- If the next piece is written, one piece more is.
+  pub next_piece_written : AllWrites mid (write_anew sector place (take 4096 rest)) now
+      → PiecesWrittenTo old now sector n at bytes (place + 4096) (drop 4096 rest)
+  next_piece_written came =
+      let step = first_piece_and_rest sector w.left place rest some w.enough in
       let first : List Write = write_anew sector place (take 4096 rest) in
       record {
         front = w.front ++ first;
         left = step.0;
-        all = all_append w.front first old mid now w.all came;
+        all = writes_one_after_other w.front first old mid now w.all came;
         enough = step.1;
         pieces = w.pieces ∙ ap (λ (ws : List Write). w.front ++ ws) step.2
             ∙ sym (append_assoc w.front first (piece_writes sector step.0 (place + 4096) (drop 4096 rest)));
       }
 
-  -- The next piece fails.
-  pub written_stopped : (fault : WriteFault) → BrokenWrites fault mid (write_anew sector place (take 4096 rest)) now
+  -- If the next piece fails, the pieces are broken off by its fault.
+  pub pieces_broken_at_next : (fault : WriteFault) → BrokenWrites fault mid (write_anew sector place (take 4096 rest)) now
       → BrokenWrites fault old (piece_writes sector n at bytes) now
-  written_stopped fault broken =
-      let step = pieces_step sector w.left place rest some w.enough in
+  pieces_broken_at_next fault broken =
+      let step = first_piece_and_rest sector w.left place rest some w.enough in
       subst (λ (ws : List Write). BrokenWrites fault old ws now) (sym w.pieces)
-      (broken_later fault w.front (piece_writes sector w.left place rest) old mid now w.all
+      (broken_in_second_part fault w.front (piece_writes sector w.left place rest) old mid now w.all
       (subst (λ (ws : List Write). BrokenWrites fault mid ws now) (sym step.2)
-      (broken_first fault (write_anew sector place (take 4096 rest)) (piece_writes sector step.0 (place + 4096) (drop 4096 rest))
+      (broken_in_first_part fault (write_anew sector place (take 4096 rest)) (piece_writes sector step.0 (place + 4096) (drop 4096 rest))
       mid now broken)))
 
--- After the last piece all is written.
-pub written_all : {old mid : MediumState} {sector n at : ℕ} {bytes : List ℕ} {place : ℕ} {rest : List ℕ}
-    → WrittenTo old mid sector n at bytes place rest → rest ≡ [] → AllWrites old (piece_writes sector n at bytes) mid
-written_all {old} {mid} {sector} {n} {at} {bytes} {place} {rest} w none =
+-- If no byte is left, all pieces are written.
+pub all_pieces_written : {old mid : MediumState} {sector n at : ℕ} {bytes : List ℕ} {place : ℕ} {rest : List ℕ}
+    → PiecesWrittenTo old mid sector n at bytes place rest → rest ≡ [] → AllWrites old (piece_writes sector n at bytes) mid
+all_pieces_written {old} {mid} {sector} {n} {at} {bytes} {place} {rest} w none =
     subst (λ (ws : List Write). AllWrites old ws mid)
     (sym (w.pieces ∙ ap (λ (l : List ℕ). w.front ++ piece_writes sector w.left place l) none
-    ∙ ap (λ (ws : List Write). w.front ++ ws) (pieces_nil sector w.left place) ∙ append-nil w.front)) w.all
+    ∙ ap (λ (ws : List Write). w.front ++ ws) (no_bytes_no_pieces sector w.left place) ∙ append-nil w.front)) w.all
 
--- The pieces lie where the bytes go.
-pub pieces_inside : (sector n from to at : ℕ) (bytes : List ℕ) → IsEdge sector to → from ≤ at → at + length bytes ≤ to
-    → AllInside from to (piece_writes sector n at bytes)
-pieces_inside sector zero from to at bytes edge low high = tt
-pieces_inside sector (suc n) from to at [] edge low high = tt
-pieces_inside sector (suc n) from to at (b ∷ bs) edge low high =
-    inside_append from to (write_anew sector at (take 4096 (b ∷ bs))) (piece_writes sector n (at + 4096) (drop 4096 (b ∷ bs)))
-    (anew_inside sector from to at (take 4096 (b ∷ bs)) edge low (omega (arith, high, length-take 4096 (b ∷ bs))))
+-- The pieces lie in the range of their bytes.
+pub piece_writes_lie_inside : (sector n from to at : ℕ) (bytes : List ℕ) → IsSectorEdge sector to → from ≤ at → at + length bytes ≤ to
+    → AllWritesInside from to (piece_writes sector n at bytes)
+piece_writes_lie_inside sector zero from to at bytes edge low high = tt
+piece_writes_lie_inside sector (suc n) from to at [] edge low high = tt
+piece_writes_lie_inside sector (suc n) from to at (b ∷ bs) edge low high =
+    appended_writes_inside from to (write_anew sector at (take 4096 (b ∷ bs))) (piece_writes sector n (at + 4096) (drop 4096 (b ∷ bs)))
+    (write_with_erases_inside sector from to at (take 4096 (b ∷ bs)) edge low (omega (arith, high, length-take 4096 (b ∷ bs))))
     (elim (cases_lt (length (b ∷ bs)) 4096) [
       | inl short ↦
-          subst (λ (l : List ℕ). AllInside from to (piece_writes sector n (at + 4096) l)) (sym (drop_all 4096 (b ∷ bs) (omega arith)))
-          (subst (AllInside from to) (sym (pieces_nil sector n (at + 4096))) tt)
+          subst (λ (l : List ℕ). AllWritesInside from to (piece_writes sector n (at + 4096) l)) (sym (drop_all 4096 (b ∷ bs) (omega arith)))
+          (subst (AllWritesInside from to) (sym (no_bytes_no_pieces sector n (at + 4096))) tt)
       | inr long ↦
-          pieces_inside sector n from to (at + 4096) (drop 4096 (b ∷ bs)) edge (omega (arith, low))
+          piece_writes_lie_inside sector n from to (at + 4096) (drop 4096 (b ∷ bs)) edge (omega (arith, low))
           (omega (arith, high, length-drop 4096 (b ∷ bs)))
     ])

@@ -1,22 +1,23 @@
--- The bytes after a `put` are erased up to the next sector.
+-- Bytes after a `put`: they are erased up to the next sector.
 use Rattle.std.proofs.Common.{◌≡◌, ℕ, ◌+◌, ◌≤◌, List, ◌++◌, length, take, drop, sym, subst, arith}
 use Rattle.dfu_slots.specs.Units.{Grain, whole_part}
-use Rattle.dfu_slots.specs.Medium.{MediumState, AllWrites, IsAhead}
-use Rattle.dfu_slots.specs.Image.{IsSized}
-use Rattle.dfu_slots.specs.Writes.{head_size, write_some, put_writes}
-use Rattle.dfu_slots.proofs.Series.{SameSize, all_parts}
-use Rattle.dfu_slots.proofs.SizedOn.{some_same}
-use Rattle.dfu_slots.proofs.Multiples.{sized_after}
-use Rattle.dfu_slots.proofs.Ahead.{some_ahead}
-use Rattle.dfu_slots.proofs.Put.{head_le, whole_le, front_length, back_length}
+use Rattle.dfu_slots.specs.Medium.{MediumState, AllWrites, IsWritableAhead}
+use Rattle.dfu_slots.specs.Image.{IsSizedMedium}
+use Rattle.dfu_slots.specs.Writes.{head_write_size, write_some, put_writes}
+use Rattle.dfu_slots.proofs.Series.{SameSize, list_has_two_parts}
+use Rattle.dfu_slots.proofs.SizedOn.{write_some_keeps_size}
+use Rattle.dfu_slots.proofs.Multiples.{sized_on_same_size}
+use Rattle.dfu_slots.proofs.Ahead.{erased_ahead_of_some_bytes}
+use Rattle.dfu_slots.proofs.Put.{head_at_most_whole_units, whole_units_at_most_length, head_write_length, further_units_length}
 
-module _ (s now : MediumState) (at : ℕ) (held bytes : List ℕ) (sized : IsSized s) (fits : at + length (held ++ bytes) ≤ length s.bytes)
-    (came : AllWrites s (put_writes s.grain at held bytes) now) (ahead : IsAhead s at) where
+module _ (s now : MediumState) (at : ℕ) (held bytes : List ℕ) (sized : IsSizedMedium s)
+    (fits : at + length (held ++ bytes) ≤ length s.bytes)
+    (came : AllWrites s (put_writes s.grain at held bytes) now) (ahead : IsWritableAhead s at) where
   abbrev all : List ℕ
   all = held ++ bytes
 
   abbrev head : ℕ
-  head = head_size s.grain.unit held bytes
+  head = head_write_size s.grain.unit held bytes
 
   abbrev whole : ℕ
   whole = whole_part s.grain.unit (length all)
@@ -24,36 +25,49 @@ module _ (s now : MediumState) (at : ℕ) (held bytes : List ℕ) (sized : IsSiz
   abbrev back : List ℕ
   back = drop head (take whole all)
 
-  first_fits : at + length (take head all) ≤ length s.bytes
-  first_fits = omega (arith, front_length s.grain held bytes, fits, head_le s.grain held bytes, whole_le s.grain held bytes)
+  head_write_fits_medium : at + length (take head all) ≤ length s.bytes
+  head_write_fits_medium = omega (
+    arith,
+    head_write_length s.grain held bytes,
+    fits,
+    head_at_most_whole_units s.grain held bytes,
+    whole_units_at_most_length s.grain held bytes,
+  )
 
   module _ (mid : MediumState) (first : AllWrites s (write_some s.grain.sector at (take head all)) mid)
       (second : AllWrites mid (write_some s.grain.sector (at + head) back) now) where
-    same : SameSize s mid
-    same = some_same s mid at (take head all) sized first_fits first
+    size_kept_by_head_write : SameSize s mid
+    size_kept_by_head_write = write_some_keeps_size s mid at (take head all) sized head_write_fits_medium first
 
-    between : IsAhead mid (at + head)
-    between = subst (λ (k : ℕ). IsAhead mid (at + k)) (front_length s.grain held bytes)
-        (some_ahead s mid at (take head all) sized first_fits first ahead)
+    erased_ahead_of_further_units : IsWritableAhead mid (at + head)
+    erased_ahead_of_further_units = subst (λ (k : ℕ). IsWritableAhead mid (at + k)) (head_write_length s.grain held bytes)
+        (erased_ahead_of_some_bytes s mid at (take head all) sized head_write_fits_medium first ahead)
 
-    second_fits : at + head + length back ≤ length mid.bytes
-    second_fits = omega (
+    further_units_fit_medium : at + head + length back ≤ length mid.bytes
+    further_units_fit_medium = omega (
       arith,
-      same.size,
-      back_length s.grain held bytes,
+      size_kept_by_head_write.size,
+      further_units_length s.grain held bytes,
       fits,
-      head_le s.grain held bytes,
-      whole_le s.grain held bytes,
+      head_at_most_whole_units s.grain held bytes,
+      whole_units_at_most_length s.grain held bytes,
     )
 
-    behind : IsAhead now (at + whole)
-    behind =
-        let e : at + head + length back ≡ at + whole = omega (arith, back_length s.grain held bytes, head_le s.grain held bytes) in
-        subst (λ (k : ℕ). IsAhead now k) e
-        (some_ahead mid now (at + head) back (sized_after same sized) second_fits
-        (subst (λ (w : Grain). AllWrites mid (write_some w.sector (at + head) back) now) (sym same.grain) second) between)
+    erased_behind_whole_units : IsWritableAhead now (at + whole)
+    erased_behind_whole_units =
+        let e : at + head + length back ≡ at + whole = omega (
+          arith,
+          further_units_length s.grain held bytes,
+          head_at_most_whole_units
+              s.grain held bytes,
+        ) in
+        subst (λ (k : ℕ). IsWritableAhead now k) e
+        (erased_ahead_of_some_bytes mid now (at + head) back (sized_on_same_size size_kept_by_head_write sized) further_units_fit_medium
+        (subst (λ (w : Grain). AllWrites mid (write_some w.sector (at + head) back) now) (sym size_kept_by_head_write.grain) second)
+        erased_ahead_of_further_units)
 
-  pub put_ahead : IsAhead now (at + whole)
-  put_ahead =
-      let parts = all_parts (write_some s.grain.sector at (take head all)) (write_some s.grain.sector (at + head) back) s now came in
-      behind parts.0 parts.1.first parts.1.second
+  pub erased_ahead_of_put : IsWritableAhead now (at + whole)
+  erased_ahead_of_put =
+      let parts = list_has_two_parts (write_some s.grain.sector at (take head all))
+      (write_some s.grain.sector (at + head) back) s now came in
+      erased_behind_whole_units parts.0 parts.1.first parts.1.second

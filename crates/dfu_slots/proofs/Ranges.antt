@@ -4,10 +4,10 @@ use Rattle.std.proofs.lemmas.Grind.{same_number_lists}
 use Rattle.std.proofs.lemmas.List.{take_all, take-append-le, drop-append-le, take-replicate, drop_at, length-take-le, length-replicate}
 use Rattle.std.proofs.lemmas.List.{get_or-take, get_or-drop}
 use Rattle.std.proofs.lemmas.Slice.{between_is, between_from_start}
-use Rattle.dfu_slots.proofs.Torn.{drop_past}
-use Rattle.dfu_slots.proofs.Within.{take_past}
+use Rattle.dfu_slots.proofs.Torn.{drop_in_two_steps}
+use Rattle.dfu_slots.proofs.Within.{take_past_first_list}
 
--- Bytes that were put at the front of a buffer one by one.
+-- A buffer that was filled byte by byte has a range at its front.
 pub gathered : (all : List ℕ) (skip n : ℕ) (out : List ℕ) → length out ≡ 256 → n ≤ 256 → skip ≤ length all
     → ((k : ℕ) → k < n → get_or out k 0 ≡ get_or (all ++ replicate 256 0) (skip + k) 0)
     → take n out ≡ slice_range (all ++ replicate 256 0) skip (skip + n)
@@ -22,37 +22,37 @@ gathered all skip n out size few front each =
     get_or-take n out k 0 low ∙ each k low ∙ sym (get_or-drop skip l k 0) ∙ sym (get_or-take n (drop skip l) k 0 low))
     ∙ ap (λ (j : ℕ). take j (drop skip l)) e
 
--- The front of bytes with zeros after them.
-pub zeroed_front : (l : List ℕ) (n : ℕ) → length l ≤ n → n ≤ 256
+-- A range from 0 on that is longer than the bytes has zeros after them.
+pub range_front_with_zeros : (l : List ℕ) (n : ℕ) → length l ≤ n → n ≤ 256
     → slice_range (l ++ replicate 256 0) 0 (0 + n) ≡ l ++ replicate (n - length l) 0
-zeroed_front l n low high =
+range_front_with_zeros l n low high =
     let e : 0 + n ≡ n = omega arith in
     ap (λ (k : ℕ). slice_range (l ++ replicate 256 0) 0 k) e
     ∙ between_from_start (l ++ replicate 256 0) n
-    ∙ take_past l (replicate 256 0) n low
+    ∙ take_past_first_list l (replicate 256 0) n low
     ∙ ap (λ (x : List ℕ). l ++ x) (take-replicate (n - length l) 256 0 (omega (arith, high)))
 
--- A range of the bytes before what comes after them.
-pub range_before : (l more : List ℕ) (i j : ℕ) → j ≤ length l → slice_range (l ++ more) i j ≡ slice_range l i j
-range_before l more i j le =
+-- A range that ends within the first of two lists is a range of that list.
+pub range_before_appended_bytes : (l more : List ℕ) (i j : ℕ) → j ≤ length l → slice_range (l ++ more) i j ≡ slice_range l i j
+range_before_appended_bytes l more i j le =
     between_is (l ++ more) i j ∙ ap (λ (x : List ℕ). drop i x) (take-append-le j l more le) ∙ sym (between_is l i j)
 
--- A range of the held bytes and the block that lies in the block.
-pub block_range : (held block : List ℕ) (skip n : ℕ) → length held ≤ skip → skip + n ≤ length held + length block
+-- A range of the held bytes and the block that begins after the held bytes is a range of the block.
+pub range_within_block : (held block : List ℕ) (skip n : ℕ) → length held ≤ skip → skip + n ≤ length held + length block
     → slice_range ((held ++ block) ++ replicate 256 0) skip (skip + n)
     ≡ slice_range block (skip - length held) (skip - length held + n)
-block_range held block skip n low high =
+range_within_block held block skip n low high =
     let e : skip + n - skip ≡ skip - length held + n - (skip - length held) = omega arith in
-    range_before (held ++ block) (replicate 256 0) skip (skip + n) (omega (arith, length-append held block, high))
+    range_before_appended_bytes (held ++ block) (replicate 256 0) skip (skip + n) (omega (arith, length-append held block, high))
     ∙ ap (λ (l : List ℕ). take (skip + n - skip) l)
-    (drop_past (held ++ block) (length held) skip low
+    (drop_in_two_steps (held ++ block) (length held) skip low
     ∙ ap (λ (l : List ℕ). drop (skip - length held) l) (drop_at held block (length held) (omega arith)))
     ∙ ap (λ (j : ℕ). take j (drop (skip - length held) block)) e
 
--- A range that begins in an image and ends in the zeros after it.
-pub padded_range : (image : List ℕ) (skip n : ℕ) → skip ≤ length image
+-- A range that begins in an image goes on in the zeros after it.
+pub image_range_into_zeros : (image : List ℕ) (skip n : ℕ) → skip ≤ length image
     → slice_range (([] ++ image) ++ replicate 256 0) skip (skip + n) ≡ take n (slice_range image skip (length image) ++ replicate 256 0)
-padded_range image skip n high =
+image_range_into_zeros image skip n high =
     let k : skip + n - skip ≡ n = omega arith in
     ap (λ (j : ℕ). take j (drop skip (image ++ replicate 256 0))) k
     ∙ ap (λ (l : List ℕ). take n l)
@@ -60,9 +60,9 @@ padded_range image skip n high =
     ∙ ap (λ (l : List ℕ). l ++ replicate 256 0)
     (sym (take_all (length image - skip) (drop skip image) (omega (arith, length-drop skip image)))))
 
--- So many bytes a range has.
-pub range_size : (all : List ℕ) (skip n : ℕ) → skip + n ≤ length all → length (slice_range all skip (skip + n)) ≡ n
-range_size all skip n within =
+-- A range within a list has as many bytes as were asked for.
+pub length_of_range_within : (all : List ℕ) (skip n : ℕ) → skip + n ≤ length all → length (slice_range all skip (skip + n)) ≡ n
+length_of_range_within all skip n within =
     let k : skip + n - skip ≡ n = omega arith in
     ap (λ (j : ℕ). length (take j (drop skip all))) k
     ∙ length-take-le n (drop skip all) (omega (arith, within, length-drop skip all))

@@ -1,11 +1,11 @@
--- Content of a medium, by its bytes and by how many bytes a gate unit has.
+-- Content of a medium, by its bytes and by the bytes that a gate takes up.
 use Rattle.std.proofs.Common.{◌≡◌, ℕ, ◌*◌, ◌^◌, ◌≤◌, ◌<◌, List, length, take}
 use Rattle.dfu_slots.specs.Units.{IsWhole}
 use Rattle.dfu_slots.specs.Medium.{MediumState}
 use Rattle.dfu_slots.specs.Layout.{slot_size, capacity, ArePlaces, slot, HasHeader}
-use Rattle.dfu_slots.specs.Image.{gate_of, capacity_of, IsSized, IsNewest, Active}
+use Rattle.dfu_slots.specs.Image.{gate_of, capacity_of, IsSizedMedium, IsNewest, Active}
 
--- These bytes are two slots of one size, with 1 to 2^24 bytes of data each.
+-- The bytes are two slots of one size, with 1 to 2^24 bytes of data each.
 pub record HasTwoSlots (g : ℕ) (bytes : List ℕ) : Type 0 where
   pub even : length bytes ≡ 2 * slot_size bytes
   pub room : 2 * g < slot_size bytes
@@ -20,23 +20,23 @@ pub record ActiveAt (g : ℕ) (bytes : List ℕ) (at spare : ℕ) (image : List 
   pub image_is : image ≡ take (length image) (slot g bytes at).data_bytes
 
 -- The bytes of a medium of a proper length are two slots.
-pub two_slots : (m : MediumState) → IsSized m → HasTwoSlots (gate_of m) m.bytes
-two_slots m sized = record { even = sized.even; room = sized.room; bound = sized.bound }
+pub sized_medium_has_two_slots : (m : MediumState) → IsSizedMedium m → HasTwoSlots (gate_of m) m.bytes
+sized_medium_has_two_slots m sized = record { even = sized.even; room = sized.room; bound = sized.bound }
 
 -- An active image is at its place.
-pub standing : {m : MediumState} {image : List ℕ} (a : Active m image) → ActiveAt (gate_of m) m.bytes a.at a.spare image
-standing {m} a = record {
-  sized = two_slots m a.sized;
+pub active_image_at_its_place : {m : MediumState} {image : List ℕ} (a : Active m image) → ActiveAt (gate_of m) m.bytes a.at a.spare image
+active_image_at_its_place {m} a = record {
+  sized = sized_medium_has_two_slots m a.sized;
   places = a.places;
   newest = a.newest;
   header_is = a.header_is;
   image_is = a.image_is;
 }
 
--- An image that is on a medium, with whole units of data in a slot, is the active one.
-pub active_from : (m : MediumState) (at spare : ℕ) (image : List ℕ) → IsWhole m.grain (capacity_of m)
+-- An image at its place on a medium is the active one, if the slots' data is whole in units and sectors.
+pub image_at_place_is_active : (m : MediumState) (at spare : ℕ) (image : List ℕ) → IsWhole m.grain (capacity_of m)
     → ActiveAt (gate_of m) m.bytes at spare image → Active m image
-active_from m at spare image whole stands = record {
+image_at_place_is_active m at spare image whole stands = record {
   sized = record { even = stands.sized.even; room = stands.sized.room; bound = stands.sized.bound; whole = whole };
   at = at;
   spare = spare;

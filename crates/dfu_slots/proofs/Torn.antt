@@ -1,106 +1,109 @@
--- Bytes outside the range of a write stay.
+-- Bytes outside the range of a write, which stay.
 use Rattle.std.proofs.Common.{◌≡◌, ◌⊎◌, inl, inr, ℕ, ◌+◌, ◌-◌, ◌≤◌, ◌<◌, List, ◌∷◌, ◌++◌, length, get_or, take, drop, slice_index, slice_range, sym, ◌∙◌, ap, subst, arith, length-append, length-drop}
 use Rattle.std.proofs.lemmas.List.{take-take, drop-drop, get_or-take, get_or-drop, take_at, drop_at, append_assoc, length-take-le, length-take}
 use Rattle.std.proofs.lemmas.Slice.{between_is}
 use Rattle.dfu_slots.specs.Medium.{FrameOutside, Torn, written}
 
--- A range below the write.
-range_below : (old now : List ℕ) (from i j : ℕ) → take from now ≡ take from old → j ≤ from → slice_range now i j ≡ slice_range old i j
-range_below old now from i j same le =
+-- A range that ends before the write stays.
+range_kept_below_write : (old now : List ℕ) (from i j : ℕ) → take from now ≡ take from old → j ≤ from → slice_range now i j
+    ≡ slice_range old i j
+range_kept_below_write old now from i j same le =
     between_is now i j
     ∙ ap (λ (l : List ℕ). drop i l) (sym (take-take j from now le) ∙ ap (λ (l : List ℕ). take j l) same ∙ take-take j from old le)
     ∙ sym (between_is old i j)
 
--- A drop in two steps.
-pub drop_past : (l : List ℕ) (n i : ℕ) → n ≤ i → drop i l ≡ drop (i - n) (drop n l)
-drop_past l n i le = let e : i ≡ n + (i - n) = omega arith in ap (λ (k : ℕ). drop k l) e ∙ sym (drop-drop (i - n) n l)
+-- Dropping i elements is dropping n of them first, and then the others.
+pub drop_in_two_steps : (l : List ℕ) (n i : ℕ) → n ≤ i → drop i l ≡ drop (i - n) (drop n l)
+drop_in_two_steps l n i le = let e : i ≡ n + (i - n) = omega arith in ap (λ (k : ℕ). drop k l) e ∙ sym (drop-drop (i - n) n l)
 
--- A range above the write.
-range_above : (old now : List ℕ) (to i j : ℕ) → drop to now ≡ drop to old → to ≤ i → slice_range now i j ≡ slice_range old i j
-range_above old now to i j same le =
-    ap (λ (l : List ℕ). take (j - i) l) (drop_past now to i le ∙ ap (λ (l : List ℕ). drop (i - to) l) same ∙ sym (drop_past old to i le))
+-- A range that begins after the write stays.
+range_kept_above_write : (old now : List ℕ) (to i j : ℕ) → drop to now ≡ drop to old → to ≤ i → slice_range now i j ≡ slice_range old i j
+range_kept_above_write old now to i j same le =
+    ap (λ (l : List ℕ). take (j - i) l) (drop_in_two_steps now to i le ∙ ap (λ (l : List ℕ). drop (i - to) l) same
+    ∙ sym (drop_in_two_steps old to i le))
 
--- A range that the write does not touch.
-pub range_outside : (from to : ℕ) (old now : List ℕ) (i j : ℕ) → FrameOutside from to old now → (j ≤ from) ⊎ (to ≤ i)
+-- A range that the write does not touch stays.
+pub range_kept_outside_write : (from to : ℕ) (old now : List ℕ) (i j : ℕ) → FrameOutside from to old now → (j ≤ from) ⊎ (to ≤ i)
     → slice_range now i j ≡ slice_range old i j
-range_outside from to old now i j keeps (inl below) = range_below old now from i j keeps.before below
-range_outside from to old now i j keeps (inr above) = range_above old now to i j keeps.after above
+range_kept_outside_write from to old now i j keeps (inl below) = range_kept_below_write old now from i j keeps.before below
+range_kept_outside_write from to old now i j keeps (inr above) = range_kept_above_write old now to i j keeps.after above
 
--- A byte that the write does not touch.
-pub byte_outside : (from to : ℕ) (old now : List ℕ) (i : ℕ) → FrameOutside from to old now → (i < from) ⊎ (to ≤ i)
+-- A byte that the write does not touch stays.
+pub byte_kept_outside_write : (from to : ℕ) (old now : List ℕ) (i : ℕ) → FrameOutside from to old now → (i < from) ⊎ (to ≤ i)
     → slice_index now i ≡ slice_index old i
-byte_outside from to old now i keeps (inl below) =
+byte_kept_outside_write from to old now i keeps (inl below) =
     sym (get_or-take from now i 0 below) ∙ ap (λ (l : List ℕ). get_or l i 0) keeps.before ∙ get_or-take from old i 0 below
-byte_outside from to old now i keeps (inr above) =
+byte_kept_outside_write from to old now i keeps (inr above) =
     let e : to + (i - to) ≡ i = omega arith in
     ap (λ (k : ℕ). get_or now k 0) (sym e) ∙ sym (get_or-drop to now (i - to) 0) ∙ ap (λ (l : List ℕ). get_or l (i - to) 0) keeps.after
     ∙ get_or-drop to old (i - to) 0
     ∙ ap (λ (k : ℕ). get_or old k 0) e
 
--- The byte where a range begins is the first of it.
+-- The byte at which a range begins is the first of the range.
 pub first_of_range : (l : List ℕ) (i j x : ℕ) (xs : List ℕ) → i < j → slice_range l i j ≡ x ∷ xs → slice_index l i ≡ x
 first_of_range l i j x xs lt is =
     let e : i ≡ i + 0 = omega arith in
     ap (λ (k : ℕ). get_or l k 0) e ∙ sym (get_or-drop i l 0 0) ∙ sym (get_or-take (j - i) (drop i l) 0 0 (omega arith))
     ∙ ap (λ (r : List ℕ). get_or r 0 0) is
 
--- A wider range keeps no more.
-pub keeps_wider : (a b from to : ℕ) (old now : List ℕ) → FrameOutside a b old now → from ≤ a → b ≤ to → FrameOutside from to old now
-keeps_wider a b from to old now keeps low high = record {
+-- A change within a range is a change within each wider range.
+pub wider_frame_holds : (a b from to : ℕ) (old now : List ℕ) → FrameOutside a b old now → from ≤ a → b ≤ to → FrameOutside from to old now
+wider_frame_holds a b from to old now keeps low high = record {
   size = keeps.size;
   before = sym (take-take from a now low) ∙ ap (λ (l : List ℕ). take from l) keeps.before ∙ take-take from a old low;
-  after = drop_past now b to high ∙ ap (λ (l : List ℕ). drop (to - b) l) keeps.after ∙ sym (drop_past old b to high);
+  after = drop_in_two_steps now b to high ∙ ap (λ (l : List ℕ). drop (to - b) l) keeps.after ∙ sym (drop_in_two_steps old b to high);
 }
 
--- No change keeps everything.
-pub keeps_same : (from to : ℕ) (old now : List ℕ) → now ≡ old → FrameOutside from to old now
-keeps_same from to old now same = record {
+-- If nothing changed, all outside any range stays.
+pub no_change_keeps_all : (from to : ℕ) (old now : List ℕ) → now ≡ old → FrameOutside from to old now
+no_change_keeps_all from to old now same = record {
   size = ap length same;
   before = ap (λ (l : List ℕ). take from l) same;
   after = ap (λ (l : List ℕ). drop to l) same;
 }
 
--- Two changes of one range.
-pub keeps_both : (from to : ℕ) (old mid now : List ℕ) → FrameOutside from to old mid → FrameOutside from to mid now
+-- Two changes within a range, one after the other, are one change within it.
+pub two_changes_of_range : (from to : ℕ) (old mid now : List ℕ) → FrameOutside from to old mid → FrameOutside from to mid now
     → FrameOutside from to old now
-keeps_both from to old mid now first second = record {
+two_changes_of_range from to old mid now first second = record {
   size = second.size ∙ first.size;
   before = second.before ∙ first.before;
   after = second.after ∙ first.after;
 }
 
 module _ (old : List ℕ) (at : ℕ) (new : List ℕ) (fits : at + length new ≤ length old) where
-  front : length (take at old) ≡ at
-  front = length-take-le at old (omega arith)
+  front_length_before_write : length (take at old) ≡ at
+  front_length_before_write = length-take-le at old (omega arith)
 
-  -- A write that works leaves the rest as it was too.
-  pub written_torn : Torn old at new (written old at new)
-  written_torn = record {
+  -- A write that works is a torn write too.
+  pub whole_write_is_torn : Torn old at new (written old at new)
+  whole_write_is_torn = record {
     size = omega (
       arith,
       length-append (take at old ++ new) (drop (at + length new) old),
       length-append (take at old) new,
-      front,
+      front_length_before_write,
       length-drop (at + length new) old,
     );
     before = ap (λ (l : List ℕ). take at l) (append_assoc (take at old) new (drop (at + length new) old))
-        ∙ take_at (take at old) (new ++ drop (at + length new) old) at front;
+        ∙ take_at (take at old) (new ++ drop (at + length new) old) at front_length_before_write;
     after = drop_at (take at old ++ new) (drop (at + length new) old) (at + length new)
-        (omega (arith, length-append (take at old) new, front));
+        (omega (arith, length-append (take at old) new, front_length_before_write));
   }
 
-  -- And its bytes are in its range.
-  pub written_range : slice_range (written old at new) at (at + length new) ≡ new
-  written_range =
+  -- After a write its bytes are in its range.
+  pub written_bytes_in_range : slice_range (written old at new) at (at + length new) ≡ new
+  written_bytes_in_range =
       ap (λ (l : List ℕ). take (at + length new - at) (drop at l)) (append_assoc (take at old) new (drop (at + length new) old))
-      ∙ ap (λ (l : List ℕ). take (at + length new - at) l) (drop_at (take at old) (new ++ drop (at + length new) old) at front)
+      ∙ ap (λ (l : List ℕ). take (at + length new - at) l) (drop_at (take at old) (new
+      ++ drop (at + length new) old) at front_length_before_write)
       ∙ take_at new (drop (at + length new) old) (at + length new - at) (omega arith)
 
--- A tear that is no longer than the write.
-pub torn_write : (old : List ℕ) (at : ℕ) (new tear left : List ℕ) → at + length new ≤ length old
+-- A write that left the first bytes of a tear is a torn write.
+pub short_tear_is_torn : (old : List ℕ) (at : ℕ) (new tear left : List ℕ) → at + length new ≤ length old
     → left ≡ written old at (take (length new) tear) → Torn old at new left
-torn_write old at new tear left fits is =
+short_tear_is_torn old at new tear left fits is =
     let short = take (length new) tear in
     let le : length short ≤ length new = omega (arith, length-take (length new) tear) in
-    let torn : Torn old at short left = subst (Torn old at short) (sym is) (written_torn old at short (omega (arith, fits, le))) in
-    keeps_wider at (at + length short) at (at + length new) old left torn (omega arith) (omega (arith, le))
+    let torn : Torn old at short left = subst (Torn old at short) (sym is) (whole_write_is_torn old at short (omega (arith, fits, le))) in
+    wider_frame_holds at (at + length short) at (at + length new) old left torn (omega arith) (omega (arith, le))

@@ -1,16 +1,17 @@
--- Effect of a write that returned Ok, by what was read back.
+-- Effect of a write that returned Ok, by the bytes that were read back.
 use Rattle.std.proofs.Common.{◌≡◌, inl, inr, ℕ, ◌+◌, ◌-◌, ◌≤◌, List, ◌++◌, length, take, drop, slice_range, sym, ◌∙◌, ap, arith}
 use Rattle.std.proofs.lemmas.List.{take-append-drop, drop-drop, append_assoc}
 use Rattle.dfu_slots.specs.declared.fault.WriteFault.TheVariants.{NotVerified}
-use Rattle.dfu_slots.specs.Medium.{MediumState, Fuse, Torn, MayWork, MayFail, WroteBytes, FailedWrite, WroteOrLied, written}
+use Rattle.dfu_slots.specs.Medium.{MediumState, Fuse, Torn, WriteMayWork, WriteMayFail, WroteBytes, FailedWrite, WroteOrLied, written}
 use Rattle.dfu_slots.specs.Medium.Fuse.{Unknown, Whole, Armed, Lying, Stopped}
-use Rattle.dfu_slots.proofs.Torn.{written_range}
-use Rattle.dfu_slots.proofs.ReadBack.{Stand}
+use Rattle.dfu_slots.proofs.Torn.{written_bytes_in_range}
+use Rattle.dfu_slots.proofs.ReadBack.{BytesStandAt}
 
--- A torn write whose range has its bytes is a write that worked.
-torn_right : (old : List ℕ) (at : ℕ) (new left : List ℕ) → at + length new ≤ length old → Torn old at new left → Stand left at new
+-- A torn write whose range has all its bytes worked.
+torn_write_with_its_bytes : (old : List ℕ) (at : ℕ) (new left : List ℕ) → at + length new ≤ length old → Torn old at new left →
+    BytesStandAt left at new
     → left ≡ written old at new
-torn_right old at new left fits torn stands =
+torn_write_with_its_bytes old at new left fits torn stands =
     sym (take-append-drop at left)
     ∙ ap (λ (l : List ℕ). take at left ++ l) (sym (take-append-drop (length new) (drop at left)))
     ∙ ap (λ (l : List ℕ). take at left ++ (take (length new) (drop at left) ++ l)) (drop-drop (length new) at left)
@@ -20,32 +21,32 @@ torn_right old at new left fits torn stands =
     range : take (length new) (drop at left) ≡ new
     range = let e : length new ≡ at + length new - at = omega arith in ap (λ (k : ℕ). take k (drop at left)) e ∙ stands
 
--- A fuse that may lie at a write may work at it, if the write left what it should.
-lie_works : (f : Fuse) (old : List ℕ) (at : ℕ) (new left : List ℕ) (next : Fuse) → MayFail f NotVerified old at new left next
-    → left ≡ written old at new → MayWork f old at new next
-lie_works Unknown old at new left next lied right = lied
-lie_works Whole old at new left next lied right = absurd lied
-lie_works (Armed writes tear stop) old at new left next lied right = absurd lied
-lie_works (Lying writes tear) old at new left next lied right = absurd (lied.2 right)
-lie_works Stopped old at new left next lied right = absurd lied
+-- A fuse that lets a write lie lets it work, if the write left its bytes.
+true_lie_may_work : (f : Fuse) (old : List ℕ) (at : ℕ) (new left : List ℕ) (next : Fuse) → WriteMayFail f NotVerified old at new left next
+    → left ≡ written old at new → WriteMayWork f old at new next
+true_lie_may_work Unknown old at new left next lied right = lied
+true_lie_may_work Whole old at new left next lied right = absurd lied
+true_lie_may_work (Armed writes tear stop) old at new left next lied right = absurd lied
+true_lie_may_work (Lying writes tear) old at new left next lied right = absurd (lied.2 right)
+true_lie_may_work Stopped old at new left next lied right = absurd lied
 
--- Its bytes are there: the write worked.
-pub was_written : {old : MediumState} {at : ℕ} {new : List ℕ} {now : MediumState} → at + length new ≤ length old.bytes
-    → WroteOrLied old at new now → Stand now.bytes at new → WroteBytes old at new now
-was_written fits (inl wrote) stands = wrote
-was_written {old} {at} {new} {now} fits (inr lied) stands =
-    let right = torn_right old.bytes at new now.bytes fits lied.bytes stands in
+-- If the bytes of a write that returned Ok are there, the write worked.
+pub write_worked : {old : MediumState} {at : ℕ} {new : List ℕ} {now : MediumState} → at + length new ≤ length old.bytes
+    → WroteOrLied old at new now → BytesStandAt now.bytes at new → WroteBytes old at new now
+write_worked fits (inl wrote) stands = wrote
+write_worked {old} {at} {new} {now} fits (inr lied) stands =
+    let right = torn_write_with_its_bytes old.bytes at new now.bytes fits lied.bytes stands in
     record {
       bytes = right;
       failures = omega (arith, lied.failures);
-      fuse = lie_works old.fuse old.bytes at new now.bytes now.fuse lied.fuse right;
+      fuse = true_lie_may_work old.fuse old.bytes at new now.bytes now.fuse lied.fuse right;
       grain = lied.grain;
       tag = lied.tag;
     }
 
--- They are not: it lied.
-pub not_written : {old : MediumState} {at : ℕ} {new : List ℕ} {now : MediumState} → at + length new ≤ length old.bytes
-    → WroteOrLied old at new now → ¬ Stand now.bytes at new → FailedWrite NotVerified old at new now
-not_written {old} {at} {new} fits (inl wrote) missing =
-    absurd (missing (ap (λ (l : List ℕ). slice_range l at (at + length new)) wrote.bytes ∙ written_range old.bytes at new fits))
-not_written fits (inr lied) missing = lied
+-- If the bytes of a write that returned Ok are not there, the write lied.
+pub write_lied : {old : MediumState} {at : ℕ} {new : List ℕ} {now : MediumState} → at + length new ≤ length old.bytes
+    → WroteOrLied old at new now → ¬ BytesStandAt now.bytes at new → FailedWrite NotVerified old at new now
+write_lied {old} {at} {new} fits (inl wrote) missing =
+    absurd (missing (ap (λ (l : List ℕ). slice_range l at (at + length new)) wrote.bytes ∙ written_bytes_in_range old.bytes at new fits))
+write_lied fits (inr lied) missing = lied

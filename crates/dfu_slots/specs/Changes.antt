@@ -2,8 +2,8 @@
 use Rattle.std.specs.Prelude.{◌≡◌, ◌≤◌, ◌<◌, ℕ, List, length, Result, Ok, Err}
 use Rattle.dfu_slots.specs.Medium.{MediumState}
 use Rattle.dfu_slots.specs.Layout.{slot_size, ArePlaces, HasHeader}
-use Rattle.dfu_slots.specs.Image.{slot_of, capacity_of, IsSized, Counts, IsNewest}
-use Rattle.dfu_slots.specs.StoreView.{SlotsState, Call, Ending, AllWorked, BrokenBy, Calls}
+use Rattle.dfu_slots.specs.Image.{slot_of, capacity_of, IsSizedMedium, SlotCounts, IsNewest}
+use Rattle.dfu_slots.specs.StoreView.{SlotsState, StoreCall, Ending, AllWorked, BrokenBy, CallEnds}
 use Rattle.dfu_slots.specs.declared.fault.FormatFault.{FormatFault}
 use Rattle.dfu_slots.specs.declared.fault.FormatFault.TheVariants.{WrongSize as NotSized, TooLarge as ImageTooLarge, Failed as FormatFailed}
 use Rattle.dfu_slots.specs.declared.fault.OpenFault.{OpenFault}
@@ -13,66 +13,67 @@ use Rattle.dfu_slots.specs.declared.fault.PutFault.TheVariants.{TooLarge, Failed
 use Rattle.dfu_slots.specs.declared.fault.WriteFault.{WriteFault}
 use Rattle.dfu_slots.specs.declared.fault.WriteFault.TheVariants.{Failed as WriteFailed, NotVerified as WriteNotVerified}
 
--- A call was broken off by a write that failed, or whose bytes were not there when they were read back.
-abbrev pub IsBroken : {T : Type 0} → Result T PutFault → Type 0
-IsBroken (Ok _) = ⊥
-IsBroken (Err Failed) = Unit {0}
-IsBroken (Err NotVerified) = Unit {0}
-IsBroken (Err TooLarge) = ⊥
-IsBroken (Err NotBegun) = ⊥
+-- A call is broken off if one of its writes failed, or if the bytes of a write were not there when they were read back.
+abbrev pub CallIsBroken : {T : Type 0} → Result T PutFault → Type 0
+CallIsBroken (Ok _) = ⊥
+CallIsBroken (Err Failed) = Unit {0}
+CallIsBroken (Err NotVerified) = Unit {0}
+CallIsBroken (Err TooLarge) = ⊥
+CallIsBroken (Err NotBegun) = ⊥
 
--- The fault of the write at which a call was broken off.
+-- Fault of the write that a failed call returns: NotVerified if the call returned NotVerified, and Failed else.
 abbrev pub fault_of : PutFault → WriteFault
 fault_of NotVerified = WriteNotVerified
 fault_of fault = WriteFailed
 
--- Ending of the writes of a call that was not refused.
+-- Ending of the writes of a call that was not refused: all were made, or one of them had a fault.
 abbrev pub ending_of : {T : Type 0} → Result T PutFault → Ending
 ending_of (Ok _) = AllWorked
 ending_of (Err fault) = BrokenBy (fault_of fault)
 
--- Ok: the call made all its writes. Failed and NotVerified: those up to one that had this fault. Another fault: the store is as it was.
-abbrev pub Changes : {T : Type 0} → SlotsState → Call → Result T PutFault → SlotsState → Type 0
-Changes old call (Ok _) now = Calls old call AllWorked now
-Changes old call (Err Failed) now = Calls old call (BrokenBy WriteFailed) now
-Changes old call (Err NotVerified) now = Calls old call (BrokenBy WriteNotVerified) now
-Changes old call (Err TooLarge) now = now ≡ old
-Changes old call (Err NotBegun) now = now ≡ old
+-- Writes that a result tells of. Ok: the call made all of them. Failed and NotVerified: it made those up to one with this fault. At any
+-- other fault the store is as it was.
+abbrev pub CallChanges : {T : Type 0} → SlotsState → StoreCall → Result T PutFault → SlotsState → Type 0
+CallChanges old call (Ok _) now = CallEnds old call AllWorked now
+CallChanges old call (Err Failed) now = CallEnds old call (BrokenBy WriteFailed) now
+CallChanges old call (Err NotVerified) now = CallEnds old call (BrokenBy WriteNotVerified) now
+CallChanges old call (Err TooLarge) now = now ≡ old
+CallChanges old call (Err NotBegun) now = now ≡ old
 
--- The medium has a length that two slots can have, and each has room for the image.
+-- A medium can be formatted if it has a length that two slots can have, and each slot has room for the image.
 pub record CanFormat (m : MediumState) (image : List ℕ) : Type 0 where
-  pub sized : IsSized m
+  pub sized : IsSizedMedium m
   pub fits : length image ≤ capacity_of m
 
--- This is the first thing that is wrong with a medium and an image, and nothing is wrong with them if a write failed.
+-- First cause for which a medium and an image cannot be formatted. A write that failed is no such cause: they can be formatted then.
 abbrev pub IsFormatFault : FormatFault → MediumState → List ℕ → Type 0
-IsFormatFault NotSized m image = ¬ IsSized m
-IsFormatFault ImageTooLarge m image = IsSized m × (capacity_of m < length image)
+IsFormatFault NotSized m image = ¬ IsSizedMedium m
+IsFormatFault ImageTooLarge m image = IsSizedMedium m × (capacity_of m < length image)
 IsFormatFault FormatFailed m image = CanFormat m image
 
--- One of the two slots counts, and the other one does not, or is one generation behind.
+-- One of the two slots counts, and the other one does not count or is one generation older.
 pub record HasNewest (m : MediumState) : Type 0 where
   pub at : ℕ
   pub other : ℕ
   pub places : ArePlaces m.bytes at other
   pub newest : IsNewest (slot_of m at) (slot_of m other)
 
--- One of the two slots is the newest, and has no well-formed header.
+-- The newest of the two slots has no well-formed header.
 pub record HasBadHeader (m : MediumState) : Type 0 where
   pub newest : HasNewest m
   pub none : (len : ℕ) → ¬ HasHeader (slot_of m newest.at) len
 
--- The first slot of a medium counts.
-abbrev pub FirstCounts : MediumState → Type 0
-FirstCounts m = Counts (slot_of m 0)
+-- The slot at the front of the medium counts.
+abbrev pub FirstSlotCounts : MediumState → Type 0
+FirstSlotCounts m = SlotCounts (slot_of m 0)
 
--- The second slot of a medium counts.
-abbrev pub SecondCounts : MediumState → Type 0
-SecondCounts m = Counts (slot_of m (slot_size m.bytes))
+-- The slot in the second half of the medium counts.
+abbrev pub SecondSlotCounts : MediumState → Type 0
+SecondSlotCounts m = SlotCounts (slot_of m (slot_size m.bytes))
 
--- This is the first thing that is wrong with a medium.
-abbrev pub IsOpenFault : OpenFault → MediumState → Type 0
-IsOpenFault WrongSize m = ¬ IsSized m
-IsOpenFault NoImage m = IsSized m × (¬ FirstCounts m) × (¬ SecondCounts m)
-IsOpenFault TwoImages m = IsSized m × FirstCounts m × SecondCounts m × (¬ HasNewest m)
-IsOpenFault BadHeader m = IsSized m × HasBadHeader m
+-- First cause for which `open` refuses a medium.
+abbrev pub FirstOpenFault : OpenFault → MediumState → Type 0
+FirstOpenFault WrongSize m = ¬ IsSizedMedium m
+FirstOpenFault NoImage m = IsSizedMedium m × (¬ FirstSlotCounts m) × (¬ SecondSlotCounts m)
+FirstOpenFault TwoImages m = IsSizedMedium m × FirstSlotCounts m × SecondSlotCounts m × (¬ HasNewest m)
+FirstOpenFault BadHeader m = IsSizedMedium m × HasBadHeader m

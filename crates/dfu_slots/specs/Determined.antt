@@ -1,182 +1,208 @@
--- On a medium whose fuse is known, the bytes, the fuse and the grain fix what a list of writes leaves.
+-- Results that the start fixes: if the fuse of a medium is known, its bytes, its fuse and its grain fix what a list of writes leaves.
 use Rattle.std.specs.Prelude.{◌≡◌, ◌+◌, ◌-◌, ◌*◌, List, [], ◌∷◌, ◌++◌, length, take}
 use Rattle.std.proofs.Common.{inl, inr, refl, sym, ap, ◌∙◌, subst}
 use Rattle.dfu_suffix.specs.Register.{register}
 use Rattle.dfu_slots.specs.Units.{gate_room}
 use Rattle.dfu_slots.specs.declared.fault.WriteFault.{WriteFault}
 use Rattle.dfu_slots.specs.Medium.{MediumState, written, Write, AllWrites, BrokenWrites}
-use Rattle.dfu_slots.specs.OneWrite.{IsKnown, Same, wrote_same, failed_one, failed_same, one_way, known_next, flip}
+use Rattle.dfu_slots.specs.OneWrite.{IsKnownFuse, SameMedium, worked_writes_same_medium, failed_writes_same_fault, failed_writes_same_medium, write_works_or_fails, fuse_known_after_write, same_medium_symmetric}
 use Rattle.dfu_slots.specs.Image.{spare_at, spare}
-use Rattle.dfu_slots.specs.Writes.{begin_writes, put_writes, put_rest, part_writes, commit_writes}
-use Rattle.dfu_slots.specs.StoreView.{SlotsState, spare_of, Call, Begin, Put, Commit, writes_of, next_tail, CallWorked, CallFailed, Ending, AllWorked, BrokenBy, Called}
+use Rattle.dfu_slots.specs.Writes.{begin_writes, put_writes, put_rest, held_writes, commit_writes}
+use Rattle.dfu_slots.specs.StoreView.{SlotsState, spare_of, StoreCall, Begin, Put, Commit, writes_of, held_after_call, CallWorked, CallFailed, Ending, AllWorked, BrokenBy, CallsEnd}
 
 -- Lists of writes.
 
--- If all of these writes work, a fuse that was known stays known.
-pub all_known : (ws : List Write) (s x : MediumState) → IsKnown s.fuse → AllWrites s ws x → IsKnown x.fuse
-all_known [] s x k same = subst IsKnown (sym (ap (λ (m : MediumState). m.fuse) same)) k
-all_known (w ∷ ws) s x k (p, a, more) = all_known ws p x (known_next w s p k a) more
+-- If all writes of a list work, a known fuse stays known.
+pub fuse_known_after_writes : (ws : List Write) (s x : MediumState) → IsKnownFuse s.fuse → AllWrites s ws x → IsKnownFuse x.fuse
+fuse_known_after_writes [] s x k same = subst IsKnownFuse (sym (ap (λ (m : MediumState). m.fuse) same)) k
+fuse_known_after_writes (w ∷ ws) s x k (p, a, more) = fuse_known_after_writes ws p x (fuse_known_after_write w s p k a) more
 
--- Equal writes from equal media, if all work, leave equal media.
-pub all_same_end : (ws : List Write) (s t x y : MediumState) → Same s t → AllWrites s ws x → AllWrites t ws y → Same x y
-all_same_end [] s t x y same a b = record {
+-- If the same writes all work on two equal media, they leave equal media.
+pub same_writes_same_end : (ws : List Write) (s t x y : MediumState) → SameMedium s t → AllWrites s ws x → AllWrites t ws y → SameMedium x y
+same_writes_same_end [] s t x y same a b = record {
   bytes = ap (λ (m : MediumState). m.bytes) a ∙ same.bytes ∙ sym (ap (λ (m : MediumState). m.bytes) b);
   fuse = ap (λ (m : MediumState). m.fuse) a ∙ same.fuse ∙ sym (ap (λ (m : MediumState). m.fuse) b);
   grain = ap (λ (m : MediumState). m.grain) a ∙ same.grain ∙ sym (ap (λ (m : MediumState). m.grain) b);
 }
-all_same_end (w ∷ ws) s t x y same (p, a, more) (q, b, rest) = all_same_end ws p q x y (wrote_same w s t p q same a b) more rest
+same_writes_same_end (w ∷ ws) s t x y same (p, a, more) (q, b, rest) = same_writes_same_end ws p q x y (worked_writes_same_medium w s t p q
+    same a b) more rest
 
--- If the fuse is known, the same writes from the same medium never all work once and are broken off the other time.
-pub never_both : (f : WriteFault) (ws : List Write) (s t x y : MediumState) → Same s t → IsKnown s.fuse → AllWrites s ws x
+-- If the fuse is known, the same writes on equal media do not all work on one and break off on the other.
+pub writes_work_or_break : (f : WriteFault) (ws : List Write) (s t x y : MediumState) → SameMedium s t → IsKnownFuse s.fuse →
+    AllWrites s ws x
     → BrokenWrites f t ws y → ⊥
-never_both f [] s t x y same k a b = b
-never_both f (w ∷ ws) s t x y same k (p, a, more) (inl failed) = one_way w s t p y same f k a failed
-never_both f (w ∷ ws) s t x y same k (p, a, more) (inr (q, b, rest)) = never_both f ws p q x y (wrote_same w s t p q same a b)
-    (known_next w s p k a) more rest
+writes_work_or_break f [] s t x y same k a b = b
+writes_work_or_break f (w ∷ ws) s t x y same k (p, a, more) (inl failed) = write_works_or_fails w s t p y same f k a failed
+writes_work_or_break f (w ∷ ws) s t x y same k (p, a, more) (inr (q, b, rest)) = writes_work_or_break f ws p q x y
+    (worked_writes_same_medium w s t p q same a b)
+    (fuse_known_after_write w s p k a) more rest
 
--- If the fuse is known, and the same writes from the same medium are broken off both times, it is by the same fault.
-pub broken_one : (f g : WriteFault) (ws : List Write) (s t x y : MediumState) → Same s t → IsKnown s.fuse → BrokenWrites f s ws x
+-- If the fuse is known, and the same writes break off on two equal media, they break off by the same fault.
+pub broken_writes_same_fault : (f g : WriteFault) (ws : List Write) (s t x y : MediumState) → SameMedium s t → IsKnownFuse s.fuse →
+    BrokenWrites f s ws x
     → BrokenWrites g t ws y → f ≡ g
-broken_one f g [] s t x y same k a b = absurd a
-broken_one f g (w ∷ ws) s t x y same k (inl a) (inl b) = failed_one w s t x y same f g k a b
-broken_one f g (w ∷ ws) s t x y same k (inl a) (inr (q, b, rest)) =
-    absurd (one_way w t s q x (flip s t same) f (subst IsKnown same.fuse k) b a)
-broken_one f g (w ∷ ws) s t x y same k (inr (p, a, more)) (inl b) = absurd (one_way w s t p y same g k a b)
-broken_one f g (w ∷ ws) s t x y same k (inr (p, a, more)) (inr (q, b, rest)) = broken_one f g ws p q x y (wrote_same w s t p q same a b)
-    (known_next w s p k a) more rest
+broken_writes_same_fault f g [] s t x y same k a b = absurd a
+broken_writes_same_fault f g (w ∷ ws) s t x y same k (inl a) (inl b) = failed_writes_same_fault w s t x y same f g k a b
+broken_writes_same_fault f g (w ∷ ws) s t x y same k (inl a) (inr (q, b, rest)) =
+    absurd (write_works_or_fails w t s q x (same_medium_symmetric s t same) f (subst IsKnownFuse same.fuse k) b a)
+broken_writes_same_fault f g (w ∷ ws) s t x y same k (inr (p, a, more)) (inl b) = absurd (write_works_or_fails w s t p y same g k a b)
+broken_writes_same_fault f g (w ∷ ws) s t x y same k (inr (p, a, more)) (inr (q, b, rest)) = broken_writes_same_fault f g ws p q x y
+    (worked_writes_same_medium w s t p q same a b)
+    (fuse_known_after_write w s p k a) more rest
 
--- If they are broken off by the same fault, they leave the same medium too.
-pub broken_same_end : (f : WriteFault) (ws : List Write) (s t x y : MediumState) → Same s t → IsKnown s.fuse → BrokenWrites f s ws x
-    → BrokenWrites f t ws y → Same x y
-broken_same_end f [] s t x y same k a b = absurd a
-broken_same_end f (w ∷ ws) s t x y same k (inl a) (inl b) = failed_same w s t x y same f k a b
-broken_same_end f (w ∷ ws) s t x y same k (inl a) (inr (q, b, rest)) =
-    absurd (one_way w t s q x (flip s t same) f (subst IsKnown same.fuse k) b a)
-broken_same_end f (w ∷ ws) s t x y same k (inr (p, a, more)) (inl b) = absurd (one_way w s t p y same f k a b)
-broken_same_end f (w ∷ ws) s t x y same k (inr (p, a, more)) (inr (q, b, rest)) =
-    broken_same_end f ws p q x y (wrote_same w s t p q same a b) (known_next w s p k a) more rest
+-- Writes that the same fault breaks off on two equal media leave equal media.
+pub broken_writes_same_end : (f : WriteFault) (ws : List Write) (s t x y : MediumState) → SameMedium s t → IsKnownFuse s.fuse
+    → BrokenWrites f s ws x
+    → BrokenWrites f t ws y → SameMedium x y
+broken_writes_same_end f [] s t x y same k a b = absurd a
+broken_writes_same_end f (w ∷ ws) s t x y same k (inl a) (inl b) = failed_writes_same_medium w s t x y same f k a b
+broken_writes_same_end f (w ∷ ws) s t x y same k (inl a) (inr (q, b, rest)) =
+    absurd (write_works_or_fails w t s q x (same_medium_symmetric s t same) f (subst IsKnownFuse same.fuse k) b a)
+broken_writes_same_end f (w ∷ ws) s t x y same k (inr (p, a, more)) (inl b) = absurd (write_works_or_fails w s t p y same f k a b)
+broken_writes_same_end f (w ∷ ws) s t x y same k (inr (p, a, more)) (inr (q, b, rest)) =
+    broken_writes_same_end f ws p q x y (worked_writes_same_medium w s t p q same a b) (fuse_known_after_write w s p k a) more rest
 
 -- Calls.
 
--- Two stores are on the same medium, hold the same bytes back, and their puts end at the same place.
+-- Two stores are the same if their media are equal, they hold back the same bytes, and their puts end at the same place.
 pub record SameStore (a b : SlotsState) : Type 0 where
-  pub medium : Same a.medium b.medium
+  pub medium : SameMedium a.medium b.medium
   pub held : a.held ≡ b.held
   pub put_end : a.put_end ≡ b.put_end
 
--- Stores that are the same are so the other way round.
-flip_store : (s t : SlotsState) → SameStore s t → SameStore t s
-flip_store s t same = record { medium = flip s.medium t.medium same.medium; held = sym same.held; put_end = sym same.put_end }
+-- If a store is the same as another one, the other one is the same as it.
+same_store_symmetric : (s t : SlotsState) → SameStore s t → SameStore t s
+same_store_symmetric s t same = record {
+  medium = same_medium_symmetric s.medium t.medium same.medium;
+  held = sym same.held;
+  put_end = sym
+      same.put_end;
+}
 
--- Stores that are the same have equal bytes in the spare's data.
-spare_same : (s t : SlotsState) → SameStore s t → spare_of s ≡ spare_of t
+-- The same stores show the same bytes of the spare's data.
+same_stores_same_spare : (s t : SlotsState) → SameStore s t → spare_of s ≡ spare_of t
 unfolding spare_of
-spare_same s t same =
+same_stores_same_spare s t same =
     λ i.
     written (spare (gate_room (same.medium.grain i)) (same.medium.bytes i)).data_bytes
     (same.put_end i - length (same.held i)) (same.held i)
 
--- Stores that are the same have equal writes.
-writes_same : (s t : SlotsState) (call : Call) → SameStore s t → writes_of s call ≡ writes_of t call
-writes_same s t Begin same = λ i. begin_writes (same.medium.grain i) (same.medium.bytes i)
-writes_same s t (Put at bytes) same =
+-- A call has the same writes on the same stores.
+same_stores_same_writes : (s t : SlotsState) (call : StoreCall) → SameStore s t → writes_of s call ≡ writes_of t call
+same_stores_same_writes s t Begin same = λ i. begin_writes (same.medium.grain i) (same.medium.bytes i)
+same_stores_same_writes s t (Put at bytes) same =
     λ i.
     put_writes (same.medium.grain i)
     (spare_at (gate_room (same.medium.grain i)) (same.medium.bytes i) + 2 * gate_room (same.medium.grain i) + (at - length (same.held i)))
     (same.held i) bytes
-writes_same s t (Commit len) same =
+same_stores_same_writes s t (Commit len) same =
     λ i.
-    part_writes (same.medium.grain i)
+    held_writes (same.medium.grain i)
     (spare_at (gate_room (same.medium.grain i)) (same.medium.bytes i) + 2 * gate_room (same.medium.grain i) +
     (same.put_end i - length (same.held i)))
     (same.held i)
-    ++ commit_writes (same.medium.grain i) (same.medium.bytes i) len (register (take len (spare_same s t same i)))
+    ++ commit_writes (same.medium.grain i) (same.medium.bytes i) len (register (take len (same_stores_same_spare s t same i)))
 
--- They hold the same back after a call.
-same_tail : (s t : SlotsState) (call : Call) → SameStore s t → next_tail s call ≡ next_tail t call
-same_tail s t Begin same = refl
-same_tail s t (Put at bytes) same = λ i. put_rest (same.medium.grain i).unit (same.held i) bytes
-same_tail s t (Commit len) same = refl
+-- A call leaves the same bytes held back on the same stores.
+same_stores_hold_back_same : (s t : SlotsState) (call : StoreCall) → SameStore s t → held_after_call s call ≡ held_after_call t call
+same_stores_hold_back_same s t Begin same = refl
+same_stores_hold_back_same s t (Put at bytes) same = λ i. put_rest (same.medium.grain i).unit (same.held i) bytes
+same_stores_hold_back_same s t (Commit len) same = refl
 
-module _ (s t x y : SlotsState) (call : Call) (same : SameStore s t) where
-  -- So the writes of a call on one are those of the call on the other.
-  call_all : CallWorked t call y → AllWrites t.medium (writes_of s call) y.medium
-  call_all b = subst (λ (ws : List Write). AllWrites t.medium ws y.medium) (sym (writes_same s t call same)) b.writes
+module _ (s t x y : SlotsState) (call : StoreCall) (same : SameStore s t) where
+  -- If a call on the store t made all its writes, they are the writes of the call on s.
+  call_writes_on_other_store : CallWorked t call y → AllWrites t.medium (writes_of s call) y.medium
+  call_writes_on_other_store b = subst (λ (ws : List Write). AllWrites t.medium ws y.medium) (sym (same_stores_same_writes s t call same))
+      b.writes
 
-  -- And so are those up to one that had a fault.
-  call_broken : (f : WriteFault) → CallFailed f t call y → BrokenWrites f t.medium (writes_of s call) y.medium
-  call_broken f b = subst (λ (ws : List Write). BrokenWrites f t.medium ws y.medium) (sym (writes_same s t call same)) b.writes
+  -- If a fault broke a call on the store t off, the writes up to it are those of the call on s.
+  broken_call_on_other_store : (f : WriteFault) → CallFailed f t call y → BrokenWrites f t.medium (writes_of s call) y.medium
+  broken_call_on_other_store f b = subst (λ (ws : List Write). BrokenWrites f t.medium ws y.medium) (sym (same_stores_same_writes s t call
+      same)) b.writes
 
-  -- If its writes work on both, the call leaves the same store.
-  worked_same : CallWorked s call x → CallWorked t call y → SameStore x y
-  worked_same a b = record {
-    medium = all_same_end (writes_of s call) s.medium t.medium x.medium y.medium same.medium a.writes (call_all b);
-    held = a.held_is ∙ same_tail s t call same ∙ sym b.held_is;
+  -- If all writes of a call work on both stores, it leaves the same store.
+  worked_calls_same_store : CallWorked s call x → CallWorked t call y → SameStore x y
+  worked_calls_same_store a b = record {
+    medium = same_writes_same_end (writes_of s call) s.medium t.medium x.medium y.medium same.medium a.writes (call_writes_on_other_store
+        b);
+    held = a.held_is ∙ same_stores_hold_back_same s t call same ∙ sym b.held_is;
     put_end = a.end_is ∙ sym b.end_is;
   }
 
-  -- Broken off on both, it is so by the same fault.
-  stopped_one : (f g : WriteFault) → IsKnown s.medium.fuse → CallFailed f s call x → CallFailed g t call y → f ≡ g
-  stopped_one f g k a b = broken_one f g (writes_of s call) s.medium t.medium x.medium y.medium same.medium k a.writes (call_broken g b)
+  -- If a call is broken off on both stores, it is broken off by the same fault.
+  broken_calls_same_fault : (f g : WriteFault) → IsKnownFuse s.medium.fuse → CallFailed f s call x → CallFailed g t call y → f ≡ g
+  broken_calls_same_fault f g k a b = broken_writes_same_fault f g (writes_of s call) s.medium t.medium x.medium y.medium same.medium k
+      a.writes (broken_call_on_other_store g b)
 
-  -- And then it leaves the same store too.
-  stopped_same : (f : WriteFault) → IsKnown s.medium.fuse → CallFailed f s call x → CallFailed f t call y → SameStore x y
-  stopped_same f k a b = record {
-    medium = broken_same_end f (writes_of s call) s.medium t.medium x.medium y.medium same.medium k a.writes (call_broken f b);
+  -- A call that the same fault breaks off on both stores leaves the same store.
+  broken_calls_same_store : (f : WriteFault) → IsKnownFuse s.medium.fuse → CallFailed f s call x → CallFailed f t call y → SameStore x y
+  broken_calls_same_store f k a b = record {
+    medium = broken_writes_same_end f (writes_of s call) s.medium t.medium x.medium y.medium same.medium k a.writes
+        (broken_call_on_other_store f b);
     held = a.held_is ∙ sym b.held_is;
     put_end = a.end_is ∙ sym b.end_is;
   }
 
-  -- Its writes do not all work on one and break off on the other.
-  call_one_way : (f : WriteFault) → IsKnown s.medium.fuse → CallWorked s call x → CallFailed f t call y → ⊥
-  call_one_way f k a b = never_both f (writes_of s call) s.medium t.medium x.medium y.medium same.medium k a.writes (call_broken f b)
+  -- A call does not make all its writes on one store and break off on the other.
+  call_works_or_breaks : (f : WriteFault) → IsKnownFuse s.medium.fuse → CallWorked s call x → CallFailed f t call y → ⊥
+  call_works_or_breaks f k a b = writes_work_or_break f (writes_of s call) s.medium t.medium x.medium y.medium same.medium k a.writes
+      (broken_call_on_other_store f b)
 
--- After a call whose writes work the fuse is known.
-call_known : (s x : SlotsState) (call : Call) → IsKnown s.medium.fuse → CallWorked s call x → IsKnown x.medium.fuse
-call_known s x call k a = all_known (writes_of s call) s.medium x.medium k a.writes
+-- If the fuse is known before a call whose writes all work, it is known after the call.
+fuse_known_after_call : (s x : SlotsState) (call : StoreCall) → IsKnownFuse s.medium.fuse → CallWorked s call x → IsKnownFuse x.medium.fuse
+fuse_known_after_call s x call k a = fuse_known_after_writes (writes_of s call) s.medium x.medium k a.writes
 
 -- Lists of calls.
 
--- Equal calls from equal stores do not all work here and break off there.
-never_ends : (f : WriteFault) (calls : List Call) (s t x y : SlotsState) → SameStore s t → IsKnown s.medium.fuse
-    → Called s calls AllWorked x
-    → Called t calls (BrokenBy f) y → ⊥
-never_ends f [] s t x y same k a b = b
-never_ends f (call ∷ calls) s t x y same k (p, a, more) (inl b) = call_one_way s t p y call same f k a b
-never_ends f (call ∷ calls) s t x y same k (p, a, more) (inr (q, b, rest)) =
-    never_ends f calls p q x y (worked_same s t p q call same a b) (call_known s p call k a) more rest
+-- A list of calls does not make all its writes on one store and break off on the same other store.
+calls_work_or_break : (f : WriteFault) (calls : List StoreCall) (s t x y : SlotsState) → SameStore s t → IsKnownFuse s.medium.fuse
+    → CallsEnd s calls AllWorked x
+    → CallsEnd t calls (BrokenBy f) y → ⊥
+calls_work_or_break f [] s t x y same k a b = b
+calls_work_or_break f (call ∷ calls) s t x y same k (p, a, more) (inl b) = call_works_or_breaks s t p y call same f k a b
+calls_work_or_break f (call ∷ calls) s t x y same k (p, a, more) (inr (q, b, rest)) =
+    calls_work_or_break f calls p q x y (worked_calls_same_store s t p q call same a b) (fuse_known_after_call s p call k a) more rest
 
--- Broken off on both, they are so by the same fault.
-stopped_alike : (f g : WriteFault) (calls : List Call) (s t x y : SlotsState) → SameStore s t → IsKnown s.medium.fuse
-    → Called s calls (BrokenBy f) x → Called t calls (BrokenBy g) y → f ≡ g
-stopped_alike f g [] s t x y same k a b = absurd a
-stopped_alike f g (call ∷ calls) s t x y same k (inl a) (inl b) = stopped_one s t x y call same f g k a b
-stopped_alike f g (call ∷ calls) s t x y same k (inl a) (inr (q, b, rest)) =
-    absurd (call_one_way t s q x call (flip_store s t same) f (subst IsKnown same.medium.fuse k) b a)
-stopped_alike f g (call ∷ calls) s t x y same k (inr (p, a, more)) (inl b) = absurd (call_one_way s t p y call same g k a b)
-stopped_alike f g (call ∷ calls) s t x y same k (inr (p, a, more)) (inr (q, b, rest)) =
-    stopped_alike f g calls p q x y (worked_same s t p q call same a b) (call_known s p call k a) more rest
+-- If a list of calls is broken off on both stores, it is broken off by the same fault.
+broken_call_lists_same_fault : (f g : WriteFault) (calls : List StoreCall) (s t x y : SlotsState) → SameStore s t →
+    IsKnownFuse s.medium.fuse
+    → CallsEnd s calls (BrokenBy f) x → CallsEnd t calls (BrokenBy g) y → f ≡ g
+broken_call_lists_same_fault f g [] s t x y same k a b = absurd a
+broken_call_lists_same_fault f g (call ∷ calls) s t x y same k (inl a) (inl b) = broken_calls_same_fault s t x y call same f g k a b
+broken_call_lists_same_fault f g (call ∷ calls) s t x y same k (inl a) (inr (q, b, rest)) =
+    absurd (call_works_or_breaks t s q x call (same_store_symmetric s t same) f (subst IsKnownFuse same.medium.fuse k) b a)
+broken_call_lists_same_fault f g (call ∷ calls) s t x y same k (inr (p, a, more)) (inl b) = absurd (call_works_or_breaks s t p y call same
+    g k a b)
+broken_call_lists_same_fault f g (call ∷ calls) s t x y same k (inr (p, a, more)) (inr (q, b, rest)) =
+    broken_call_lists_same_fault f g calls p q x y (worked_calls_same_store s t p q call same a b) (fuse_known_after_call s p call k a)
+    more rest
 
--- So they end alike.
-pub called_one : (calls : List Call) (e d : Ending) (s t x y : SlotsState) → SameStore s t → IsKnown s.medium.fuse → Called s calls e x
-    → Called t calls d y → e ≡ d
-called_one calls AllWorked AllWorked s t x y same k a b = refl
-called_one calls AllWorked (BrokenBy g) s t x y same k a b = absurd (never_ends g calls s t x y same k a b)
-called_one calls (BrokenBy f) AllWorked s t x y same k a b =
-    absurd (never_ends f calls t s y x (flip_store s t same) (subst IsKnown same.medium.fuse k) b a)
-called_one calls (BrokenBy f) (BrokenBy g) s t x y same k a b = ap BrokenBy (stopped_alike f g calls s t x y same k a b)
+-- A list of calls ends in the same way on both stores.
+pub same_calls_same_ending : (calls : List StoreCall) (e d : Ending) (s t x y : SlotsState) → SameStore s t → IsKnownFuse s.medium.fuse
+    → CallsEnd s calls e x
+    → CallsEnd t calls d y → e ≡ d
+same_calls_same_ending calls AllWorked AllWorked s t x y same k a b = refl
+same_calls_same_ending calls AllWorked (BrokenBy g) s t x y same k a b = absurd (calls_work_or_break g calls s t x y same k a b)
+same_calls_same_ending calls (BrokenBy f) AllWorked s t x y same k a b =
+    absurd (calls_work_or_break f calls t s y x (same_store_symmetric s t same) (subst IsKnownFuse same.medium.fuse k) b a)
+same_calls_same_ending calls (BrokenBy f) (BrokenBy g) s t x y same k a b = ap BrokenBy (broken_call_lists_same_fault f g calls s t x y
+    same k a b)
 
--- And with the same end they leave the same store.
-pub called_same_end : (calls : List Call) (e : Ending) (s t x y : SlotsState) → SameStore s t → IsKnown s.medium.fuse → Called s calls e x
-    → Called t calls e y → SameStore x y
-called_same_end [] AllWorked s t x y same k a b = subst (λ (z : SlotsState). SameStore z y) (sym a)
+-- A list of calls that ends in the same way on both stores leaves the same store.
+pub same_calls_same_store : (calls : List StoreCall) (e : Ending) (s t x y : SlotsState) → SameStore s t → IsKnownFuse s.medium.fuse
+    → CallsEnd s calls e x
+    → CallsEnd t calls e y → SameStore x y
+same_calls_same_store [] AllWorked s t x y same k a b = subst (λ (z : SlotsState). SameStore z y) (sym a)
     (subst (λ (z : SlotsState). SameStore s z) (sym b) same)
-called_same_end [] (BrokenBy f) s t x y same k a b = absurd a
-called_same_end (call ∷ calls) AllWorked s t x y same k (p, a, more) (q, b, rest) =
-    called_same_end calls AllWorked p q x y (worked_same s t p q call same a b) (call_known s p call k a) more rest
-called_same_end (call ∷ calls) (BrokenBy f) s t x y same k (inl a) (inl b) = stopped_same s t x y call same f k a b
-called_same_end (call ∷ calls) (BrokenBy f) s t x y same k (inl a) (inr (q, b, rest)) =
-    absurd (call_one_way t s q x call (flip_store s t same) f (subst IsKnown same.medium.fuse k) b a)
-called_same_end (call ∷ calls) (BrokenBy f) s t x y same k (inr (p, a, more)) (inl b) = absurd (call_one_way s t p y call same f k a b)
-called_same_end (call ∷ calls) (BrokenBy f) s t x y same k (inr (p, a, more)) (inr (q, b, rest)) =
-    called_same_end calls (BrokenBy f) p q x y (worked_same s t p q call same a b) (call_known s p call k a) more rest
+same_calls_same_store [] (BrokenBy f) s t x y same k a b = absurd a
+same_calls_same_store (call ∷ calls) AllWorked s t x y same k (p, a, more) (q, b, rest) =
+    same_calls_same_store calls AllWorked p q x y (worked_calls_same_store s t p q call same a b) (fuse_known_after_call s p call k a) more
+    rest
+same_calls_same_store (call ∷ calls) (BrokenBy f) s t x y same k (inl a) (inl b) = broken_calls_same_store s t x y call same f k a b
+same_calls_same_store (call ∷ calls) (BrokenBy f) s t x y same k (inl a) (inr (q, b, rest)) =
+    absurd (call_works_or_breaks t s q x call (same_store_symmetric s t same) f (subst IsKnownFuse same.medium.fuse k) b a)
+same_calls_same_store (call ∷ calls) (BrokenBy f) s t x y same k (inr (p, a, more)) (inl b) = absurd (call_works_or_breaks s t p y call
+    same f k a b)
+same_calls_same_store (call ∷ calls) (BrokenBy f) s t x y same k (inr (p, a, more)) (inr (q, b, rest)) =
+    same_calls_same_store calls (BrokenBy f) p q x y (worked_calls_same_store s t p q call same a b) (fuse_known_after_call s p call k a)
+    more rest

@@ -6,11 +6,11 @@ use Rattle.dfu_slots.specs.Units.{gate_room, IsWhole}
 use Rattle.dfu_slots.specs.Medium.{MediumState, Fuse}
 use Rattle.dfu_slots.specs.Layout.{Slot, slot, slot_size, capacity, OPEN, generation, next_generation, header_version, header_length, header, HasHeader}
 
--- Bytes that the gate and the header of a slot take up each.
+-- Bytes that the gate of a slot takes up on a medium; its header takes up as many.
 abbrev pub gate_of : MediumState → ℕ
 gate_of m = gate_room m.grain
 
--- The slot of a medium that begins at this place.
+-- Slot of a medium that begins at a place.
 abbrev pub slot_of : MediumState → ℕ → Slot
 slot_of m at = slot (gate_room m.grain) m.bytes at
 
@@ -18,26 +18,27 @@ slot_of m at = slot (gate_room m.grain) m.bytes at
 abbrev pub capacity_of : MediumState → ℕ
 capacity_of m = capacity (gate_of m) m.bytes
 
--- The medium is two slots of one size, each with 1 to 2^24 bytes of data in whole units and sectors, of a size that the store takes.
-pub record IsSized (m : MediumState) : Type 0 where
+-- Lengths that a medium of two slots may have: two halves of one size, each with 1 to 2^24 bytes of data, whole in units and in sectors of
+-- a size that the store takes.
+pub record IsSizedMedium (m : MediumState) : Type 0 where
   pub even : length m.bytes ≡ 2 * slot_size m.bytes
   pub room : 2 * gate_room m.grain < slot_size m.bytes
   pub bound : capacity (gate_room m.grain) m.bytes ≤ 2 ^ 24
   pub whole : IsWhole m.grain (capacity (gate_room m.grain) m.bytes)
 
--- A slot counts if its gate is open and its header, if that is of version 2, is well formed with the length in it.
-pub record Counts (s : Slot) : Type 0 where
+-- A slot counts if its gate is open, and its header is well formed if that is of version 2. Another version counts by the gate alone.
+pub record SlotCounts (s : Slot) : Type 0 where
   pub is_open : s.gate ≡ OPEN
   pub intact : header_version s ≡ 2 → HasHeader s (header_length s)
 
--- The first of two slots counts, and the other one does not, or is one generation behind; after 255 comes 0.
+-- The slot `mine` is the newest if it counts, and `other` does not or is one generation older. Generation 0 follows 255.
 pub record IsNewest (mine other : Slot) : Type 0 where
-  pub counts : Counts mine
-  pub newer : ¬ Counts other ⊎ generation mine ≡ (generation other + 1) % 256
+  pub counts : SlotCounts mine
+  pub other_is_older : ¬ SlotCounts other ⊎ generation mine ≡ (generation other + 1) % 256
 
--- This is the active image of the medium: so many bytes from the front of the newest slot's data as that slot's header says.
+-- Active image of a medium: as many bytes from the front of the newest slot's data as that slot's header says.
 pub record Active (m : MediumState) (image : List ℕ) : Type 0 where
-  pub sized : IsSized m
+  pub sized : IsSizedMedium m
   pub at : ℕ
   pub spare : ℕ
   pub places : ((at ≡ 0) × (spare ≡ slot_size m.bytes)) ⊎ ((at ≡ slot_size m.bytes) × (spare ≡ 0))
@@ -50,9 +51,9 @@ pub record HasImage (m : MediumState) : Type 0 where
   pub image : List ℕ
   pub active : Active m image
 
--- The active image does not depend on the fuse.
-pub active_fused : (m : MediumState) (fuse : Fuse) (image : List ℕ) → Active m image → Active (record m { fuse = fuse }) image
-active_fused m fuse image active = record {
+-- The active image stays if the medium gets another fuse.
+pub active_image_on_other_fuse : (m : MediumState) (fuse : Fuse) (image : List ℕ) → Active m image → Active (record m { fuse = fuse }) image
+active_image_on_other_fuse m fuse image active = record {
   sized = record { even = active.sized.even; room = active.sized.room; bound = active.sized.bound; whole = active.sized.whole };
   at = active.at;
   spare = active.spare;
@@ -62,11 +63,11 @@ active_fused m fuse image active = record {
   image_is = active.image_is;
 }
 
--- Nor does it matter for whether there is one.
-pub has_image_fused : (m : MediumState) (fuse : Fuse) → HasImage m → HasImage (record m { fuse = fuse })
-has_image_fused m fuse has = record { image = has.image; active = active_fused m fuse has.image has.active }
+-- A medium with an active image has one too if it gets another fuse.
+pub has_image_on_other_fuse : (m : MediumState) (fuse : Fuse) → HasImage m → HasImage (record m { fuse = fuse })
+has_image_on_other_fuse m fuse has = record { image = has.image; active = active_image_on_other_fuse m fuse has.image has.active }
 
--- Tests of these facts, which find the places of the two slots.
+-- Tests of these facts, by which the places of the two slots are found.
 
 -- True if a slot has a well-formed header of version 2.
 unfoldable pub is_intact : Slot → Bool
@@ -75,14 +76,14 @@ is_intact s =
     nat_le len (length s.data_bytes) && bytes_eq s.header (header 2 (generation s) len (register (take len s.data_bytes)))
 
 -- True if a slot counts.
-abbrev pub counts : Slot → Bool
-counts s = (s.gate == OPEN) && (not (header_version s == 2) || is_intact s)
+abbrev pub slot_counts : Slot → Bool
+slot_counts s = (s.gate == OPEN) && (not (header_version s == 2) || is_intact s)
 
--- True if the first of two slots counts, and the other one does not, or is one generation behind.
+-- True if the slot `mine` counts, and `other` does not or is one generation older.
 abbrev pub is_newest : Slot → Slot → Bool
-is_newest mine other = counts mine && (not (counts other) || (generation mine == next_generation (generation other)))
+is_newest mine other = slot_counts mine && (not (slot_counts other) || (generation mine == next_generation (generation other)))
 
--- True if the first slot is the active one, on a medium that has an active image; else nothing follows of it, nor of the places below.
+-- True if the first slot is the active one. Of a medium without an active image the test tells nothing, nor do the places below.
 abbrev pub first_is_active : ℕ → List ℕ → Bool
 first_is_active g bytes = is_newest (slot g bytes 0) (slot g bytes (slot_size bytes))
 

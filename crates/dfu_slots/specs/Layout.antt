@@ -1,21 +1,21 @@
--- Places of the two slots of a medium, and their content. The gate and the header take up `g` bytes each, at least 16.
+-- Places of the two slots of a medium, and their content. The gate and the header of a slot take up `g` bytes each, 16 at least.
 use Rattle.std.specs.Prelude.{◌≡◌, ◌⊎◌, ℕ, ◌+◌, ◌-◌, ◌*◌, ◌/◌, ◌%◌, ◌≤◌, Bool, List, ◌∷◌, ◌++◌, length, take, drop, replicate, slice_index, slice_range, if◌then◌else◌}
 use Rattle.std.specs.Int.{w32, to_le_bytes, from_le_bytes}
 use Rattle.dfu_suffix.specs.Register.{register}
 
--- A slot is one half of the medium.
+-- Size of a slot: one half of the medium.
 abbrev pub slot_size : List ℕ → ℕ
 slot_size bytes = length bytes / 2
 
--- Place at which the first slot begins, or the second.
+-- Place at which a slot begins: 0 for the first one, and the middle of the medium for the second.
 abbrev pub slot_place : Bool → List ℕ → ℕ
 slot_place first bytes = if first then 0 else slot_size bytes
 
--- The data of a slot is what the gate and the header leave of it.
+-- Bytes of data of a slot: what the gate and the header leave of it.
 abbrev pub capacity : ℕ → List ℕ → ℕ
 capacity g bytes = slot_size bytes - 2 * g
 
--- One of the two places is the first slot's, and the other one the second's.
+-- Two places are those of the two slots, in one order or the other.
 abbrev pub ArePlaces : List ℕ → ℕ → ℕ → Type 0
 ArePlaces bytes at other = ((at ≡ 0) × (other ≡ slot_size bytes)) ⊎ ((at ≡ slot_size bytes) × (other ≡ 0))
 
@@ -25,7 +25,7 @@ pub record Slot : Type 0 where
   pub header : List ℕ
   pub data_bytes : List ℕ
 
--- The slot that begins at this place.
+-- Content of the slot that begins at a place.
 abbrev pub slot : ℕ → List ℕ → ℕ → Slot
 slot g bytes at = record {
   gate = slice_index bytes at;
@@ -37,23 +37,23 @@ slot g bytes at = record {
 abbrev pub OPEN : ℕ
 OPEN = 165
 
--- The gate is open, and any other byte is a closed one.
-abbrev pub IsOpen : Slot → Type 0
-IsOpen s = s.gate ≡ OPEN
+-- The gate is open if its byte is A5h; with any other byte it is closed.
+abbrev pub HasOpenGate : Slot → Type 0
+HasOpenGate s = s.gate ≡ OPEN
 
--- The generation is the first byte of the header.
+-- Generation of a slot: the first byte of its header.
 abbrev pub generation : Slot → ℕ
 generation s = slice_index s.header 0
 
--- Generations go round after 255.
+-- Generation after another one; after 255 comes 0.
 abbrev pub next_generation : ℕ → ℕ
 next_generation gen = (gen + 1) % 256
 
--- The version is the second byte of the header.
+-- Version of a header: its second byte.
 abbrev pub header_version : Slot → ℕ
 header_version s = slice_index s.header 1
 
--- The length in a slot's header.
+-- Length of the image, in bytes, as a slot's header says it.
 abbrev pub header_length : Slot → ℕ
 header_length s = from_le_bytes w32 (take 4 (drop 4 s.header))
 
@@ -61,15 +61,15 @@ header_length s = from_le_bytes w32 (take 4 (drop 4 s.header))
 abbrev pub header : ℕ → ℕ → ℕ → ℕ → List ℕ
 header version gen len crc = gen ∷ version ∷ 0 ∷ 0 ∷ to_le_bytes w32 len ++ to_le_bytes w32 crc ++ replicate 4 0
 
--- A slot has a well-formed header, of so many bytes at the front of its data: in version 2 their register, in version 1 zeros.
+-- The header of a slot is well formed for `len` bytes of data: of version 2 with their register, or of version 1 with zeros in its place.
 pub record HasHeader (s : Slot) (len : ℕ) : Type 0 where
   pub well_formed : (s.header ≡ header 1 (generation s) len 0) ⊎ (s.header ≡ header 2 (generation s) len (register (take len s.data_bytes)))
   pub fits : len ≤ length s.data_bytes
 
--- A gate unit as it is written: the gate, and then zeros.
+-- Gate unit as it is written: the gate, and zeros after it.
 abbrev pub gate_unit : ℕ → ℕ → List ℕ
 gate_unit g gate = gate ∷ replicate (g - 1) 0
 
--- A header unit as it is written: a header of version 2, and then zeros.
+-- Header unit as it is written: a header of version 2, and zeros after it.
 abbrev pub header_unit : ℕ → ℕ → ℕ → ℕ → List ℕ
 header_unit g gen len crc = header 2 gen len crc ++ replicate (g - 16) 0

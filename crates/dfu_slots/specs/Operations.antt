@@ -1,4 +1,4 @@
--- The operations of each change of a medium, in their order, and the writes that they are.
+-- Operations of each change of a medium, in their order, and the writes that they make.
 use Rattle.std.specs.Prelude.{ℕ, zero, suc, ◌+◌, ◌-◌, ◌*◌, min, List, [], ◌∷◌, ◌++◌, replicate, slice_range, if◌then◌else◌, ◌==◌, Option, Some, None}
 use Rattle.dfu_slots.specs.declared.layout.Unit.{Unit as WriteUnit}
 use Rattle.dfu_slots.specs.declared.operation.Op.{Op}
@@ -12,29 +12,29 @@ use Rattle.dfu_slots.specs.Medium.{Write}
 use Rattle.dfu_slots.specs.Layout.{OPEN}
 use Rattle.dfu_slots.specs.Writes.{erase_write, write_some}
 
--- The bytes of a source, given the bytes held back, the block and the header.
-abbrev pub source_of : Source → List ℕ → List ℕ → List ℕ → List ℕ
-source_of Joined held block header = held ++ block
-source_of Held held block header = held
-source_of Header held block header = header
-source_of Opened held block header = OPEN ∷ []
-source_of Closed held block header = []
+-- Bytes of a source, by the bytes held back, the block and the header.
+abbrev pub source_content : Source → List ℕ → List ℕ → List ℕ → List ℕ
+source_content Joined held block header = held ++ block
+source_content Held held block header = held
+source_content Header held block header = header
+source_content Opened held block header = OPEN ∷ []
+source_content Closed held block header = []
 
--- So many of them, without the first ones, with zeros after them.
+-- Range of a source that an operation writes: without the first bytes, and with zeros after the last one.
 abbrev pub range_of : Source → List ℕ → List ℕ → List ℕ → ℕ → ℕ → List ℕ
-range_of source held block header skip n = slice_range (source_of source held block header ++ replicate 256 0) skip (skip + n)
+range_of source held block header skip n = slice_range (source_content source held block header ++ replicate 256 0) skip (skip + n)
 
 -- The writes of an operation.
 abbrev pub op_writes : ℕ → List ℕ → List ℕ → List ℕ → Op → List Write
 op_writes sector held block header (Erase at) = erase_write sector at ∷ []
 op_writes sector held block header (Program at source skip len) = write_some sector at (range_of source held block header skip len)
 
--- The writes of several, one after the other.
+-- Writes of several operations, one after the other.
 abbrev pub ops_writes : ℕ → List ℕ → List ℕ → List ℕ → List Op → List Write
 ops_writes sector held block header [] = []
 ops_writes sector held block header (o ∷ os) = op_writes sector held block header o ++ ops_writes sector held block header os
 
--- The operation of this number.
+-- Operation of a number in a list; none if the list is shorter.
 abbrev pub op_at : List Op → ℕ → Option Op
 op_at [] n = None
 op_at (o ∷ os) zero = Some o
@@ -45,22 +45,22 @@ abbrev pub op_place : Op → ℕ
 op_place (Erase at) = at
 op_place (Program at source skip len) = at
 
--- A gate is closed by a gate unit of zeros, or by the erase of its sector.
+-- Operations that close a gate: a gate unit of zeros is programmed; with sectors the gate's sector is erased.
 abbrev pub close_ops : Grain → ℕ → List Op
 close_ops grain slot = (if grain.sector == 0 then Program slot Closed 0 (gate_size grain.unit) else Erase slot) ∷ []
 
--- Place at which the bytes held back belong in a slot that begins there.
+-- Place of the held bytes on the medium, in a slot that begins at a place.
 abbrev pub held_from : Grain → ℕ → ℕ → ℕ → ℕ
 held_from grain slot end held = slot + 2 * gate_room grain + (end - held)
 
--- A block that is put after so many bytes held back: the unit that was begun, if it is full now, and then all further whole units.
+-- Operations of a `put`: they write the unit that the held bytes begin, if the block makes it full, and then all further whole units.
 abbrev pub put_ops : WriteUnit → ℕ → ℕ → ℕ → List Op
 put_ops unit at held block =
     let whole = whole_part unit (held + block) in
     let head = if held == 0 then 0 else min (unit_size unit) whole in
     Program at Joined 0 head ∷ Program (at + head) Joined head (whole - head) ∷ []
 
--- So many bytes held back are written, filled up to a unit, then the header, and then the gate is opened.
+-- Operations of a `commit`: they write the held bytes, filled up to a unit, then the header, and then the open gate.
 abbrev pub commit_ops : Grain → ℕ → ℕ → ℕ → List Op
 commit_ops grain slot at held =
     Program at Held 0 (held + fill_size grain.unit held)
@@ -68,13 +68,13 @@ commit_ops grain slot at held =
     ∷ Program slot Opened 0 (gate_size grain.unit)
     ∷ []
 
--- Up to 4096 bytes of an image of so many, filled up to a unit, go into the data of the first slot.
+-- Operation that writes the next piece of an image, at most 4096 bytes and filled up to a unit, into the data of the first slot.
 abbrev pub image_ops : Grain → ℕ → ℕ → List Op
 image_ops grain from image =
     let size = image + fill_size grain.unit image in
     Program (2 * gate_room grain + from) Joined (min from size) (min (size - min from size) 4096) ∷ []
 
--- The operations of a sequence.
+-- Operations of each sequence.
 abbrev pub operations : Grain → Sequence → List Op
 operations grain (Close slot) = close_ops grain slot
 operations grain (Put slot end held block) = put_ops grain.unit (held_from grain slot end held) held block

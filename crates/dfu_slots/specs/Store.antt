@@ -1,17 +1,17 @@
--- Facts of every slot store.
+-- Facts that hold of every slot store.
 use Rattle.std.specs.Prelude.{◌≡◌, ◌≤◌, ◌%◌, length}
 use Rattle.dfu_slots.specs.Units.{unit_size}
-use Rattle.dfu_slots.specs.Medium.{IsAhead}
+use Rattle.dfu_slots.specs.Medium.{IsWritableAhead}
 use Rattle.dfu_slots.specs.Image.{capacity_of, HasImage}
-use Rattle.dfu_slots.specs.StoreView.{SlotsState, tail_at, data_place}
+use Rattle.dfu_slots.specs.StoreView.{SlotsState, held_data_place, data_place}
 
--- The puts end within a slot's data, what makes no whole unit is held back, and after the rest the sector is erased.
-pub record HasPuts (s : SlotsState) : Type 0 where
+-- The puts end within the spare's data, the bytes that make no whole unit are held back, and the rest of the sector after them is erased.
+pub record HasPutBytes (s : SlotsState) : Type 0 where
   pub fits : s.put_end ≤ capacity_of s.medium
   pub part : length s.held ≡ s.put_end % unit_size s.medium.grain.unit
-  pub ahead : IsAhead s.medium (data_place s (tail_at s))
+  pub ahead : IsWritableAhead s.medium (data_place s (held_data_place s))
 
--- An image is active on the medium, and the puts are as they should be.
+-- A store: its medium has an active image, and its puts are as they should be.
 pub record IsStore (s : SlotsState) : Type 0 where
   pub has_image : HasImage s.medium
-  pub puts : HasPuts s
+  pub puts : HasPutBytes s

@@ -1,31 +1,31 @@
--- View that the layers above have of a slot store.
+-- A slot store as the layers above see it.
 use Rattle.std.specs.Prelude.{refl, ◌≡◌, ◌⊎◌, ℕ, ◌+◌, ◌-◌, ◌*◌, ◌^◌, ◌≤◌, Bool, not, ◌==◌, ◌&&◌, nat_le, List, [], ◌∷◌, ◌++◌, length, take}
 use Rattle.dfu_suffix.specs.Register.{register}
 use Rattle.dfu_slots.specs.declared.fault.WriteFault.{WriteFault}
-use Rattle.dfu_slots.specs.Medium.{MediumState, Fuse, Write, Rose, AllWrites, BrokenWrites, written}
+use Rattle.dfu_slots.specs.Medium.{MediumState, Fuse, Write, CountRose, AllWrites, BrokenWrites, written}
 use Rattle.dfu_slots.specs.Layout.{Slot, slot, OPEN, capacity, header_length}
 use Rattle.dfu_slots.specs.Image.{gate_of, active_at, spare_at, spare}
-use Rattle.dfu_slots.specs.Writes.{begin_writes, put_writes, put_rest, part_writes, commit_writes, format_writes}
+use Rattle.dfu_slots.specs.Writes.{begin_writes, put_writes, put_rest, held_writes, commit_writes, format_writes}
 
--- A slot store: its medium, the bytes put that are held back, and where the puts since `begin` end.
+-- A slot store: its medium, the bytes that are held back, and the place at which the puts since `begin` end.
 pub record SlotsState : Type 0 where
   pub medium : MediumState
   pub held : List ℕ
   pub put_end : ℕ
 
--- The store on this medium that holds these bytes back, and whose puts end here.
+-- Store on a medium that holds back `held`, and whose puts end at `put_end`.
 abbrev pub store_of : MediumState → List ℕ → ℕ → SlotsState
 store_of m held put_end = record { medium = m; held = held; put_end = put_end }
 
--- The store on this medium before anything is put.
+-- Store on a medium to which nothing was put yet.
 abbrev pub store_on : MediumState → SlotsState
 store_on m = store_of m [] 0
 
--- The store over the same bytes, with another fuse.
-abbrev pub fused : SlotsState → Fuse → SlotsState
-fused s fuse = record s { medium = record s.medium { fuse = fuse } }
+-- Store over the same bytes, on a medium with another fuse.
+abbrev pub store_with_fuse : SlotsState → Fuse → SlotsState
+store_with_fuse s fuse = record s { medium = record s.medium { fuse = fuse } }
 
--- The store after its power was off: it has the same bytes, this fuse, and what was put is forgotten.
+-- Store after a loss of power: the bytes stay, the fuse is another one, and what was put is forgotten.
 abbrev pub store_restarted : SlotsState → Fuse → SlotsState
 store_restarted s fuse = store_on (record s.medium { fuse = fuse })
 
@@ -41,19 +41,19 @@ spare_slot s = spare (gate_of s.medium) s.medium.bytes
 unfoldable pub image_of : SlotsState → List ℕ
 image_of s = take (header_length (active_slot s)) (active_slot s).data_bytes
 
--- Place at which the held bytes belong in the spare's data.
-abbrev pub tail_at : SlotsState → ℕ
-tail_at s = s.put_end - length s.held
+-- Place of the held bytes in the spare's data.
+abbrev pub held_data_place : SlotsState → ℕ
+held_data_place s = s.put_end - length s.held
 
--- Place on the medium of this place of the spare's data.
+-- Place on the medium that belongs to a place in the spare's data.
 abbrev pub data_place : SlotsState → ℕ → ℕ
 data_place s at = spare_at (gate_of s.medium) s.medium.bytes + 2 * gate_of s.medium + at
 
--- The data of the spare slot, with the held bytes at their place.
+-- Data of the spare slot, with the held bytes written over it at their place.
 unfoldable pub spare_of : SlotsState → List ℕ
-spare_of s = written (spare_slot s).data_bytes (tail_at s) s.held
+spare_of s = written (spare_slot s).data_bytes (held_data_place s) s.held
 
--- True if the spare's gate is closed, so that `put` and `commit` may write.
+-- True if the spare's gate is closed, because only then `put` and `commit` may write.
 unfoldable pub is_begun : SlotsState → Bool
 is_begun s = not ((spare_slot s).gate == OPEN)
 
@@ -61,88 +61,88 @@ is_begun s = not ((spare_slot s).gate == OPEN)
 unfoldable pub room_of : SlotsState → ℕ
 room_of s = capacity (gate_of s.medium) s.medium.bytes
 
--- True if the spare's data fills the room, of at most 2^24 bytes, and the image fits in it.
+-- True if the spare's data fills the room of the store, the room is at most 2^24 bytes, and the image fits in it.
 abbrev pub is_shaped : SlotsState → Bool
 is_shaped s = (length (spare_of s) == room_of s) && (nat_le (room_of s) (2 ^ 24) && nat_le (length (image_of s)) (room_of s))
 
--- A call that changes the store; a `put` comes at the end of the puts before it.
-pub data Call : Type 0 where
-  Begin : Call
-  Put : (at : ℕ) (bytes : List ℕ) → Call
-  Commit : (len : ℕ) → Call
+-- Calls that change a store. A `put` begins at the end of the puts before it.
+pub data StoreCall : Type 0 where
+  Begin : StoreCall
+  Put : (at : ℕ) (bytes : List ℕ) → StoreCall
+  Commit : (len : ℕ) → StoreCall
 
--- The writes of a call, in their order.
-abbrev pub writes_of : SlotsState → Call → List Write
+-- Writes of a call, in their order.
+abbrev pub writes_of : SlotsState → StoreCall → List Write
 writes_of s Begin = begin_writes s.medium.grain s.medium.bytes
 writes_of s (Put at bytes) = put_writes s.medium.grain (data_place s (at - length s.held)) s.held bytes
-writes_of s (Commit len) = part_writes s.medium.grain (data_place s (tail_at s)) s.held ++ commit_writes
+writes_of s (Commit len) = held_writes s.medium.grain (data_place s (held_data_place s)) s.held ++ commit_writes
     s.medium.grain s.medium.bytes len (register (take len (spare_of s)))
 
--- Bytes that a store holds back after a call that is Ok.
-abbrev pub next_tail : SlotsState → Call → List ℕ
-next_tail s Begin = []
-next_tail s (Put at bytes) = put_rest s.medium.grain.unit s.held bytes
-next_tail s (Commit len) = []
+-- Bytes that a store holds back after a call that returned Ok.
+abbrev pub held_after_call : SlotsState → StoreCall → List ℕ
+held_after_call s Begin = []
+held_after_call s (Put at bytes) = put_rest s.medium.grain.unit s.held bytes
+held_after_call s (Commit len) = []
 
--- Place at which its puts end then.
-abbrev pub next_end : Call → ℕ
-next_end Begin = 0
-next_end (Put at bytes) = at + length bytes
-next_end (Commit len) = 0
+-- Place at which the puts end after a call that returned Ok.
+abbrev pub put_end_after_call : StoreCall → ℕ
+put_end_after_call Begin = 0
+put_end_after_call (Put at bytes) = at + length bytes
+put_end_after_call (Commit len) = 0
 
--- The writes of a `format` of this medium with this image, in their order.
+-- Writes of a `format` of a medium with an image, in their order.
 abbrev pub format_series : MediumState → List ℕ → List Write
 format_series m image = format_writes m.grain m.bytes image
 
--- A call whose writes all worked holds back what is left of the puts.
-pub record CallWorked (old : SlotsState) (call : Call) (now : SlotsState) : Type 0 where
+-- A call worked: all its writes did, and it holds back what makes no whole unit.
+pub record CallWorked (old : SlotsState) (call : StoreCall) (now : SlotsState) : Type 0 where
   pub writes : AllWrites old.medium (writes_of old call) now.medium
-  pub held_is : now.held ≡ next_tail old call
-  pub end_is : now.put_end ≡ next_end call
+  pub held_is : now.held ≡ held_after_call old call
+  pub end_is : now.put_end ≡ put_end_after_call call
 
--- A call that was broken off made its writes up to one that had this fault, and holds nothing back.
-pub record CallFailed (fault : WriteFault) (old : SlotsState) (call : Call) (now : SlotsState) : Type 0 where
+-- A call failed: it made its writes up to one that had this fault, and holds nothing back.
+pub record CallFailed (fault : WriteFault) (old : SlotsState) (call : StoreCall) (now : SlotsState) : Type 0 where
   pub writes : BrokenWrites fault old.medium (writes_of old call) now.medium
   pub held_is : now.held ≡ []
   pub end_is : now.put_end ≡ 0
 
--- Ending of a call: all its writes worked, or one had this fault and none came after it.
+-- Ending of a call: all its writes worked, or one of them had a fault and none came after it.
 pub data Ending : Type 0 where
   AllWorked : Ending
   BrokenBy : WriteFault → Ending
 
--- A call ended like this.
-abbrev pub Calls : SlotsState → Call → Ending → SlotsState → Type 0
-Calls old call AllWorked now = CallWorked old call now
-Calls old call (BrokenBy fault) now = CallFailed fault old call now
+-- A call ended in this way: all its writes worked, or a fault broke them off.
+abbrev pub CallEnds : SlotsState → StoreCall → Ending → SlotsState → Type 0
+CallEnds old call AllWorked now = CallWorked old call now
+CallEnds old call (BrokenBy fault) now = CallFailed fault old call now
 
--- A call ended like this, and the count of failures rose if it was broken off.
-pub record CallEnding (s : SlotsState) (call : Call) (ending : Ending) (now : SlotsState) : Type 0 where
-  pub calls : Calls s call ending now
+-- A call ended in this way, and the count of failures rose if it was broken off.
+pub record CallEnding (s : SlotsState) (call : StoreCall) (ending : Ending) (now : SlotsState) : Type 0 where
+  pub calls : CallEnds s call ending now
   pub count : s.medium.failures ≤ now.medium.failures
-  pub rose : (fault : WriteFault) → ending ≡ BrokenBy fault → Rose s.medium.failures now.medium.failures
+  pub rose : (fault : WriteFault) → ending ≡ BrokenBy fault → CountRose s.medium.failures now.medium.failures
 
--- These calls came one after the other: all of them, or those up to one that was broken off.
-abbrev pub Called : SlotsState → List Call → Ending → SlotsState → Type 0
-Called old [] AllWorked now = now ≡ old
-Called old [] (BrokenBy fault) now = ⊥
-Called old (call ∷ calls) AllWorked now = (mid : SlotsState) × Calls old call AllWorked mid × Called mid calls AllWorked now
-Called old (call ∷ calls) (BrokenBy fault) now = Calls old call (BrokenBy fault) now
-    ⊎ ((mid : SlotsState) × Calls old call AllWorked mid × Called mid calls (BrokenBy fault) now)
+-- A list of calls ended in this way: all of them worked, or one was broken off and none came after it.
+abbrev pub CallsEnd : SlotsState → List StoreCall → Ending → SlotsState → Type 0
+CallsEnd old [] AllWorked now = now ≡ old
+CallsEnd old [] (BrokenBy fault) now = ⊥
+CallsEnd old (call ∷ calls) AllWorked now = (mid : SlotsState) × CallEnds old call AllWorked mid × CallsEnd mid calls AllWorked now
+CallsEnd old (call ∷ calls) (BrokenBy fault) now = CallEnds old call (BrokenBy fault) now
+    ⊎ ((mid : SlotsState) × CallEnds old call AllWorked mid × CallsEnd mid calls (BrokenBy fault) now)
 
--- Two stores show the same active image, the same gate of the spare, and the same room.
+-- Two stores look alike: they show the same active image, the same gate of the spare, and the same room.
 pub record SameVisible (now old : SlotsState) : Type 0 where
   pub image : image_of now ≡ image_of old
   pub begun : is_begun now ≡ is_begun old
   pub room : room_of now ≡ room_of old
 
--- Neither the fuse nor what was put changes these.
-pub same_visible : (s : SlotsState) (fuse : Fuse) (held : List ℕ) (put_end : ℕ)
+-- A store looks the same with another fuse, and with other bytes held back.
+pub fuse_changes_nothing_visible : (s : SlotsState) (fuse : Fuse) (held : List ℕ) (put_end : ℕ)
     → SameVisible (store_of (record s.medium { fuse = fuse }) held put_end) s
 unfolding image_of is_begun room_of
-same_visible s fuse held put_end = record { image = refl; begun = refl; room = refl }
+fuse_changes_nothing_visible s fuse held put_end = record { image = refl; begun = refl; room = refl }
 
 -- The spare's data does not change with the fuse.
-pub spare_fused : (s : SlotsState) (fuse : Fuse) → spare_of (fused s fuse) ≡ spare_of s
+pub spare_same_on_other_fuse : (s : SlotsState) (fuse : Fuse) → spare_of (store_with_fuse s fuse) ≡ spare_of s
 unfolding spare_of
-spare_fused s fuse = refl
+spare_same_on_other_fuse s fuse = refl

@@ -1,8 +1,8 @@
 //! Look at both slots of a medium at once.
 ghost use Rattle.std.specs.Prelude.{◌≡◌, ℕ, OnOk, IfOk, IfErr, IfSome, IfNone};
 ghost use Rattle.dfu_slots.specs.Layout.{slot_size, HasHeader};
-ghost use Rattle.dfu_slots.specs.Image.{gate_of, IsSized, slot_of, Counts, counts, active_at, spare_at, HasImage};
-ghost use Rattle.dfu_slots.specs.Changes.{IsOpenFault};
+ghost use Rattle.dfu_slots.specs.Image.{gate_of, IsSizedMedium, slot_of, SlotCounts, slot_counts, active_at, spare_at, HasImage};
+ghost use Rattle.dfu_slots.specs.Changes.{FirstOpenFault};
 
 use crate::layout::is_sized;
 use crate::places::{Counted, count_slots, find_places, has_newest, is_none};
@@ -20,13 +20,13 @@ pub struct Both {
 
 // Returns the length of the image in the spare slot, if that counts and its header is well formed.
 fn spare_len<M: Medium>(medium: &M, spare: u32, counted: Counted) -> Option<u32>
-    requires sized { IsSized (M.state medium.now) }
+    requires sized { IsSizedMedium (M.state medium.now) }
     requires spare { spare ≡ spare_at (gate_of (M.state medium.now)) (M.state medium.now).bytes }
-    requires first { counted.first ≡ counts (slot_of (M.state medium.now) 0) }
-    requires second { counted.second ≡ counts (slot_of (M.state medium.now) (slot_size (M.state medium.now).bytes)) }
-    ensures counts { IfSome result (λ len. Counts (slot_of (M.state medium.now) spare)) }
+    requires first { counted.first ≡ slot_counts (slot_of (M.state medium.now) 0) }
+    requires second { counted.second ≡ slot_counts (slot_of (M.state medium.now) (slot_size (M.state medium.now).bytes)) }
+    ensures counts { IfSome result (λ len. SlotCounts (slot_of (M.state medium.now) spare)) }
     ensures some { IfSome result (λ len. HasHeader (slot_of (M.state medium.now) spare) len) }
-    ensures none { IfNone result (Counts (slot_of (M.state medium.now) spare) → (len : ℕ) →
+    ensures none { IfNone result (SlotCounts (slot_of (M.state medium.now) spare) → (len : ℕ) →
         ¬ HasHeader (slot_of (M.state medium.now) spare) len) }
 {
     let counts = if spare == 0 {
@@ -50,12 +50,12 @@ pub fn check_both<M: Medium>(medium: &M) -> Result<Both, OpenFault>
     ensures ok { OnOk result (HasImage (M.state medium.now)) }
     ensures active { IfOk result (λ b. b.places.active ≡ active_at (gate_of (M.state medium.now)) (M.state medium.now).bytes) }
     ensures spare { IfOk result (λ b. b.places.spare ≡ spare_at (gate_of (M.state medium.now)) (M.state medium.now).bytes) }
-    ensures counts { IfOk result (λ b. IfSome b.spare_len (λ len. Counts (slot_of (M.state medium.now) b.places.spare))) }
+    ensures counts { IfOk result (λ b. IfSome b.spare_len (λ len. SlotCounts (slot_of (M.state medium.now) b.places.spare))) }
     ensures some { IfOk result (λ b. IfSome b.spare_len (λ len. HasHeader (slot_of (M.state medium.now) b.places.spare) len)) }
-    ensures none { IfOk result (λ b. IfNone b.spare_len (Counts (slot_of (M.state medium.now) b.places.spare) →
+    ensures none { IfOk result (λ b. IfNone b.spare_len (SlotCounts (slot_of (M.state medium.now) b.places.spare) →
         (len : ℕ) → ¬ HasHeader (slot_of (M.state medium.now) b.places.spare) len)) }
-    ensures fault { IfErr result (λ fault. IsOpenFault fault (M.state medium.now)) }
-    ensures sized { OnOk result (IsSized (M.state medium.now)) }
+    ensures fault { IfErr result (λ fault. FirstOpenFault fault (M.state medium.now)) }
+    ensures sized { OnOk result (IsSizedMedium (M.state medium.now)) }
 {
     if !is_sized(medium) {
         return Err(OpenFault::WrongSize);

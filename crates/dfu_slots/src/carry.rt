@@ -1,9 +1,9 @@
 //! Carrying out the operations of a change on a medium.
 ghost use Rattle.std.specs.Prelude.{◌≡◌, ◌+◌, ◌^◌, ◌≤◌, ◌<◌, ◌++◌, length, take, replicate, slice_index, slice_range};
 ghost use Rattle.dfu_slots.specs.inside.Series.{Series};
-ghost use Rattle.dfu_slots.specs.inside.Carry.{MayWrite, IsAtHand, MayCarry, MayCarryAll};
+ghost use Rattle.dfu_slots.specs.inside.Carry.{MayWriteRange, IsSourceAtHand, MayCarryOp, MayCarryAll};
 ghost use Rattle.dfu_slots.specs.Writes.{write_some};
-ghost use Rattle.dfu_slots.specs.Operations.{source_of, range_of, op_writes, ops_writes, operations};
+ghost use Rattle.dfu_slots.specs.Operations.{source_content, range_of, op_writes, ops_writes, operations};
 
 use crate::erasing::erase;
 use crate::layout::{MAX_UNIT, OPEN_GATE};
@@ -12,7 +12,7 @@ use crate::sequence::{MAX_OPERATIONS, Sequence};
 use crate::writes::write_some;
 use crate::{Medium, WriteFault};
 
-/// The bytes that the operations of a change take theirs from.
+/// The bytes from which the operations of a change take the bytes that they write.
 #[derive(Clone, Copy)]
 pub(crate) struct Sources<'b> {
     /// The bytes held back.
@@ -37,8 +37,8 @@ fn byte_in(front: &[u8], back: &[u8], at: usize) -> u8
 
 // The byte at this place of a source, given the bytes held back, the block and the header.
 fn byte_of(source: Source, held: &[u8], block: &[u8], header: &[u8; 16], at: usize) -> u8
-    requires { at < length (source_of source held.now block.now header.now) + 256 }
-    ensures { result ≡ slice_index (source_of source held.now block.now header.now ++ replicate 256 0) at }
+    requires { at < length (source_content source held.now block.now header.now) + 256 }
+    ensures { result ≡ slice_index (source_content source held.now block.now header.now ++ replicate 256 0) at }
 {
     match source {
         Source::Joined => byte_in(held, block, at),
@@ -53,7 +53,7 @@ impl Sources<'_> {
     // Puts bytes of a source, without its first ones, at the front of a buffer.
     fn gather(self, source: Source, skip: usize, len: usize, out: &mut [u8; MAX_UNIT])
         requires few { len ≤ 256 }
-        requires front { skip ≤ length (source_of source self.held.now self.block.now self.header.now) }
+        requires front { skip ≤ length (source_content source self.held.now self.block.now self.header.now) }
         requires small { skip < 2 ^ 32 }
         ensures { take len out.new ≡ range_of source self.entry.held.now self.entry.block.now self.entry.header.now skip len }
     {
@@ -71,9 +71,9 @@ impl Sources<'_> {
         skip: usize,
         len: usize,
     ) -> Result<(), WriteFault>
-        requires may { MayWrite (M.state medium.old) at len }
+        requires may { MayWriteRange (M.state medium.old) at len }
         requires few { len ≤ 256 }
-        requires front { skip ≤ length (source_of source self.held.now self.block.now self.header.now) }
+        requires front { skip ≤ length (source_content source self.held.now self.block.now self.header.now) }
         requires small { skip < 2 ^ 32 }
         ensures { let was = M.state medium.old in
             Series was (write_some was.grain.sector at
@@ -92,9 +92,9 @@ impl Sources<'_> {
         skip: usize,
         len: usize,
     ) -> Result<(), WriteFault>
-        requires may { MayWrite (M.state medium.old) at len }
+        requires may { MayWriteRange (M.state medium.old) at len }
         requires small { skip < 2 ^ 32 }
-        requires hand { IsAtHand (Source.Joined) self.held.now self.block.now skip len }
+        requires hand { IsSourceAtHand (Source.Joined) self.held.now self.block.now skip len }
         ensures { let was = M.state medium.old in
             Series was (write_some was.grain.sector at
             (range_of (Source.Joined) self.entry.held.now self.entry.block.now self.entry.header.now skip len)) result (M.state medium.new) }
@@ -109,7 +109,7 @@ impl Sources<'_> {
 
     // Carries an operation out.
     fn carry_op<M: Medium>(self, medium: &mut M, op: Op) -> Result<(), WriteFault>
-        requires { MayCarry (M.state medium.old) self.held.now self.block.now op }
+        requires { MayCarryOp (M.state medium.old) self.held.now self.block.now op }
         ensures { let was = M.state medium.old in
             Series was (op_writes was.grain.sector self.entry.held.now self.entry.block.now self.entry.header.now op)
             result (M.state medium.new) }
@@ -134,7 +134,11 @@ impl Sources<'_> {
         }
     }
 
-    /// Carries out the operations of a sequence, in their order.
+    /// Performs the operations of `sequence` on `medium`, in their order.
+    ///
+    /// # Errors
+    ///
+    /// The fault of the write at which the operations are broken off.
     pub(crate) fn carry_out<M: Medium>(
         self,
         medium: &mut M,

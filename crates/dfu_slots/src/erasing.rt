@@ -2,14 +2,14 @@
 ghost use Rattle.std.specs.Prelude.{◌≡◌, ◌+◌, ◌%◌, ◌≤◌, ◌<◌, ◌↔◌, IsTrue, length, replicate, OnOk, IfErr};
 ghost use Rattle.dfu_slots.specs.Medium.{WroteBytes, FailedWrite, IsBlank};
 ghost use Rattle.dfu_slots.specs.inside.Series.{Series};
-ghost use Rattle.dfu_slots.specs.Image.{IsSized};
-ghost use Rattle.dfu_slots.specs.Writes.{erases};
+ghost use Rattle.dfu_slots.specs.Image.{IsSizedMedium};
+ghost use Rattle.dfu_slots.specs.Writes.{sector_erases};
 
 use crate::layout::MAX_UNIT;
 use crate::read::stands_at;
 use crate::{Medium, WriteFault};
 
-/// Returns whether so many bytes from there on are FFh.
+/// Returns true if the `len` bytes from `at` on are FFh.
 pub(crate) fn is_blank<M: Medium>(medium: &M, at: u32, len: u32) -> bool
     requires { at + len ≤ length (M.state medium.now).bytes }
     ensures { IsTrue result ↔ IsBlank (M.state medium.now).bytes at len }
@@ -28,7 +28,7 @@ pub(crate) fn is_blank<M: Medium>(medium: &M, at: u32, len: u32) -> bool
     true
 }
 
-/// Erases the sector that begins there, and reads it back. All erases of the store go through it.
+/// Erases the sector that begins at `at`, and reads it back. All erases of the store go through this call.
 pub(crate) fn erase<M: Medium>(medium: &mut M, at: u32) -> Result<(), WriteFault>
     requires within { at + (M.state medium.old).grain.sector ≤ length (M.state medium.old).bytes }
     requires place { at % (M.state medium.old).grain.sector ≡ 0 }
@@ -49,12 +49,12 @@ pub(crate) fn erase<M: Medium>(medium: &mut M, at: u32) -> Result<(), WriteFault
     }
 }
 
-/// Erases the sectors that begin in so many bytes from there on, one after the other.
+/// Erases the sectors that begin in the `len` bytes from `at` on, one after the other.
 pub(crate) fn erase_within<M: Medium>(medium: &mut M, at: u32, len: u32) -> Result<(), WriteFault>
-    requires sized { IsSized (M.state medium.old) }
+    requires sized { IsSizedMedium (M.state medium.old) }
     requires within { at + len ≤ length (M.state medium.old).bytes }
     requires some { 0 < (M.state medium.old).grain.sector }
-    ensures { let was = M.state medium.old in Series was (erases was.grain.sector at len) result (M.state medium.new) }
+    ensures { let was = M.state medium.old in Series was (sector_erases was.grain.sector at len) result (M.state medium.new) }
 {
     let _end = medium.len();
     let sector = medium.sector();

@@ -1,8 +1,8 @@
 //! Formatting a medium: an image goes into the first slot, whatever was on the medium.
 ghost use Rattle.std.specs.Prelude.{◌≤◌, ◌+◌, ◌++◌, [], length, take, replicate};
-ghost use Rattle.dfu_slots.specs.inside.Carry.{MayWrite, MayWritePiece};
+ghost use Rattle.dfu_slots.specs.inside.Carry.{MayWriteRange, MayWritePiece};
 ghost use Rattle.dfu_slots.specs.inside.Series.{Series};
-ghost use Rattle.dfu_slots.specs.Image.{IsSized};
+ghost use Rattle.dfu_slots.specs.Image.{IsSizedMedium};
 ghost use Rattle.dfu_slots.specs.Writes.{write_some, image_writes, close_writes};
 ghost use Rattle.dfu_slots.specs.Operations.{range_of, ops_writes, operations};
 ghost use Rattle.dfu_slots.specs.declared.operation.Source.TheVariants.{Joined};
@@ -26,7 +26,7 @@ fn write_padded<M: Medium>(
     bytes: &[u8],
     len: usize,
 ) -> Result<(), WriteFault>
-    requires may { MayWrite (M.state medium.old) at len }
+    requires may { MayWriteRange (M.state medium.old) at len }
     requires short { len ≤ 4096 }
     requires fits { length bytes.now ≤ len }
     requires few { len ≤ length bytes.now + 256 }
@@ -46,7 +46,7 @@ fn write_part<M: Medium>(
     skip: usize,
     len: usize,
 ) -> Result<(), WriteFault>
-    requires may { MayWrite (M.state medium.old) at len }
+    requires may { MayWriteRange (M.state medium.old) at len }
     requires short { len ≤ 4096 }
     requires front { skip ≤ length image.now }
     requires few { skip + len ≤ length image.now + 256 }
@@ -102,7 +102,7 @@ fn write_pieces<M: Medium>(medium: &mut M, image: &[u8]) -> Result<(), WriteFaul
 
 // Closes both gates, the second slot's first.
 fn close_gates<M: Medium>(medium: &mut M) -> Result<(), WriteFault>
-    requires { IsSized (M.state medium.old) }
+    requires { IsSizedMedium (M.state medium.old) }
     ensures { let was = M.state medium.old in
         Series was (close_writes was.grain was.bytes) result (M.state medium.new) }
 {
@@ -113,7 +113,7 @@ fn close_gates<M: Medium>(medium: &mut M) -> Result<(), WriteFault>
     }
 }
 
-/// Makes this the active image of the medium.
+/// Writes `image` into the first slot and makes it the active image of `medium`.
 pub(crate) fn write_image<M: Medium>(medium: &mut M, image: &[u8]) -> Result<(), WriteFault>
     requires { CanFormat (M.state medium.old) image.now }
     ensures { Series (M.state medium.old) (format_series (M.state medium.old) image.now) result (M.state medium.new) }

@@ -1,20 +1,20 @@
 //! Closing the gate of a slot, and opening it after a new header.
 ghost use Rattle.std.specs.Prelude.{◌≡◌, ℕ, [], ◌∷◌, ◌++◌, ◌+◌, ◌%◌, ◌≤◌, ◌<◌, length};
-ghost use Rattle.dfu_slots.specs.Units.{IsMultiple, filled};
-ghost use Rattle.dfu_slots.specs.Medium.{IsAhead};
+ghost use Rattle.dfu_slots.specs.Units.{IsMultiple, filled_units};
+ghost use Rattle.dfu_slots.specs.Medium.{IsWritableAhead};
 ghost use Rattle.dfu_slots.specs.inside.Series.{Series};
 ghost use Rattle.dfu_slots.specs.Layout.{slot_size, header};
-ghost use Rattle.dfu_slots.specs.Image.{gate_of, IsSized};
+ghost use Rattle.dfu_slots.specs.Image.{gate_of, IsSizedMedium};
 ghost use Rattle.dfu_slots.specs.Operations.{held_from};
-ghost use Rattle.dfu_slots.specs.Writes.{closed_gate, part_writes, open_writes};
+ghost use Rattle.dfu_slots.specs.Writes.{closed_gate, held_writes, open_writes};
 
 use crate::carry::Sources;
 use crate::sequence::Sequence;
 use crate::{Medium, WriteFault};
 
-/// Closes the gate of the slot that begins there: it writes a gate unit over it, or erases its sector.
+/// Closes the gate of the slot that begins at `slot`: writes a gate unit over it, or erases its sector.
 pub(crate) fn close_gate<M: Medium>(medium: &mut M, slot: u32) -> Result<(), WriteFault>
-    requires sized { IsSized (M.state medium.old) }
+    requires sized { IsSizedMedium (M.state medium.old) }
     requires within { slot + gate_of (M.state medium.old) ≤ length (M.state medium.old).bytes }
     requires place { IsMultiple (M.state medium.old).grain.unit slot }
     requires sector { let sector = (M.state medium.old).grain.sector in 0 < sector → slot % sector ≡ 0 }
@@ -29,8 +29,8 @@ pub(crate) fn close_gate<M: Medium>(medium: &mut M, slot: u32) -> Result<(), Wri
     none.carry_out(medium, Sequence::Close { slot })
 }
 
-/// Writes what is held back, at most 256 bytes of puts that end there, into the data of the slot that begins there, then this
-/// header, and then, in a write of its own, opens the gate.
+/// Writes `held`, at most 256 bytes of puts that end at `end`, into the data of the slot that begins at `slot`, then the header `head`,
+/// and then, in a write of its own, opens the gate.
 pub(crate) fn open_slot<M: Medium>(
     medium: &mut M,
     slot: u32,
@@ -38,17 +38,17 @@ pub(crate) fn open_slot<M: Medium>(
     held: &[u8],
     head: &[u8; 16],
 ) -> Result<(), WriteFault>
-    requires sized { IsSized (M.state medium.old) }
+    requires sized { IsSizedMedium (M.state medium.old) }
     requires slot { slot + slot_size (M.state medium.old).bytes ≤ length (M.state medium.old).bytes }
     requires place { IsMultiple (M.state medium.old).grain.unit slot }
     requires sector { let sector = (M.state medium.old).grain.sector in 0 < sector → slot % sector ≡ 0 }
     requires few { length held.now ≤ 256 }
-    requires ahead { let was = M.state medium.old in IsAhead was (held_from was.grain slot end (length held.now)) }
+    requires ahead { let was = M.state medium.old in IsWritableAhead was (held_from was.grain slot end (length held.now)) }
     requires within { let was = M.state medium.old in
-        held_from was.grain slot end (length held.now) + length (filled was.grain.unit held.now) ≤ length was.bytes }
+        held_from was.grain slot end (length held.now) + length (filled_units was.grain.unit held.now) ≤ length was.bytes }
     requires whole { let was = M.state medium.old in IsMultiple was.grain.unit (held_from was.grain slot end (length held.now)) }
     ensures { (gen len crc : ℕ) → head.now ≡ header 2 gen len crc → let was = M.state medium.old in
-        Series was (part_writes was.grain (held_from was.grain slot end (length held.now)) held.now
+        Series was (held_writes was.grain (held_from was.grain slot end (length held.now)) held.now
         ++ open_writes was.grain slot gen len crc) result (M.state medium.new) }
 {
     let sequence = Sequence::Commit {

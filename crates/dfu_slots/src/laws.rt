@@ -3,17 +3,17 @@
 
 ghost use Rattle.std.specs.Prelude.{◌≡◌, ◌≤◌, ◌+◌, ◌*◌, ℕ, List, [], ◌∷◌, ◌++◌, length, take, drop};
 ghost use Rattle.dfu_slots.specs.declared.layout.Unit.{Unit as WriteUnit};
-ghost use Rattle.dfu_slots.specs.Units.{Grain, in_place, gate_size, gate_room, filled};
+ghost use Rattle.dfu_slots.specs.Units.{Grain, in_place_grain, gate_size, gate_room, filled_units};
 ghost use Rattle.dfu_slots.specs.Layout.{gate_unit, header};
-ghost use Rattle.dfu_slots.specs.Writes.{closed_gate, write_anew, write_some, put_writes, part_writes, open_writes};
+ghost use Rattle.dfu_slots.specs.Writes.{closed_gate, write_anew, write_some, put_writes, held_writes, open_writes};
 ghost use Rattle.dfu_slots.specs.declared.sequence.Sequence.TheVariants.{Close, Put, Commit, Image};
 ghost use Rattle.dfu_slots.specs.Operations.{ops_writes, held_from, operations};
 ghost use Rattle.dfu_slots.specs.Medium.{MediumState, Write, AllWrites, BrokenWrites};
 ghost use Rattle.dfu_slots.specs.Medium.Fuse.{Whole};
 ghost use Rattle.dfu_slots.specs.Image.{Active, HasImage};
-ghost use Rattle.dfu_slots.specs.StoreView.{SlotsState, Call, Ending, AllWorked, BrokenBy, Called, image_of};
-ghost use Rattle.dfu_slots.specs.Changes.{IsOpenFault};
-ghost use Rattle.dfu_slots.specs.OneWrite.{IsKnown, Same};
+ghost use Rattle.dfu_slots.specs.StoreView.{SlotsState, StoreCall, Ending, AllWorked, BrokenBy, CallsEnd, image_of};
+ghost use Rattle.dfu_slots.specs.Changes.{FirstOpenFault};
+ghost use Rattle.dfu_slots.specs.OneWrite.{IsKnownFuse, SameMedium};
 ghost use Rattle.dfu_slots.specs.Determined.{SameStore};
 ghost use Rattle.dfu_slots.specs.declared.fault.OpenFault.{OpenFault};
 ghost use Rattle.dfu_slots.specs.declared.fault.WriteFault.{WriteFault};
@@ -24,15 +24,15 @@ pub fn active_image_is_one()
     ensures one { (m : MediumState) (a b : List ℕ) → Active m a → Active m b → a ≡ b }
     ensures shown { (s : SlotsState) → HasImage s.medium → Active s.medium (image_of s) }
     ensures only { (s : SlotsState) (image : List ℕ) → Active s.medium image → image ≡ image_of s }
-    ensures refused { (fault : OpenFault) (m : MediumState) → IsOpenFault fault m → ¬ HasImage m }
+    ensures refused { (fault : OpenFault) (m : MediumState) → FirstOpenFault fault m → ¬ HasImage m }
 {}
 
 /// On a medium without sectors nothing is erased: bytes are written over in place in one write, a closed gate is a gate unit
 /// of zeros, and gate and header have a unit each.
 pub fn without_sectors_nothing_is_erased()
     ensures writes { (at : ℕ) (bytes : List ℕ) → write_anew 0 at bytes ≡ record { at = at; bytes = bytes } ∷ [] }
-    ensures gate { (unit : WriteUnit) → closed_gate (in_place unit) ≡ gate_unit (gate_size unit) 0 }
-    ensures room { (unit : WriteUnit) → gate_room (in_place unit) ≡ gate_size unit }
+    ensures gate { (unit : WriteUnit) → closed_gate (in_place_grain unit) ≡ gate_unit (gate_size unit) 0 }
+    ensures room { (unit : WriteUnit) → gate_room (in_place_grain unit) ≡ gate_size unit }
 {}
 
 /// The operations of a sequence, in their order, are the writes of the change that it is for: of closing a gate, of a `put`, of a
@@ -45,10 +45,10 @@ pub fn operations_are_the_writes()
         ≡ put_writes w (held_from w slot end (length held)) held block }
     ensures commit { (w : Grain) (held block head : List ℕ) (slot end gen len crc : ℕ) → length held ≤ 256 →
         head ≡ header 2 gen len crc → ops_writes w.sector held block head (operations w (Commit slot end (length held)))
-        ≡ part_writes w (held_from w slot end (length held)) held ++ open_writes w slot gen len crc }
+        ≡ held_writes w (held_from w slot end (length held)) held ++ open_writes w slot gen len crc }
     ensures image { (w : Grain) (image head : List ℕ) (from : ℕ) →
         ops_writes w.sector [] image head (operations w (Image from (length image)))
-        ≡ write_some w.sector (2 * gate_room w + from) (take 4096 (drop from (filled w.unit image))) }
+        ≡ write_some w.sector (2 * gate_room w + from) (take 4096 (drop from (filled_units w.unit image))) }
 {}
 
 /// A medium whose fuse is whole (as `SimMedium::new` and `disarm` leave it) fails no write and no call, and lies in none,
@@ -58,25 +58,25 @@ pub fn unarmed_never_fails()
         old.fuse ≡ Whole → (fault : WriteFault) → ¬ BrokenWrites fault old writes now }
     ensures writes_stay { (writes : List Write) (old now : MediumState) →
         old.fuse ≡ Whole → AllWrites old writes now → now.fuse ≡ Whole }
-    ensures calls { (calls : List Call) (old now : SlotsState) →
-        old.medium.fuse ≡ Whole → (fault : WriteFault) → ¬ Called old calls (BrokenBy fault) now }
-    ensures calls_stay { (calls : List Call) (old now : SlotsState) →
-        old.medium.fuse ≡ Whole → Called old calls AllWorked now → now.medium.fuse ≡ Whole }
+    ensures calls { (calls : List StoreCall) (old now : SlotsState) →
+        old.medium.fuse ≡ Whole → (fault : WriteFault) → ¬ CallsEnd old calls (BrokenBy fault) now }
+    ensures calls_stay { (calls : List StoreCall) (old now : SlotsState) →
+        old.medium.fuse ≡ Whole → CallsEnd old calls AllWorked now → now.medium.fuse ≡ Whole }
 {}
 
 /// From the same store the same calls end alike, if the fuse is known: all their writes work on both or they are broken off by the
 /// same fault, and leave the same store (the same bytes, fuse and grain, the same bytes held back, the same end of the puts).
 pub fn same_bytes_same_end()
-    ensures outcome { (calls : List Call) (e d : Ending) (a b x y : SlotsState) →
-        SameStore a b → IsKnown a.medium.fuse → Called a calls e x → Called b calls d y → e ≡ d }
-    ensures end { (calls : List Call) (e : Ending) (a b x y : SlotsState) →
-        SameStore a b → IsKnown a.medium.fuse → Called a calls e x → Called b calls e y → SameStore x y }
+    ensures outcome { (calls : List StoreCall) (e d : Ending) (a b x y : SlotsState) →
+        SameStore a b → IsKnownFuse a.medium.fuse → CallsEnd a calls e x → CallsEnd b calls d y → e ≡ d }
+    ensures end { (calls : List StoreCall) (e : Ending) (a b x y : SlotsState) →
+        SameStore a b → IsKnownFuse a.medium.fuse → CallsEnd a calls e x → CallsEnd b calls e y → SameStore x y }
     ensures writes { (writes : List Write) (a b x y : MediumState) →
-        Same a b → IsKnown a.fuse → AllWrites a writes x → (fault : WriteFault) → ¬ BrokenWrites fault b writes y }
+        SameMedium a b → IsKnownFuse a.fuse → AllWrites a writes x → (fault : WriteFault) → ¬ BrokenWrites fault b writes y }
     ensures written { (writes : List Write) (a b x y : MediumState) →
-        Same a b → AllWrites a writes x → AllWrites b writes y → Same x y }
+        SameMedium a b → AllWrites a writes x → AllWrites b writes y → SameMedium x y }
     ensures fault { (f g : WriteFault) (writes : List Write) (a b x y : MediumState) →
-        Same a b → IsKnown a.fuse → BrokenWrites f a writes x → BrokenWrites g b writes y → f ≡ g }
+        SameMedium a b → IsKnownFuse a.fuse → BrokenWrites f a writes x → BrokenWrites g b writes y → f ≡ g }
     ensures broken { (fault : WriteFault) (writes : List Write) (a b x y : MediumState) →
-        Same a b → IsKnown a.fuse → BrokenWrites fault a writes x → BrokenWrites fault b writes y → Same x y }
+        SameMedium a b → IsKnownFuse a.fuse → BrokenWrites fault a writes x → BrokenWrites fault b writes y → SameMedium x y }
 {}

@@ -3,23 +3,23 @@ ghost use Rattle.std.specs.Prelude.{◌≡◌, ◌%◌, ◌^◌, ◌<◌, ◌≤
 ghost use Rattle.std.specs.Int.{w32, from_le_bytes};
 ghost use Rattle.dfu_slots.specs.Units.{unit_size, gate_size, gate_room, fill_size};
 ghost use Rattle.dfu_slots.specs.Layout.{header};
-ghost use Rattle.dfu_slots.specs.Image.{gate_of, IsSized, capacity_of};
+ghost use Rattle.dfu_slots.specs.Image.{gate_of, IsSizedMedium, capacity_of};
 
 use crate::Medium;
 
-/// Bytes of the header, and the fewest bytes of the gate unit and the header unit.
+/// Number of bytes of the header, and the smallest number of bytes of the gate unit and the header unit.
 const HEADER_SIZE: u32 = 16;
 
-/// Bytes of the largest unit.
+/// Number of bytes of the largest unit.
 pub const MAX_UNIT: usize = 256;
 
-/// Fewest bytes of a sector, whose size is a multiple of this.
+/// Smallest number of bytes of a sector, whose size is a multiple of this number.
 pub const PAGE: u32 = 256;
 
-/// Most bytes of a sector.
-pub const MAX_SECTOR: u32 = 1 << 17;
+/// Largest number of bytes of a sector.
+pub const MAX_SECTOR: u32 = 1 << 18;
 
-/// Most bytes of data of a slot.
+/// Largest number of bytes of the data of a slot.
 pub const MAX_CAPACITY: u32 = 1 << 24;
 
 /// The first byte of an open gate unit; any other byte is a closed gate.
@@ -57,7 +57,7 @@ impl Unit {
     }
 }
 
-/// Returns the bytes of the gate unit, from 16 to 256; the header unit has as many.
+/// Returns the number of bytes of the gate unit, from 16 to 256; the header unit has as many.
 pub(crate) fn gate_size(unit: Unit) -> u32
     ensures value { result ≡ gate_size unit }
     ensures least { 16 ≤ result }
@@ -66,14 +66,14 @@ pub(crate) fn gate_size(unit: Unit) -> u32
     HEADER_SIZE.max(unit.size())
 }
 
-/// Returns the bytes that the gate of a slot takes up, and its header as many: 16, a unit or a sector, whichever is most.
+/// Returns the number of bytes that the gate of a slot takes up, and its header as many: 16, a unit or a sector, whichever is most.
 pub(crate) fn gate_room(unit: Unit, sector: u32) -> u32
     ensures { result ≡ gate_room (record { unit = unit; sector = sector }) }
 {
     gate_size(unit).max(sector)
 }
 
-/// Returns the number of zeros that fill so many bytes up to the end of a unit, from 0 to 255.
+/// Returns the number of zeros that fill `len` bytes up to the end of a unit, from 0 to 255.
 pub(crate) fn fill_size(unit: Unit, len: u32) -> u32
     ensures value { result ≡ fill_size unit len }
     ensures most { result < 256 }
@@ -82,24 +82,24 @@ pub(crate) fn fill_size(unit: Unit, len: u32) -> u32
     (size - len % size) % size
 }
 
-/// Returns the bytes that the gate of a slot takes up, and its header as many: 16, a unit or a sector, whichever is most.
+/// Returns the number of bytes that the gate of a slot takes up, and its header as many: 16, a unit or a sector, whichever is most.
 pub fn gate_of<M: Medium>(medium: &M) -> u32
     ensures { result ≡ gate_of (M.state medium.now) }
 {
     gate_room(medium.unit(), medium.sector())
 }
 
-/// Returns the bytes of data of each slot.
+/// Returns the number of bytes of data of each slot.
 pub fn capacity_of<M: Medium>(medium: &M) -> u32
-    requires { IsSized (M.state medium.now) }
+    requires { IsSizedMedium (M.state medium.now) }
     ensures { result ≡ capacity_of (M.state medium.now) }
 {
     medium.len() / 2 - 2 * gate_of(medium)
 }
 
-// Returns whether the store takes sectors of so many bytes: 0, or a multiple of 256 up to 131,072.
+// Returns whether the store takes sectors of so many bytes: 0, or a multiple of 256 up to 262,144.
 fn is_sector(sector: u32) -> bool
-    ensures { IsTrue result ↔ ((sector % 256 ≡ 0) × (sector ≤ 2 ^ 17)) }
+    ensures { IsTrue result ↔ ((sector % 256 ≡ 0) × (sector ≤ 2 ^ 18)) }
 {
     sector % PAGE == 0 && sector <= MAX_SECTOR
 }
@@ -113,7 +113,7 @@ fn is_whole(unit: Unit, sector: u32, len: u32) -> bool
 
 /// Returns whether the medium has a length that two slots can have, with whole units and sectors of data each.
 pub fn is_sized<M: Medium>(medium: &M) -> bool
-    ensures { IsTrue result ↔ IsSized (M.state medium.now) }
+    ensures { IsTrue result ↔ IsSizedMedium (M.state medium.now) }
 {
     let sector = medium.sector();
     if !is_sector(sector) {
@@ -133,8 +133,8 @@ pub const VERSION: u8 = 2;
 /// The version of a header without a register, which is read and never written.
 pub const OLD_VERSION: u8 = 1;
 
-/// A header: generation, version, two zeros, the length, the register over the image, both in little-endian order,
-/// and four zeros. In version 1 zeros are in the place of the register.
+/// Returns the header with `version`, `generation`, an image of `len` bytes and its `register`: generation, version, two zeros, the
+/// length, the register over the image, both in little-endian order, and four zeros. In version 1 zeros are in the place of the register.
 pub fn make_header(version: u8, generation: u8, len: u32, register: u32) -> [u8; 16]
     ensures { result ≡ header version generation len register }
 {
@@ -145,14 +145,14 @@ pub fn make_header(version: u8, generation: u8, len: u32, register: u32) -> [u8;
     ]
 }
 
-/// The length in a header that was read.
+/// Returns the length of the image, in bytes, that `header` says.
 pub fn length_in(header: &[u8; 16]) -> u32
     ensures { result ≡ from_le_bytes w32 (take 4 (drop 4 header.now)) }
 {
     u32::from_le_bytes([header[4], header[5], header[6], header[7]])
 }
 
-/// The register in a header that was read.
+/// Returns the register over the image that `header` says.
 pub(crate) fn register_in(header: &[u8; 16]) -> u32
     ensures { result ≡ from_le_bytes w32 (take 4 (drop 8 header.now)) }
 {
@@ -166,7 +166,7 @@ fn rest_in(header: &[u8; 16]) -> u32
     u32::from_le_bytes([header[12], header[13], header[14], header[15]])
 }
 
-/// Returns whether a header is of this version with this register, and well formed, whatever its generation and its length are.
+/// Returns true if the header `found` is of `version` with `register`, and well formed, whatever its generation and its length are.
 pub(crate) fn is_header(found: &[u8; 16], version: u8, register: u32) -> bool
     ensures { IsTrue result ↔ (found.now ≡
         header version (get_or found.now 0 0) (from_le_bytes w32 (take 4 (drop 4 found.now))) register) }
@@ -186,7 +186,7 @@ pub(crate) fn is_header(found: &[u8; 16], version: u8, register: u32) -> bool
     rest_in(found) == 0
 }
 
-/// Returns whether a header is of this version with this register, and well formed, with a length up to the room.
+/// Returns true if the header `found` is of `version` with `register`, and well formed, with a length up to `room`.
 pub(crate) fn is_formed(found: &[u8; 16], room: u32, version: u8, register: u32) -> bool
     ensures { let len = from_le_bytes w32 (take 4 (drop 4 found.now)) in
         IsTrue result ↔ ((found.now ≡ header version (get_or found.now 0 0) len register) × (len ≤ room)) }

@@ -28,12 +28,13 @@ pub trait Medium: Drop {
     fn len(&self) -> u32
         ensures { result ≡ length (state self.now).bytes };
 
-    /// The unit in which it is written, always the same. It is read byte by byte.
+    /// Returns the unit in which the medium is written, always the same. The medium is read byte by byte.
     fn unit(&self) -> Unit
         ensures { result ≡ (state self.now).grain.unit };
 
-    /// Returns the bytes that are erased at a time, always the same number. At 0 it is written over in place, and never erased. The store
-    /// takes 0 and the multiples of 256 up to 131,072. All sectors have this size: of a part with others show a run of equal ones.
+    /// Returns the number of bytes that are erased at a time, always the same number. At 0 the medium is written over in place, and never
+    /// erased. The store takes 0 and the multiples of 256 up to 262,144. All sectors have this size: of a part with others show a run of
+    /// equal ones.
     fn sector(&self) -> u32
         ensures { result ≡ (state self.now).grain.sector };
 
@@ -76,22 +77,22 @@ pub trait Medium: Drop {
 
 /// A medium that can be set to fail or to lie at a write, and what that write leaves.
 pub trait Faulty: Medium {
-    /// The next `writes` writes work; the one after them fails and leaves the first bytes of `tear`
-    /// at the front of its range, and the old bytes in the rest of it. Of `tear` at most 4,096 bytes are kept.
+    /// Arms the medium: the next `writes` writes work; the one after them fails and leaves the first bytes of `tear` at the front of its
+    /// range, and the old bytes in the rest of it. Of `tear` at most 4,096 bytes are kept.
     ///
-    /// With `stop` all later writes fail too and leave the old bytes, until `disarm`; without it they work.
-    /// It replaces an earlier `arm` or `arm_lie`, and changes no byte.
+    /// With `stop` all later writes fail too and leave the old bytes, until `disarm`; without it they work. The call replaces an earlier
+    /// `arm` or `arm_lie`, and changes no byte.
     fn arm(&mut self, writes: u32, tear: &[u8], stop: bool)
         ensures { Self.state self.new ≡ record (Self.state self.old) { fuse = Armed writes (take 4096 tear.now) stop } };
 
-    /// The next `writes` writes work; the one after them lies: it returns Ok, and leaves the first bytes of `tear` at the
+    /// Arms the medium: the next `writes` writes work; the one after them lies: it returns Ok, and leaves the first bytes of `tear` at the
     /// front of its range, and the old bytes in the rest of it. Of `tear` at most 4,096 bytes are kept. Later writes work.
     ///
-    /// It replaces an earlier `arm` or `arm_lie`, and changes no byte.
+    /// The call replaces an earlier `arm` or `arm_lie`, and changes no byte.
     fn arm_lie(&mut self, writes: u32, tear: &[u8])
         ensures { Self.state self.new ≡ record (Self.state self.old) { fuse = Lying writes (take 4096 tear.now) } };
 
-    /// From now on no write fails or lies. It changes no byte.
+    /// Clears the fuse: from now on no write fails or lies. Changes no byte.
     fn disarm(&mut self)
         ensures { Self.state self.new ≡ record (Self.state self.old) { fuse = Whole } };
 }

@@ -3,12 +3,12 @@
 use crate::Failed;
 use arrayvec::ArrayVec;
 
-/// End of a write.
+/// The way in which a write ended.
 #[derive(Clone, Copy)]
 pub enum WriteEnd {
     Worked,
     Failed,
-    /// The medium was armed to lie in it: it reported success, whatever it left.
+    /// The medium was armed to lie in the write: it reported success, whatever bytes it left.
     Lied,
 }
 
@@ -32,17 +32,17 @@ impl Default for WriteNote {
     }
 }
 
-/// The last writes of a medium, and how many there were.
+/// The last writes of a medium, and the number of all writes.
 #[derive(Drop)]
 pub struct LastWrites {
-    /// The last 16 of them, in their order.
+    /// The last 16 writes, in their order.
     pub notes: ArrayVec<WriteNote, 16>,
     /// Number of writes, at most 2^64 - 1.
     pub count: u64,
 }
 
 impl LastWrites {
-    /// No write.
+    /// Returns a list of no write.
     pub(crate) fn none() -> LastWrites {
         LastWrites {
             notes: ArrayVec::new(),
@@ -50,7 +50,7 @@ impl LastWrites {
         }
     }
 
-    /// One write more.
+    /// Adds `note` as the last write. The oldest note is removed if there is no room for it.
     pub(crate) fn add(&mut self, note: WriteNote) {
         if self.notes.is_full() {
             self.notes.remove(0);
@@ -60,7 +60,7 @@ impl LastWrites {
     }
 }
 
-/// Returns the end of a write with this result, by whether it was set to lie.
+/// Returns the end of a write with the result `answer`, by `lies`, which says that it was set to lie.
 pub(crate) fn ended(lies: bool, answer: Result<(), Failed>) -> WriteEnd {
     match answer {
         Ok(()) if lies => WriteEnd::Lied,

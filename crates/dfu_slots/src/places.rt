@@ -1,8 +1,8 @@
 //! Places of the active slot and the spare one.
 ghost use Rattle.std.specs.Prelude.{◌≡◌, ◌+◌, ◌≤◌, ◌&&◌, not, length, OnOk, IfOk, IfErr};
 ghost use Rattle.dfu_slots.specs.Layout.{slot_size, slot_place};
-ghost use Rattle.dfu_slots.specs.Image.{gate_of, IsSized, slot_of, counts, is_newest, active_at, spare_at, HasImage};
-ghost use Rattle.dfu_slots.specs.Changes.{IsOpenFault};
+ghost use Rattle.dfu_slots.specs.Image.{gate_of, IsSizedMedium, slot_of, slot_counts, is_newest, active_at, spare_at, HasImage};
+ghost use Rattle.dfu_slots.specs.Changes.{FirstOpenFault};
 
 use crate::layout::is_sized;
 use crate::read::{counts, generation, header_len};
@@ -26,9 +26,9 @@ pub struct Counted {
 
 /// Finds the slots that count, of the two. The whole image of an open slot of version 2 is read once, for its register.
 pub(crate) fn count_slots<M: Medium>(medium: &M) -> Counted
-    requires { IsSized (M.state medium.now) }
-    ensures first { result.first ≡ counts (slot_of (M.state medium.now) 0) }
-    ensures second { result.second ≡ counts (slot_of (M.state medium.now) (slot_size (M.state medium.now).bytes)) }
+    requires { IsSizedMedium (M.state medium.now) }
+    ensures first { result.first ≡ slot_counts (slot_of (M.state medium.now) 0) }
+    ensures second { result.second ≡ slot_counts (slot_of (M.state medium.now) (slot_size (M.state medium.now).bytes)) }
 {
     Counted {
         first: counts(medium, 0),
@@ -51,11 +51,11 @@ fn is_newest<M: Medium>(
     mine_counts: bool,
     other_counts: bool,
 ) -> bool
-    requires sized { IsSized (M.state medium.now) }
+    requires sized { IsSizedMedium (M.state medium.now) }
     requires mine { mine + slot_size (M.state medium.now).bytes ≤ length (M.state medium.now).bytes }
     requires other { other + slot_size (M.state medium.now).bytes ≤ length (M.state medium.now).bytes }
-    requires mine_counts { mine_counts ≡ counts (slot_of (M.state medium.now) mine) }
-    requires other_counts { other_counts ≡ counts (slot_of (M.state medium.now) other) }
+    requires mine_counts { mine_counts ≡ slot_counts (slot_of (M.state medium.now) mine) }
+    requires other_counts { other_counts ≡ slot_counts (slot_of (M.state medium.now) other) }
     ensures { result ≡ is_newest (slot_of (M.state medium.now) mine) (slot_of (M.state medium.now) other) }
 {
     mine_counts
@@ -83,9 +83,9 @@ pub(crate) fn places_of<M: Medium>(medium: &M, first: bool) -> Places
 
 /// Returns the places of the two slots; if neither is the newest, as if the second were.
 pub(crate) fn find_places<M: Medium>(medium: &M, counted: Counted) -> Places
-    requires sized { IsSized (M.state medium.now) }
-    requires first { counted.first ≡ counts (slot_of (M.state medium.now) 0) }
-    requires second { counted.second ≡ counts (slot_of (M.state medium.now) (slot_size (M.state medium.now).bytes)) }
+    requires sized { IsSizedMedium (M.state medium.now) }
+    requires first { counted.first ≡ slot_counts (slot_of (M.state medium.now) 0) }
+    requires second { counted.second ≡ slot_counts (slot_of (M.state medium.now) (slot_size (M.state medium.now).bytes)) }
     ensures active { result.active ≡ active_at (gate_of (M.state medium.now)) (M.state medium.now).bytes }
     ensures spare { result.spare ≡ spare_at (gate_of (M.state medium.now)) (M.state medium.now).bytes }
 {
@@ -96,11 +96,11 @@ pub(crate) fn find_places<M: Medium>(medium: &M, counted: Counted) -> Places
 
 /// Returns whether the slot that was found to be the active one is the newest.
 pub(crate) fn has_newest<M: Medium>(medium: &M, places: Places, counted: Counted) -> bool
-    requires sized { IsSized (M.state medium.now) }
+    requires sized { IsSizedMedium (M.state medium.now) }
     requires active { places.active ≡ active_at (gate_of (M.state medium.now)) (M.state medium.now).bytes }
     requires spare { places.spare ≡ spare_at (gate_of (M.state medium.now)) (M.state medium.now).bytes }
-    requires first { counted.first ≡ counts (slot_of (M.state medium.now) 0) }
-    requires second { counted.second ≡ counts (slot_of (M.state medium.now) (slot_size (M.state medium.now).bytes)) }
+    requires first { counted.first ≡ slot_counts (slot_of (M.state medium.now) 0) }
+    requires second { counted.second ≡ slot_counts (slot_of (M.state medium.now) (slot_size (M.state medium.now).bytes)) }
     ensures { result ≡ is_newest (slot_of (M.state medium.now) places.active) (slot_of (M.state medium.now) places.spare) }
 {
     let Places { active, spare } = places;
@@ -113,7 +113,7 @@ pub(crate) fn has_newest<M: Medium>(medium: &M, places: Places, counted: Counted
 
 /// Finds which of the two slots is active.
 pub(crate) fn look<M: Medium>(medium: &M) -> Places
-    requires { IsSized (M.state medium.now) }
+    requires { IsSizedMedium (M.state medium.now) }
     ensures active { result.active ≡ active_at (gate_of (M.state medium.now)) (M.state medium.now).bytes }
     ensures spare { result.spare ≡ spare_at (gate_of (M.state medium.now)) (M.state medium.now).bytes }
 {
@@ -125,8 +125,8 @@ pub fn check<M: Medium>(medium: &M) -> Result<Places, OpenFault>
     ensures ok { OnOk result (HasImage (M.state medium.now)) }
     ensures active { IfOk result (λ p. p.active ≡ active_at (gate_of (M.state medium.now)) (M.state medium.now).bytes) }
     ensures spare { IfOk result (λ p. p.spare ≡ spare_at (gate_of (M.state medium.now)) (M.state medium.now).bytes) }
-    ensures fault { IfErr result (λ fault. IsOpenFault fault (M.state medium.now)) }
-    ensures sized { OnOk result (IsSized (M.state medium.now)) }
+    ensures fault { IfErr result (λ fault. FirstOpenFault fault (M.state medium.now)) }
+    ensures sized { OnOk result (IsSizedMedium (M.state medium.now)) }
 {
     if !is_sized(medium) {
         return Err(OpenFault::WrongSize);

@@ -1,9 +1,9 @@
 //! Bytes that were put since `begin`: whole units go to the medium as they come, and the rest is held back.
 ghost use Rattle.std.specs.Prelude.{◌≡◌, ◌+◌, ◌≤◌, ◌<◌, ◌++◌, [], length, OnOk};
 ghost use Rattle.dfu_slots.specs.Units.{IsMultiple, unit_size};
-ghost use Rattle.dfu_slots.specs.Medium.{IsAhead};
+ghost use Rattle.dfu_slots.specs.Medium.{IsWritableAhead};
 ghost use Rattle.dfu_slots.specs.inside.Series.{Series};
-ghost use Rattle.dfu_slots.specs.Image.{IsSized};
+ghost use Rattle.dfu_slots.specs.Image.{IsSizedMedium};
 ghost use Rattle.dfu_slots.specs.Operations.{held_from};
 ghost use Rattle.dfu_slots.specs.Writes.{put_writes, put_rest};
 
@@ -23,7 +23,7 @@ pub struct Puts {
 }
 
 impl Puts {
-    /// Nothing was put.
+    /// Returns the puts before the first one: no bytes held back, and an end of 0.
     pub(crate) fn nothing() -> Puts
         ensures held { result.held.items ≡ [] }
         ensures end { result.end ≡ 0 }
@@ -34,7 +34,7 @@ impl Puts {
         }
     }
 
-    /// Forgets what was put.
+    /// Removes all puts: no bytes are held back, and the end is 0.
     pub(crate) fn clear(&mut self)
         ensures held { self.new.held.items ≡ [] }
         ensures end { self.new.end ≡ 0 }
@@ -52,7 +52,7 @@ fn hold(held: &mut ArrayVec<u8, MAX_UNIT>, bytes: &[u8])
     let _ = held.try_extend_from_slice(bytes);
 }
 
-/// Holds back what makes no whole unit of the bytes that are held and these after them.
+/// Holds back in `held` what makes no whole unit of the bytes of `held` and `bytes` after them.
 pub(crate) fn hold_rest(held: &mut ArrayVec<u8, MAX_UNIT>, unit: Unit, bytes: &[u8])
     requires part { length held.old.items < unit_size unit }
     requires short { length bytes.now ≤ 4096 }
@@ -68,8 +68,8 @@ pub(crate) fn hold_rest(held: &mut ArrayVec<u8, MAX_UNIT>, unit: Unit, bytes: &[
     hold(held, &bytes[bytes.len() - rest..]);
 }
 
-/// Puts these bytes after those that are held, in the data of the slot that begins there, at the end of the puts. It writes the unit
-/// that the held bytes begin, if it is full now, and then all further whole units in one write, and holds the rest back.
+/// Puts `bytes` after those of `held`, in the data of the slot that begins at `slot`, at `end`, the end of the puts. The unit that the
+/// held bytes begin is written, if it is full now, and then all further whole units in one write, and the rest is held back.
 pub(crate) fn put_units<M: Medium>(
     medium: &mut M,
     held: &mut ArrayVec<u8, MAX_UNIT>,
@@ -77,8 +77,8 @@ pub(crate) fn put_units<M: Medium>(
     end: u32,
     bytes: &[u8],
 ) -> Result<(), WriteFault>
-    requires sized { IsSized (M.state medium.old) }
-    requires ahead { let was = M.state medium.old in IsAhead was (held_from was.grain slot end (length held.old.items)) }
+    requires sized { IsSizedMedium (M.state medium.old) }
+    requires ahead { let was = M.state medium.old in IsWritableAhead was (held_from was.grain slot end (length held.old.items)) }
     requires part { length held.old.items < unit_size (M.state medium.old).grain.unit }
     requires short { length bytes.now ≤ 4096 }
     requires within { let was = M.state medium.old in

@@ -1,15 +1,16 @@
-//! Readings of the slots of a medium.
+//! Readings of flash, and of the slots of a medium.
 ghost use Rattle.std.specs.Prelude.{◌≡◌, ℕ, ◌+◌, ◌*◌, ◌≤◌, ◌<◌, length, take, slice_index, slice_range, ◌==◌, ◌↔◌, IfSome, IfNone, IsTrue};
 ghost use Rattle.std.specs.Int.{w32, from_le_bytes};
+ghost use Rattle.dfu_suffix.specs.Register.{register};
 ghost use Rattle.dfu_slots.specs.Layout.{OPEN, slot_size, generation, header_version, HasHeader};
 ghost use Rattle.dfu_slots.specs.Image.{
   gate_of,
-  IsSized,
+  IsSizedMedium,
   slot_of,
   capacity_of,
-  Counts,
+  SlotCounts,
   is_intact,
-  counts,
+  slot_counts,
 };
 
 use crate::Medium;
@@ -17,9 +18,78 @@ use crate::layout::{
     OLD_VERSION, OPEN_GATE, VERSION, capacity_of, gate_of, is_formed, is_header, length_in,
 };
 use crate::register::register_of;
+use dfu_suffix::Crc;
+
+// Bytes that are copied at a time out of flash that is not mapped.
+const PIECE_BYTES: usize = 64;
 
 // Bytes that are read back at a time.
 const READ_BACK_BYTES: usize = 256;
+
+// Returns whether flash is memory that is read in place. No clause says what it answers, so whoever calls it is proved for both answers.
+fn is_mapped() -> bool {
+    true
+}
+
+/// Copies bytes of flash. Nothing else looks at a byte of flash that is not mapped.
+pub fn read_flash(flash: &[u8], out: &mut [u8])
+    requires { length flash.now ≡ length out.old }
+    ensures { out.new ≡ flash.now }
+{
+    out.copy_from_slice(flash);
+}
+
+/// Returns one byte of flash.
+pub fn flash_byte_at(flash: &[u8], at: usize) -> u8
+    requires { at < length flash.now }
+    ensures { result ≡ slice_index flash.now at }
+{
+    let mut byte = [0];
+    read_flash(&flash[at..at + 1], &mut byte);
+    byte[0]
+}
+
+/// Returns whether the bytes of flash from `from` up to `to`, without that one, are FFh.
+pub fn is_flash_erased(flash: &[u8], from: usize, to: usize) -> bool
+    requires { to ≤ length flash.now }
+    ensures { IsTrue result ↔ ((p : ℕ) → from ≤ p → p < to → slice_index flash.now p ≡ 255) }
+{
+    for i in from..to {
+        if flash_byte_at(flash, i) != 0xff {
+            return false;
+        }
+    }
+    true
+}
+
+// The register over flash that is copied piece by piece.
+fn crc_by_pieces(flash: &[u8]) -> Crc
+    ensures { result ≡ register flash.now }
+{
+    let mut crc = Crc::new();
+    let mut buffer = [0; PIECE_BYTES];
+    let mut at = 0;
+    while at < flash.len() {
+        let size = PIECE_BYTES.min(flash.len() - at);
+        let piece = &mut buffer[..size];
+        read_flash(&flash[at..at + size], piece);
+        crc.update_small(piece);
+        at += size;
+    }
+    crc
+}
+
+/// Returns the register over bytes of flash, to go on from.
+pub fn crc_of_flash(flash: &[u8]) -> Crc
+    ensures { result ≡ register flash.now }
+{
+    if !is_mapped() {
+        return crc_by_pieces(flash);
+    }
+    let mut crc = Crc::new();
+    crc.update_small(flash);
+    crc
+}
 
 /// The byte at this place.
 pub(crate) fn byte_at<M: Medium>(medium: &M, at: u32) -> u8
@@ -78,7 +148,7 @@ pub fn is_open<M: Medium>(medium: &M, at: u32) -> bool
 
 /// The 16 bytes of the header of the slot that begins there.
 pub fn header_of<M: Medium>(medium: &M, at: u32) -> [u8; 16]
-    requires sized { IsSized (M.state medium.now) }
+    requires sized { IsSizedMedium (M.state medium.now) }
     requires within { at + slot_size (M.state medium.now).bytes ≤ length (M.state medium.now).bytes }
     ensures { result ≡ (slot_of (M.state medium.now) at).header }
 {
@@ -89,7 +159,7 @@ pub fn header_of<M: Medium>(medium: &M, at: u32) -> [u8; 16]
 
 // Returns whether the slot that begins there has a well-formed header of version 2: its register is that of the image.
 fn is_intact<M: Medium>(medium: &M, at: u32) -> bool
-    requires sized { IsSized (M.state medium.now) }
+    requires sized { IsSizedMedium (M.state medium.now) }
     requires within { at + slot_size (M.state medium.now).bytes ≤ length (M.state medium.now).bytes }
     ensures { result ≡ is_intact (slot_of (M.state medium.now) at) }
 {
@@ -103,16 +173,16 @@ fn is_intact<M: Medium>(medium: &M, at: u32) -> bool
 
 /// Returns whether the slot that begins there counts.
 pub(crate) fn counts<M: Medium>(medium: &M, at: u32) -> bool
-    requires sized { IsSized (M.state medium.now) }
+    requires sized { IsSizedMedium (M.state medium.now) }
     requires within { at + slot_size (M.state medium.now).bytes ≤ length (M.state medium.now).bytes }
-    ensures { result ≡ counts (slot_of (M.state medium.now) at) }
+    ensures { result ≡ slot_counts (slot_of (M.state medium.now) at) }
 {
     is_open(medium, at) && (header_of(medium, at)[1] != VERSION || is_intact(medium, at))
 }
 
 /// The generation in the header of the slot that begins there.
 pub fn generation<M: Medium>(medium: &M, at: u32) -> u8
-    requires sized { IsSized (M.state medium.now) }
+    requires sized { IsSizedMedium (M.state medium.now) }
     requires within { at + gate_of (M.state medium.now) < length (M.state medium.now).bytes }
     ensures { result ≡ generation (slot_of (M.state medium.now) at) }
 {
@@ -122,9 +192,9 @@ pub fn generation<M: Medium>(medium: &M, at: u32) -> u8
 /// The length in the header of a slot that counts, if that is a well-formed header of an image that fits. A header of
 /// version 2 is, or the slot would not count.
 pub(crate) fn header_len<M: Medium>(medium: &M, at: u32) -> Option<u32>
-    requires sized { IsSized (M.state medium.now) }
+    requires sized { IsSizedMedium (M.state medium.now) }
     requires within { at + slot_size (M.state medium.now).bytes ≤ length (M.state medium.now).bytes }
-    requires counts { Counts (slot_of (M.state medium.now) at) }
+    requires counts { SlotCounts (slot_of (M.state medium.now) at) }
     ensures some { IfSome result (λ len. HasHeader (slot_of (M.state medium.now) at) len) }
     ensures none { IfNone result ((len : ℕ) → ¬ HasHeader (slot_of (M.state medium.now) at) len) }
 {
@@ -142,7 +212,7 @@ pub(crate) fn header_len<M: Medium>(medium: &M, at: u32) -> Option<u32>
 
 /// Returns the place at which the data of the slot begins.
 pub fn data_at<M: Medium>(medium: &M, slot_at: u32) -> u32
-    requires sized { IsSized (M.state medium.now) }
+    requires sized { IsSizedMedium (M.state medium.now) }
     requires slot { slot_at + slot_size (M.state medium.now).bytes ≤ length (M.state medium.now).bytes }
     ensures { result ≡ slot_at + 2 * gate_of (M.state medium.now) }
 {
@@ -151,7 +221,7 @@ pub fn data_at<M: Medium>(medium: &M, slot_at: u32) -> u32
 
 /// Reads bytes of the data of the slot that begins there, from `at` on.
 pub fn read_data<M: Medium>(medium: &M, slot_at: u32, at: u32, out: &mut [u8])
-    requires sized { IsSized (M.state medium.now) }
+    requires sized { IsSizedMedium (M.state medium.now) }
     requires slot { slot_at + slot_size (M.state medium.now).bytes ≤ length (M.state medium.now).bytes }
     requires within { at + length out.old ≤ capacity_of (M.state medium.now) }
     ensures { out.new ≡ slice_range (slot_of (M.state medium.now) slot_at).data_bytes at (at + length out.old) }

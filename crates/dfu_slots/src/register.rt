@@ -3,7 +3,7 @@ ghost use Rattle.std.specs.Prelude.{◌≡◌, ℕ, ◌+◌, ◌≤◌, List, �
 ghost use Rattle.dfu_suffix.specs.Register.{register};
 ghost use Rattle.dfu_slots.specs.Medium.{written};
 ghost use Rattle.dfu_slots.specs.Layout.{slot_size};
-ghost use Rattle.dfu_slots.specs.Image.{IsSized, slot_of, capacity_of};
+ghost use Rattle.dfu_slots.specs.Image.{IsSizedMedium, slot_of, capacity_of};
 
 use crate::Medium;
 use crate::read::read_data;
@@ -25,7 +25,7 @@ fn take_piece<M: Medium>(medium: &M, crc: &mut Crc, piece: &[u8])
 
 // The register over the first `len` bytes of the data of the slot that begins there, to go on from.
 fn crc_of<M: Medium>(medium: &M, slot_at: u32, len: u32) -> Crc
-    requires sized { IsSized (M.state medium.now) }
+    requires sized { IsSizedMedium (M.state medium.now) }
     requires slot { slot_at + slot_size (M.state medium.now).bytes ≤ length (M.state medium.now).bytes }
     requires within { len ≤ capacity_of (M.state medium.now) }
     ensures { result ≡ register (take len (slot_of (M.state medium.now) slot_at).data_bytes) }
@@ -43,9 +43,9 @@ fn crc_of<M: Medium>(medium: &M, slot_at: u32, len: u32) -> Crc
     crc
 }
 
-/// The register over the first `len` bytes of the data of the slot that begins there.
+/// Returns the register over the first `len` bytes of the data of the slot that begins at `slot_at`.
 pub(crate) fn register_of<M: Medium>(medium: &M, slot_at: u32, len: u32) -> u32
-    requires sized { IsSized (M.state medium.now) }
+    requires sized { IsSizedMedium (M.state medium.now) }
     requires slot { slot_at + slot_size (M.state medium.now).bytes ≤ length (M.state medium.now).bytes }
     requires within { len ≤ capacity_of (M.state medium.now) }
     ensures { result ≡ register (take len (slot_of (M.state medium.now) slot_at).data_bytes) }
@@ -53,8 +53,8 @@ pub(crate) fn register_of<M: Medium>(medium: &M, slot_at: u32, len: u32) -> u32
     crc_of(medium, slot_at, len).value()
 }
 
-/// The register over the first `len` bytes of what was put into the slot that begins there: so many of them are in its data, and
-/// these are held back.
+/// Returns the register over the first `len` bytes of what was put into the slot that begins at `slot_at`: the first `at` bytes are in its
+/// data, and `held` are held back.
 pub(crate) fn register_of_put<M: Medium>(
     medium: &M,
     slot_at: u32,
@@ -62,7 +62,7 @@ pub(crate) fn register_of_put<M: Medium>(
     held: &[u8],
     len: u32,
 ) -> u32
-    requires sized { IsSized (M.state medium.now) }
+    requires sized { IsSizedMedium (M.state medium.now) }
     requires slot { slot_at + slot_size (M.state medium.now).bytes ≤ length (M.state medium.now).bytes }
     requires within { at + length held.now ≤ capacity_of (M.state medium.now) }
     requires front { len ≤ at + length held.now }
@@ -74,7 +74,7 @@ pub(crate) fn register_of_put<M: Medium>(
     crc.value()
 }
 
-/// The register over an image, by the tables that the medium has chosen.
+/// Returns the register over `image`, by the tables that `medium` has chosen.
 pub(crate) fn register_of_image<M: Medium>(medium: &M, image: &[u8]) -> u32
     ensures { result ≡ register image.now }
 {

@@ -1,6 +1,6 @@
 //! A medium in memory.
 ghost use Rattle.std.specs.Prelude.{◌≡◌, ◌+◌, ◌-◌, ◌≤◌, ◌<◌, length, take, if◌then◌else◌, IfOk, OnOk, OnErr};
-ghost use Rattle.dfu_slots.specs.Units.{Grain, in_place, IsMultiple};
+ghost use Rattle.dfu_slots.specs.Units.{Grain, in_place_grain, IsMultiple};
 ghost use Rattle.dfu_slots.specs.Medium.{WroteOrLied, FailedWrite, blank_medium, written};
 ghost use Rattle.dfu_slots.specs.inside.Sim.{sim_state};
 
@@ -25,13 +25,13 @@ impl From<AllocError> for NoMemory {
 /// Behaviour of the next writes.
 #[derive(Clone, Copy, Drop)]
 pub enum Mode {
-    /// They all work.
+    /// All writes work.
     Whole,
-    /// So many work as `writes` says, and then one fails.
+    /// The next `writes` writes work, and the one after them fails.
     Armed,
-    /// So many work as `writes` says, and then one lies.
+    /// The next `writes` writes work, and the one after them lies.
     Lying,
-    /// They all fail.
+    /// All writes fail.
     Stopped,
 }
 
@@ -77,31 +77,31 @@ impl Model for SimMedium {
 }
 
 impl SimMedium {
-    /// A medium of `len` bytes FFh, which is written over in place, in bytes, and not armed.
+    /// Returns a medium of `len` bytes FFh, which is written over in place, byte by byte, and is not armed.
     ///
     /// # Errors
     ///
     /// `NoMemory` if there is no memory for the bytes.
     pub fn new(alloc: Global, len: u32) -> Result<SimMedium, NoMemory>
-        ensures { IfOk result (λ medium. medium ≡ blank_medium (in_place (Unit.Byte)) len) }
+        ensures { IfOk result (λ medium. medium ≡ blank_medium (in_place_grain (Unit.Byte)) len) }
     {
         SimMedium::with_unit(alloc, len, Unit::Byte)
     }
 
-    /// A medium of `len` bytes FFh, which is written over in place, in this unit, and not armed. `len` must be whole in it.
+    /// Returns a medium of `len` bytes FFh, a multiple of `unit`, which is written over in place in that unit, and is not armed.
     ///
     /// # Errors
     ///
     /// `NoMemory` if there is no memory for the bytes.
     pub fn with_unit(alloc: Global, len: u32, unit: Unit) -> Result<SimMedium, NoMemory>
         requires { IsMultiple unit len }
-        ensures { IfOk result (λ medium. medium ≡ blank_medium (in_place unit) len) }
+        ensures { IfOk result (λ medium. medium ≡ blank_medium (in_place_grain unit) len) }
     {
         SimMedium::with_sectors(alloc, len, unit, 0)
     }
 
-    /// A medium of `len` bytes FFh, which is written in this unit, erased in sectors of so many bytes (0: written over in
-    /// place), and not armed. `len` must be whole in the unit. An erase goes by the same fuse as a write.
+    /// Returns a medium of `len` bytes FFh, which is written in units of `unit`, erased in sectors of `sector` bytes (0: written over in
+    /// place), and is not armed. `len` must be a multiple of the unit. An erase goes by the same fuse as a write.
     ///
     /// # Errors
     ///
@@ -135,7 +135,7 @@ impl SimMedium {
         })
     }
 
-    /// Its last writes, for a trace.
+    /// Returns the last writes, for a trace.
     pub fn noted(&self) -> &LastWrites {
         &self.noted
     }

@@ -1,10 +1,10 @@
 //! The slot store.
 ghost use Rattle.std.specs.Prelude.{◌≡◌, ◌≢◌, [], ◌+◌, ◌*◌, ◌≤◌, ◌↔◌, length, take, slice_range, OnOk, OnErr, IfErr, IfOk, IsOk, true};
-ghost use Rattle.dfu_slots.specs.Medium.{Rose, AllWrites, BrokenWrites};
+ghost use Rattle.dfu_slots.specs.Medium.{CountRose, AllWrites, BrokenWrites};
 ghost use Rattle.dfu_slots.specs.Medium.Fuse.{Whole, Armed, Lying};
 ghost use Rattle.dfu_slots.specs.Image.{gate_of, capacity_of, active_at, Active, HasImage};
 ghost use Rattle.dfu_slots.specs.StoreView.{store_on, image_of, is_begun, room_of, is_shaped, format_series};
-ghost use Rattle.dfu_slots.specs.Changes.{CanFormat, IsFormatFault, IsOpenFault};
+ghost use Rattle.dfu_slots.specs.Changes.{CanFormat, IsFormatFault, FirstOpenFault};
 ghost use Rattle.dfu_slots.specs.Store.{IsStore};
 ghost use Rattle.dfu_slots.specs.CallResults.{FuseResult};
 
@@ -46,7 +46,7 @@ impl<M: Medium> Slots<M> {
     ///
     /// `WrongSize` if the medium's length is not 2 * (2 * G + C) with C from 1 to 16,777,216 and whole in
     /// the unit and the sector, G being the most of 16, the unit's size and the sector's, or if the sector is not 0, nor a
-    /// multiple of 256 up to 131,072; `TooLarge` if the image has more than C bytes;
+    /// multiple of 256 up to 262,144; `TooLarge` if the image has more than C bytes;
     /// `Failed` if a write failed, or other bytes were read back. They are looked for in this order. The first two hand
     /// the medium back unchanged.
     pub fn format(medium: M, image: &[u8]) -> Result<Slots<M>, (FormatFault, M)>
@@ -64,7 +64,7 @@ impl<M: Medium> Slots<M> {
         ensures failed { IfErr result (λ e. e.0 ≡ FormatFault.Failed → (fault : WriteFault) ×
             BrokenWrites fault (M.state medium) (format_series (M.state medium) image.now) (M.state e.1)) }
         ensures rose { IfErr result (λ e. e.0 ≡ FormatFault.Failed →
-            Rose (M.state medium).failures (M.state e.1).failures) }
+            CountRose (M.state medium).failures (M.state e.1).failures) }
     {
         if !is_sized(&medium) {
             return Err((FormatFault::WrongSize, medium));
@@ -101,7 +101,7 @@ impl<M: Medium> Slots<M> {
         ensures end { IfOk result (λ slots. slots.put_end ≡ 0) }
 
         ensures err { IfErr result (λ e. e.1 ≡ medium) }
-        ensures fault { IfErr result (λ e. IsOpenFault e.0 (M.state medium)) }
+        ensures fault { IfErr result (λ e. FirstOpenFault e.0 (M.state medium)) }
         ensures refused { OnErr result (¬ HasImage (M.state medium)) }
     {
         match check(&medium) {
@@ -133,7 +133,7 @@ impl<M: Medium> Slots<M> {
         self.puts.end
     }
 
-    /// The bytes held back: those put last that make no whole unit of the medium yet.
+    /// Returns the bytes held back: those put last that make no whole unit of the medium yet.
     pub fn held(&self) -> &[u8]
         ensures held { result.now ≡ self.now.held }
         ensures store { IsStore self.now }
@@ -194,7 +194,7 @@ impl<M: Medium> Slots<M> {
         }
     }
 
-    /// The medium, to be read. Bytes that are held back are not on it.
+    /// Returns the medium, to be read. Bytes that are held back are not on it.
     pub fn medium(&self) -> &M
         ensures medium { M.state result.now ≡ self.now.medium }
         ensures active { Active self.now.medium (image_of self.now) }
@@ -217,21 +217,21 @@ impl<M: Medium> Slots<M> {
 }
 
 impl<M: Faulty> Slots<M> {
-    /// As the medium's `arm`. It changes no byte.
+    /// Arms the medium, as `Faulty::arm`. Changes no byte.
     pub fn arm(&mut self, writes: u32, tear: &[u8], stop: bool)
         ensures { FuseResult self.old (Armed writes (take 4096 tear.now) stop) self.new }
     {
         self.medium.arm(writes, tear, stop);
     }
 
-    /// As the medium's `arm_lie`. It changes no byte.
+    /// Arms the medium for a lie, as `Faulty::arm_lie`. Changes no byte.
     pub fn arm_lie(&mut self, writes: u32, tear: &[u8])
         ensures { FuseResult self.old (Lying writes (take 4096 tear.now)) self.new }
     {
         self.medium.arm_lie(writes, tear);
     }
 
-    /// As the medium's `disarm`. It changes no byte.
+    /// Clears the fuse of the medium, as `Faulty::disarm`. Changes no byte.
     pub fn disarm(&mut self)
         ensures { FuseResult self.old (Whole) self.new }
     {

@@ -1,12 +1,12 @@
 //! The steps of the calls that change a medium: each works on the medium and on what was put.
 ghost use Rattle.std.specs.Prelude.{◌≡◌, ◌+◌, ◌≤◌, ◌<◌, ◌↔◌, length, IsErrOf, OnErr};
 ghost use Rattle.dfu_slots.specs.inside.Series.{Series};
-ghost use Rattle.dfu_slots.specs.Layout.{IsOpen};
-ghost use Rattle.dfu_slots.specs.Image.{gate_of, IsSized, capacity_of, active_at, spare_at};
+ghost use Rattle.dfu_slots.specs.Layout.{HasOpenGate};
+ghost use Rattle.dfu_slots.specs.Image.{gate_of, IsSizedMedium, capacity_of, active_at, spare_at};
 ghost use Rattle.dfu_slots.specs.Writes.{begin_writes};
 ghost use Rattle.dfu_slots.specs.StoreView.{store_on, store_of, spare_slot, writes_of, Begin, Put, Commit};
-ghost use Rattle.dfu_slots.specs.Store.{HasPuts};
-ghost use Rattle.dfu_slots.specs.Changes.{IsBroken, Changes};
+ghost use Rattle.dfu_slots.specs.Store.{HasPutBytes};
+ghost use Rattle.dfu_slots.specs.Changes.{CallIsBroken, CallChanges};
 
 use crate::gates::{close_gate, open_slot};
 use crate::layout::{VERSION, capacity_of, make_header};
@@ -18,7 +18,7 @@ use crate::{Medium, PutFault, WriteFault};
 
 // Closes the spare's gate, if it reads open.
 fn close_spare<M: Medium>(medium: &mut M, places: Places) -> Result<(), WriteFault>
-    requires sized { IsSized (M.state medium.old) }
+    requires sized { IsSizedMedium (M.state medium.old) }
     requires spare { places.spare ≡ spare_at (gate_of (M.state medium.old)) (M.state medium.old).bytes }
     ensures { let was = M.state medium.old in
         Series was (begin_writes was.grain was.bytes) result (M.state medium.new) }
@@ -35,11 +35,11 @@ pub(crate) fn begin<M: Medium>(
     puts: &mut Puts,
     places: Places,
 ) -> Result<(), PutFault>
-    requires sized { IsSized (M.state medium.old) }
+    requires sized { IsSizedMedium (M.state medium.old) }
     requires spare { places.spare ≡ spare_at (gate_of (M.state medium.old)) (M.state medium.old).bytes }
-    ensures changes { Changes (store_of (M.state medium.old) puts.old.held.items puts.old.end) (Begin) result
+    ensures changes { CallChanges (store_of (M.state medium.old) puts.old.held.items puts.old.end) (Begin) result
         (store_of (M.state medium.new) puts.new.held.items puts.new.end) }
-    ensures fault { OnErr result (IsBroken result) }
+    ensures fault { OnErr result (CallIsBroken result) }
 {
     puts.clear();
     match close_spare(medium, places) {
@@ -49,7 +49,7 @@ pub(crate) fn begin<M: Medium>(
     }
 }
 
-/// Puts these bytes after those that were put, as far as they make whole units, and holds the rest back.
+/// Puts `bytes` at `at`, after those that were put, as far as they make whole units, and holds the rest back.
 pub(crate) fn put<M: Medium>(
     medium: &mut M,
     puts: &mut Puts,
@@ -57,16 +57,16 @@ pub(crate) fn put<M: Medium>(
     at: u32,
     bytes: &[u8],
 ) -> Result<(), PutFault>
-    requires sized { IsSized (M.state medium.old) }
+    requires sized { IsSizedMedium (M.state medium.old) }
     requires spare { places.spare ≡ spare_at (gate_of (M.state medium.old)) (M.state medium.old).bytes }
-    requires puts { HasPuts (store_of (M.state medium.old) puts.old.held.items puts.old.end) }
+    requires puts { HasPutBytes (store_of (M.state medium.old) puts.old.held.items puts.old.end) }
     requires place { at ≡ puts.old.end }
     requires short { length bytes.now ≤ 4096 }
-    ensures changes { Changes (store_of (M.state medium.old) puts.old.held.items puts.old.end) (Put at bytes.now) result
+    ensures changes { CallChanges (store_of (M.state medium.old) puts.old.held.items puts.old.end) (Put at bytes.now) result
         (store_of (M.state medium.new) puts.new.held.items puts.new.end) }
-    ensures not_begun { IsErrOf result PutFault.NotBegun ↔ IsOpen (spare_slot (store_on (M.state medium.old))) }
+    ensures not_begun { IsErrOf result PutFault.NotBegun ↔ HasOpenGate (spare_slot (store_on (M.state medium.old))) }
     ensures too_large { IsErrOf result PutFault.TooLarge ↔
-        ((¬ IsOpen (spare_slot (store_on (M.state medium.old)))) ×
+        ((¬ HasOpenGate (spare_slot (store_on (M.state medium.old)))) ×
         (capacity_of (M.state medium.old) < at + length bytes.now)) }
 {
     if is_open(medium, places.spare) {
@@ -98,8 +98,8 @@ fn open_spare<M: Medium>(
     puts: &Puts,
     len: u32,
 ) -> Result<(), WriteFault>
-    requires sized { IsSized (M.state medium.old) }
-    requires puts { HasPuts (store_of (M.state medium.old) puts.now.held.items puts.now.end) }
+    requires sized { IsSizedMedium (M.state medium.old) }
+    requires puts { HasPutBytes (store_of (M.state medium.old) puts.now.held.items puts.now.end) }
     requires active { places.active ≡ active_at (gate_of (M.state medium.old)) (M.state medium.old).bytes }
     requires spare { places.spare ≡ spare_at (gate_of (M.state medium.old)) (M.state medium.old).bytes }
     requires end { len ≤ puts.now.end }
@@ -121,14 +121,14 @@ pub(crate) fn commit<M: Medium>(
     places: Places,
     len: u32,
 ) -> Result<(), PutFault>
-    requires sized { IsSized (M.state medium.old) }
+    requires sized { IsSizedMedium (M.state medium.old) }
     requires active { places.active ≡ active_at (gate_of (M.state medium.old)) (M.state medium.old).bytes }
     requires spare { places.spare ≡ spare_at (gate_of (M.state medium.old)) (M.state medium.old).bytes }
-    requires puts { HasPuts (store_of (M.state medium.old) puts.old.held.items puts.old.end) }
+    requires puts { HasPutBytes (store_of (M.state medium.old) puts.old.held.items puts.old.end) }
     requires end { len ≤ puts.old.end }
-    ensures changes { Changes (store_of (M.state medium.old) puts.old.held.items puts.old.end) (Commit len) result
+    ensures changes { CallChanges (store_of (M.state medium.old) puts.old.held.items puts.old.end) (Commit len) result
         (store_of (M.state medium.new) puts.new.held.items puts.new.end) }
-    ensures not_begun { IsErrOf result PutFault.NotBegun ↔ IsOpen (spare_slot (store_on (M.state medium.old))) }
+    ensures not_begun { IsErrOf result PutFault.NotBegun ↔ HasOpenGate (spare_slot (store_on (M.state medium.old))) }
     ensures fits { ¬ IsErrOf result PutFault.TooLarge }
 {
     if is_open(medium, places.spare) {

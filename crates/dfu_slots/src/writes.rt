@@ -1,16 +1,16 @@
 //! The one function through which the store writes, and the writes that are made by it.
 ghost use Rattle.std.specs.Prelude.{◌+◌, ◌≤◌, length, OnOk, IfErr};
 ghost use Rattle.dfu_slots.specs.Units.{IsMultiple};
-ghost use Rattle.dfu_slots.specs.Medium.{WroteBytes, FailedWrite, IsAhead, IsWritable};
+ghost use Rattle.dfu_slots.specs.Medium.{WroteBytes, FailedWrite, IsWritableAhead, IsWritable};
 ghost use Rattle.dfu_slots.specs.inside.Series.{Series};
-ghost use Rattle.dfu_slots.specs.Image.{IsSized};
+ghost use Rattle.dfu_slots.specs.Image.{IsSizedMedium};
 ghost use Rattle.dfu_slots.specs.Writes.{write_some};
 
 use crate::erasing::erase_within;
 use crate::read::stands_at;
 use crate::{Medium, WriteFault};
 
-/// Writes these bytes there, and reads them back. All writes of the store go through it.
+/// Writes `bytes` to `medium` at `at`, and reads them back. All writes of the store go through this call.
 pub(crate) fn write<M: Medium>(medium: &mut M, at: u32, bytes: &[u8]) -> Result<(), WriteFault>
     requires within { at + length bytes.now ≤ length (M.state medium.old).bytes }
     requires place { IsMultiple (M.state medium.old).grain.unit at }
@@ -30,10 +30,11 @@ pub(crate) fn write<M: Medium>(medium: &mut M, at: u32, bytes: &[u8]) -> Result<
     }
 }
 
-/// Writes these bytes there, and nothing for no bytes. On a medium with sectors it erases those before that begin in their range.
+/// Writes `bytes` to `medium` at `at`, and nothing for no bytes. On a medium with sectors the sectors that begin in their range are erased
+/// before.
 pub(crate) fn write_some<M: Medium>(medium: &mut M, at: u32, bytes: &[u8]) -> Result<(), WriteFault>
-    requires sized { IsSized (M.state medium.old) }
-    requires ahead { IsAhead (M.state medium.old) at }
+    requires sized { IsSizedMedium (M.state medium.old) }
+    requires ahead { IsWritableAhead (M.state medium.old) at }
     requires within { at + length bytes.now ≤ length (M.state medium.old).bytes }
     requires place { IsMultiple (M.state medium.old).grain.unit at }
     requires whole { IsMultiple (M.state medium.old).grain.unit (length bytes.now) }

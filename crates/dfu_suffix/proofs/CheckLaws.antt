@@ -1,45 +1,45 @@
--- What checking answers for bytes.
+-- Results of checking are those of the bytes.
 use Rattle.std.proofs.Common.{◌≡◌, ℕ, ◌+◌, ◌-◌, ◌<◌, ◌≤◌, Bool, true, cond, ltb, List, [], ◌∷◌, length, drop, Some, Result, Ok, Err, refl, sym, ap, ◌∙◌, subst, arith}
 use Rattle.std.specs.Prelude.{find}
 use Rattle.std.proofs.lemmas.Bool.Decides.{nat_tests}
 use Rattle.byteorder.specs.Endian.{little_number}
 use Rattle.dfu_suffix.specs.Register.{register}
 use Rattle.dfu_suffix.specs.Grammar.{Content, IsFile, First, before_crc, has_fault}
-use Rattle.dfu_suffix.specs.inside.Reading.{reading}
+use Rattle.dfu_suffix.specs.inside.Reading.{read_content}
 use Rattle.dfu_suffix.specs.inside.TailChecks.{register_checked}
-use Rattle.dfu_suffix.specs.Checking.{Checks, UnlessRead, summary_of}
+use Rattle.dfu_suffix.specs.Checking.{CheckResult, UnlessRead, summary_of}
 use Rattle.dfu_suffix.specs.Laws.{AreBytes}
-use Rattle.dfu_suffix.proofs.OneReading.{reading_fault, never_both, one_reading}
+use Rattle.dfu_suffix.proofs.OneReading.{fault_of_reading_is_first, file_bytes_have_no_fault, one_reading}
 use Rattle.dfu_wire.specs.declared.ids.Ids.{Ids}
 use Rattle.dfu_suffix.specs.declared.summary.Summary.{Summary}
 use Rattle.dfu_suffix.specs.declared.fault.SuffixFault.{SuffixFault}
 use Rattle.dfu_suffix.specs.declared.fault.SuffixFault.TheVariants.{TooShort, NoSignature, BadLength, DfuSe, BadCrc, AlreadySuffixed, TooLarge, NoMemory, Read, Write}
-use Rattle.dfu_suffix.proofs.FileLaws.{crc_stored, reading_found}
-use Rattle.dfu_suffix.proofs.JudgeLaws.{said_same, summary_in, summed, judged_is_read}
+use Rattle.dfu_suffix.proofs.FileLaws.{file_ends_in_its_crc, read_content_is_of_file}
+use Rattle.dfu_suffix.proofs.JudgeLaws.{summaries_of_equal_parts, summary_of_content, summary_result_of_reading, window_check_is_reading}
 use Rattle.dfu_suffix.proofs.Windows.{window_of}
 
 -- A file of the grammar is accepted, with its summary.
-checks_file : (p : List ℕ) (i : Ids) (d : ℕ) (x b : List ℕ) → IsFile p i d x b → Checks b (Ok (summary_of p i d x))
-checks_file p i d x b h = record {
+file_is_accepted : (p : List ℕ) (i : Ids) (d : ℕ) (x b : List ℕ) → IsFile p i d x b → CheckResult b (Ok (summary_of p i d x))
+file_is_accepted p i d x b h = record {
   found = (p, x, h, refl);
   only = λ q j e y k. let same = one_reading b p q i j d e x y h k in cc;
-  fault = λ f. (λ e. cc, λ first. absurd (never_both b f (p, i, d, x, h) first));
+  fault = λ f. (λ e. cc, λ first. absurd (file_bytes_have_no_fault b f (p, i, d, x, h) first));
 }
 
--- What was read of a file sums it up.
-checks_read : (b : List ℕ) (c : Content) (extra : List ℕ) → IsFile c.payload c.ids c.dfu extra b →
-    c.suffix ≡ 16 + length extra → Checks b (Ok (summary_in b c))
-checks_read b c extra h long =
-    subst (λ (s : Summary). Checks b (Ok s))
-    (sym (said_same (length c.payload) (length c.payload) c.suffix (16 + length extra) c.dfu
+-- Content that was read of a file has its summary for a result.
+read_content_is_summed_up : (b : List ℕ) (c : Content) (extra : List ℕ) → IsFile c.payload c.ids c.dfu extra b →
+    c.suffix ≡ 16 + length extra → CheckResult b (Ok (summary_of_content b c))
+read_content_is_summed_up b c extra h long =
+    subst (λ (s : Summary). CheckResult b (Ok s))
+    (sym (summaries_of_equal_parts (length c.payload) (length c.payload) c.suffix (16 + length extra) c.dfu
     (little_number 4 (drop (length b - 4) b)) (register (before_crc c.payload c.ids c.dfu extra)) c.ids refl long
-    (crc_stored c.payload c.ids c.dfu extra b h))) (checks_file c.payload c.ids c.dfu extra b h)
+    (file_ends_in_its_crc c.payload c.ids c.dfu extra b h))) (file_is_accepted c.payload c.ids c.dfu extra b h)
 
--- The first fault is the answer.
-checks_fault : (b : List ℕ) (f : SuffixFault) → First f b → Checks b (Err f)
-checks_fault b f first = record {
+-- The first fault of the bytes is the result of checking them.
+first_fault_is_check_result : (b : List ℕ) (f : SuffixFault) → First f b → CheckResult b (Err f)
+first_fault_is_check_result b f first = record {
   found = tt;
-  only = λ p i d x h. absurd (never_both b f (p, i, d, x, h) first);
+  only = λ p i d x h. absurd (file_bytes_have_no_fault b f (p, i, d, x, h) first);
   fault = λ g. (
     λ e. let same : f ≡ g = cc in subst (λ (z : SuffixFault). First z b) same first,
     λ other. let same : Some f
@@ -48,32 +48,36 @@ checks_fault b f first = record {
 }
 
 -- Bytes over the limit are answered by TooLarge.
-pub checks_large : (b : List ℕ) → 16777216 < length b → Checks b (Err TooLarge)
-checks_large b h =
+pub large_file_is_too_large : (b : List ℕ) → 16777216 < length b → CheckResult b (Err TooLarge)
+large_file_is_too_large b h =
     let yes : ltb 16777216 (length b) ≡ true = grind (arith, nat_tests) in
-    checks_fault b TooLarge (ap (λ (t : Bool).
+    first_fault_is_check_result b TooLarge (ap (λ (t : Bool).
     cond t (Some TooLarge) (find (has_fault b) (TooShort ∷ NoSignature ∷ BadLength ∷ DfuSe ∷ BadCrc ∷ []))) yes)
 
--- What sums up what was read is the answer.
-checks_summed : (b : List ℕ) (r : Result Content SuffixFault) → AreBytes b → reading b ≡ r → Checks b (summed b r)
-checks_summed b (Ok c) f e = let (extra, is_file, long) = reading_found b c f e in checks_read b c extra is_file long
-checks_summed b (Err x) f e = checks_fault b x ((reading_fault b x).0 e)
+-- The summary of what was read is the result of checking the bytes.
+summed_reading_is_check_result : (b : List ℕ) (r : Result Content SuffixFault) → AreBytes b → read_content b ≡ r →
+    CheckResult b (summary_result_of_reading b r)
+summed_reading_is_check_result b (Ok c) f e = let (extra, is_file, long) = read_content_is_of_file b c f e in read_content_is_summed_up b c
+    extra is_file long
+summed_reading_is_check_result b (Err x) f e = first_fault_is_check_result b x ((fault_of_reading_is_first b x).0 e)
 
--- What is judged by the window, the count and the register is the answer.
-pub checks_judged : (s : List ℕ) → AreBytes s → length s ≤ 16777216 → Checks s (register_checked (window_of s) (length s) (register s))
-checks_judged s f small = subst (λ (r : Result Summary SuffixFault). Checks s r) (sym (judged_is_read s f small))
-    (checks_summed s (reading s) f refl)
+-- The result by the window, the count and the register is the result of checking the bytes.
+pub checked_register_is_check_result : (s : List ℕ) → AreBytes s → length s ≤ 16777216 →
+    CheckResult s (register_checked (window_of s) (length s) (register s))
+checked_register_is_check_result s f small = subst (λ (r : Result Summary SuffixFault). CheckResult s r) (sym (window_check_is_reading s f
+    small))
+    (summed_reading_is_check_result s (read_content s) f refl)
 
--- What holds for every answer holds unless the answer is Read.
-pub unless_read : (r : Result Summary SuffixFault) (P : Type 0) → P → UnlessRead r P
-unless_read (Ok s) P p = p
-unless_read (Err TooShort) P p = p
-unless_read (Err NoSignature) P p = p
-unless_read (Err BadLength) P p = p
-unless_read (Err DfuSe) P p = p
-unless_read (Err BadCrc) P p = p
-unless_read (Err AlreadySuffixed) P p = p
-unless_read (Err TooLarge) P p = p
-unless_read (Err NoMemory) P p = p
-unless_read (Err Read) P p = tt
-unless_read (Err Write) P p = p
+-- A fact holds unless the answer is `Read`, if it holds for any answer.
+pub fact_holds_unless_read : (r : Result Summary SuffixFault) (P : Type 0) → P → UnlessRead r P
+fact_holds_unless_read (Ok s) P p = p
+fact_holds_unless_read (Err TooShort) P p = p
+fact_holds_unless_read (Err NoSignature) P p = p
+fact_holds_unless_read (Err BadLength) P p = p
+fact_holds_unless_read (Err DfuSe) P p = p
+fact_holds_unless_read (Err BadCrc) P p = p
+fact_holds_unless_read (Err AlreadySuffixed) P p = p
+fact_holds_unless_read (Err TooLarge) P p = p
+fact_holds_unless_read (Err NoMemory) P p = p
+fact_holds_unless_read (Err Read) P p = tt
+fact_holds_unless_read (Err Write) P p = p

@@ -1,52 +1,57 @@
 -- Numbers that are combined, place by place.
 use Rattle.std.proofs.Common.{◌≡◌, ℕ, List, [], ◌∷◌, bit_xor, refl, sym, ap, ◌∙◌}
 use Rattle.std.specs.Int.Bits.{xor_assoc, xor_self, xor_zero_l, xor_zero_r}
-use Rattle.dfu_suffix.proofs.Shifts.{shifts_of_xor, swap_last}
+use Rattle.dfu_suffix.proofs.Shifts.{shifts_of_xor, xor_last_two_swap}
 use Rattle.dfu_suffix.specs.Register.{shifts}
-use Rattle.dfu_suffix.specs.inside.Folding.{combined}
+use Rattle.dfu_suffix.specs.inside.Folding.{combined_numbers}
 
-interchange : (a b c d : ℕ) → bit_xor (bit_xor a b) (bit_xor c d) ≡ bit_xor (bit_xor a c) (bit_xor b d)
-interchange a b c d =
-    sym (xor_assoc (bit_xor a b) c d) ∙ (ap (λ (z : ℕ). bit_xor z d) (swap_last a b c) ∙ xor_assoc (bit_xor a c) b d)
+-- The inner two of four numbers in an xor may change places.
+xor_inner_pair_swaps : (a b c d : ℕ) → bit_xor (bit_xor a b) (bit_xor c d) ≡ bit_xor (bit_xor a c) (bit_xor b d)
+xor_inner_pair_swaps a b c d =
+    sym (xor_assoc (bit_xor a b) c d) ∙ (ap (λ (z : ℕ). bit_xor z d) (xor_last_two_swap a b c) ∙ xor_assoc (bit_xor a c) b d)
 
--- What is combined of two numbers at each place is combined of each.
-pub combined_xor : (f g : ℕ → ℕ) (a b : ℕ) (ns : List ℕ) →
-    combined (λ n. bit_xor (f n) (g n)) (bit_xor a b) ns ≡ bit_xor (combined f a ns) (combined g b ns)
-unfolding combined
-combined_xor f g a b [] = refl
-combined_xor f g a b (n ∷ ns) =
-    ap (λ (z : ℕ). combined (λ k. bit_xor (f k) (g k)) z ns) (interchange a b (f n) (g n))
-    ∙ combined_xor f g (bit_xor a (f n)) (bit_xor b (g n)) ns
+-- To combine `f n` xor `g n` over a list gives the xor of what f gives and what g gives.
+pub combined_numbers_of_xor : (f g : ℕ → ℕ) (a b : ℕ) (ns : List ℕ) →
+    combined_numbers (λ n. bit_xor (f n) (g n)) (bit_xor a b) ns ≡ bit_xor (combined_numbers f a ns) (combined_numbers g b ns)
+unfolding combined_numbers
+combined_numbers_of_xor f g a b [] = refl
+combined_numbers_of_xor f g a b (n ∷ ns) =
+    ap (λ (z : ℕ). combined_numbers (λ k. bit_xor (f k) (g k)) z ns) (xor_inner_pair_swaps a b (f n) (g n))
+    ∙ combined_numbers_of_xor f g (bit_xor a (f n)) (bit_xor b (g n)) ns
 
 -- Numbers may be shifted before they are combined or after it.
-pub combined_shifts : (k : ℕ) (f : ℕ → ℕ) (a : ℕ) (ns : List ℕ) →
-    combined (λ n. shifts k (f n)) (shifts k a) ns ≡ shifts k (combined f a ns)
-unfolding combined
-combined_shifts k f a [] = refl
-combined_shifts k f a (n ∷ ns) =
-    ap (λ (z : ℕ). combined (λ m. shifts k (f m)) z ns) (sym (shifts_of_xor k a (f n))) ∙ combined_shifts k f (bit_xor a (f n)) ns
+pub combined_numbers_of_shifts : (k : ℕ) (f : ℕ → ℕ) (a : ℕ) (ns : List ℕ) →
+    combined_numbers (λ n. shifts k (f n)) (shifts k a) ns ≡ shifts k (combined_numbers f a ns)
+unfolding combined_numbers
+combined_numbers_of_shifts k f a [] = refl
+combined_numbers_of_shifts k f a (n ∷ ns) =
+    ap (λ (z : ℕ). combined_numbers (λ m. shifts k (f m)) z ns) (sym (shifts_of_xor k a (f n)))
+    ∙ combined_numbers_of_shifts k f (bit_xor a (f n)) ns
 
--- The same numbers are combined to the same.
-pub combined_same : (f g : ℕ → ℕ) (a : ℕ) (ns : List ℕ) → ((n : ℕ) → f n ≡ g n) → combined f a ns ≡ combined g a ns
-unfolding combined
-combined_same f g a [] h = refl
-combined_same f g a (n ∷ ns) h = ap (λ (z : ℕ). combined f (bit_xor a z) ns) (h n) ∙ combined_same f g (bit_xor a (g n)) ns h
+-- Two functions that agree combine numbers to the same number.
+pub combined_numbers_of_equal : (f g : ℕ → ℕ) (a : ℕ) (ns : List ℕ) → ((n : ℕ) → f n ≡ g n) → combined_numbers f a ns
+    ≡ combined_numbers g a ns
+unfolding combined_numbers
+combined_numbers_of_equal f g a [] h = refl
+combined_numbers_of_equal f g a (n ∷ ns) h = ap (λ (z : ℕ). combined_numbers f (bit_xor a z) ns) (h n)
+    ∙ combined_numbers_of_equal f g (bit_xor a (g n)) ns h
 
--- A number that is combined twice is gone.
-pub twice_xor : (a b : ℕ) → bit_xor (bit_xor a b) b ≡ a
-twice_xor a b = xor_assoc a b b ∙ (ap (bit_xor a) (xor_self b) ∙ xor_zero_r a)
+-- A number that is combined twice by xor cancels.
+pub xor_twice_is_nothing : (a b : ℕ) → bit_xor (bit_xor a b) b ≡ a
+xor_twice_is_nothing a b = xor_assoc a b b ∙ (ap (bit_xor a) (xor_self b) ∙ xor_zero_r a)
 
--- What is combined with a number is combined from 0, and then with it.
-combined_start : (f : ℕ → ℕ) (a : ℕ) (ns : List ℕ) → combined f a ns ≡ bit_xor a (combined f 0 ns)
-unfolding combined
-combined_start f a [] = sym (xor_zero_r a)
-combined_start f a (n ∷ ns) =
-    combined_start f (bit_xor a (f n)) ns
-    ∙ (xor_assoc a (f n) (combined f 0 ns)
-    ∙ ap (bit_xor a) (sym (combined_start f (f n) ns) ∙ ap (λ (z : ℕ). combined f z ns) (sym (xor_zero_l (f n)))))
+-- Numbers combined from `a` are those combined from 0, xor `a`.
+combined_numbers_from_zero : (f : ℕ → ℕ) (a : ℕ) (ns : List ℕ) → combined_numbers f a ns ≡ bit_xor a (combined_numbers f 0 ns)
+unfolding combined_numbers
+combined_numbers_from_zero f a [] = sym (xor_zero_r a)
+combined_numbers_from_zero f a (n ∷ ns) =
+    combined_numbers_from_zero f (bit_xor a (f n)) ns
+    ∙ (xor_assoc a (f n) (combined_numbers f 0 ns)
+    ∙ ap (bit_xor a) (sym (combined_numbers_from_zero f (f n) ns) ∙ ap (λ (z : ℕ). combined_numbers f z ns) (sym (xor_zero_l (f n)))))
 
--- What is combined twice is gone.
-pub combined_twice : (f : ℕ → ℕ) (a : ℕ) (ns : List ℕ) → combined f (combined f a ns) ns ≡ a
-combined_twice f a ns =
-    combined_start f (combined f a ns) ns
-    ∙ (ap (λ (z : ℕ). bit_xor z (combined f 0 ns)) (combined_start f a ns) ∙ twice_xor a (combined f 0 ns))
+-- A list that is combined twice cancels.
+pub combined_twice_is_nothing : (f : ℕ → ℕ) (a : ℕ) (ns : List ℕ) → combined_numbers f (combined_numbers f a ns) ns ≡ a
+combined_twice_is_nothing f a ns =
+    combined_numbers_from_zero f (combined_numbers f a ns) ns
+    ∙ (ap (λ (z : ℕ). bit_xor z (combined_numbers f 0 ns)) (combined_numbers_from_zero f a ns)
+    ∙ xor_twice_is_nothing a (combined_numbers f 0 ns))

@@ -4,19 +4,19 @@ use Rattle.std.proofs.lemmas.List.{drop-drop, drop-set-add, drop-take, get_or-dr
 use Rattle.std.proofs.lemmas.Nat.{xor_lt}
 use Rattle.std.specs.List.{copy_within}
 use Rattle.dfu_suffix.proofs.Bytes.{AreBytes-drop, AreBytes-set, AreBytes-take}
-use Rattle.dfu_suffix.proofs.Tables.{after_more}
+use Rattle.dfu_suffix.proofs.Tables.{register_after_more}
 use Rattle.dfu_suffix.specs.Laws.{AreBytes}
 use Rattle.dfu_suffix.specs.Register.{after_bits, bits_of, low_bits}
-use Rattle.dfu_suffix.specs.inside.Folding.{combined, register_of_residue}
-use Rattle.dfu_suffix.proofs.FoldSteps.{fold_step, folded}
+use Rattle.dfu_suffix.specs.inside.Folding.{combined_numbers, register_of_residue}
+use Rattle.dfu_suffix.proofs.FoldSteps.{folding_takes_byte, folded_byte}
 
-residue_at : (room : List ℕ) (i k : ℕ) → k < 1968 → get_or (take 1968 (drop i room)) k 0 ≡ get_or room (i + k) 0
-residue_at room i k h = get_or-take 1968 (drop i room) k 0 h ∙ get_or-drop i room k 0
+residue_byte_in_room : (room : List ℕ) (i k : ℕ) → k < 1968 → get_or (take 1968 (drop i room)) k 0 ≡ get_or room (i + k) 0
+residue_byte_in_room room i k h = get_or-take 1968 (drop i room) k 0 h ∙ get_or-drop i room k 0
 
--- A byte was set after the residue.
-residue_step : (room : List ℕ) (i c : ℕ) → i + 1968 < length room →
+-- Once a byte is set behind the residue, the residue from the next place on ends in the byte.
+residue_slides_by_byte : (room : List ℕ) (i c : ℕ) → i + 1968 < length room →
     take 1968 (drop (i + 1) (set room (i + 1968) c)) ≡ drop 1 (take 1968 (drop i room)) ++ c ∷ []
-residue_step room i c h =
+residue_slides_by_byte room i c h =
     let place : i + 1968 ≡ (i + 1) + 1967 = omega arith in
     let fits : 1967 < length (drop (i + 1) room) = omega (arith, length-drop (i + 1) room) in
     ap (λ (k : ℕ). take 1968 (drop (i + 1) (set room k c))) place
@@ -24,14 +24,14 @@ residue_step room i c h =
     ∙ (take_more_set (drop (i + 1) room) 1967 c fits
     ∙ ap (λ (ys : List ℕ). ys ++ c ∷ []) (ap (take 1967) (sym (drop-drop 1 i room)) ∙ sym (drop-take 1 1967 (drop i room)))))
 
--- The byte that comes after the residue at a place of the room.
-abbrev pub folded_at : ℕ → List ℕ → ℕ → ℕ
-folded_at m room i =
+-- The byte that comes behind the residue at place `i` of the room.
+abbrev pub folded_byte_at : ℕ → List ℕ → ℕ → ℕ
+folded_byte_at m room i =
     bit_xor (bit_xor (bit_xor (bit_xor (bit_xor (bit_xor m (get_or room i 0)) (get_or room (i + 720) 0)) (get_or room (i + 848) 0))
     (get_or room (i + 1184) 0)) (get_or room (i + 1280) 0)) (get_or room (i + 1920) 0)
 
-folded_fits : (m : ℕ) (room : List ℕ) (i : ℕ) → m < 256 → AreBytes room → folded_at m room i < 256
-folded_fits m room i h f =
+folded_byte_is_byte : (m : ℕ) (room : List ℕ) (i : ℕ) → m < 256 → AreBytes room → folded_byte_at m room i < 256
+folded_byte_is_byte m room i h f =
     let b = λ (k : ℕ). get_or room k 0 in
     let n0 = bit_xor m (b i) in
     let n1 = bit_xor n0 (b (i + 720)) in
@@ -45,50 +45,50 @@ folded_fits m room i h f =
     let h4 : n4 < 2 ^ 8 = xor_lt 8 n3 (b (i + 1280)) h3 (f (i + 1280)) in
     xor_lt 8 n4 (b (i + 1920)) h4 (f (i + 1920))
 
-folded_same : (m : ℕ) (room : List ℕ) (i : ℕ) → folded_at m room i ≡ folded m (take 1968 (drop i room))
-unfolding combined
-folded_same m room i =
+folded_byte_of_residue : (m : ℕ) (room : List ℕ) (i : ℕ) → folded_byte_at m room i ≡ folded_byte m (take 1968 (drop i room))
+unfolding combined_numbers
+folded_byte_of_residue m room i =
     let here : i ≡ i + 0 = omega arith in
-    let e0 = ap (λ (k : ℕ). get_or room k 0) here ∙ sym (residue_at room i 0 (omega arith)) in
-    let e1 = residue_at room i 720 (omega arith) in
-    let e2 = residue_at room i 848 (omega arith) in
-    let e3 = residue_at room i 1184 (omega arith) in
-    let e4 = residue_at room i 1280 (omega arith) in
-    let e5 = residue_at room i 1920 (omega arith) in
+    let e0 = ap (λ (k : ℕ). get_or room k 0) here ∙ sym (residue_byte_in_room room i 0 (omega arith)) in
+    let e1 = residue_byte_in_room room i 720 (omega arith) in
+    let e2 = residue_byte_in_room room i 848 (omega arith) in
+    let e3 = residue_byte_in_room room i 1184 (omega arith) in
+    let e4 = residue_byte_in_room room i 1280 (omega arith) in
+    let e5 = residue_byte_in_room room i 1920 (omega arith) in
     cc
 
--- What a turn of folding keeps: the room has only bytes, and the residue at this place represents the register so far.
-pub record Folds (start : ℕ) (bytes room : List ℕ) (i : ℕ) : Type 0 where
+-- Each turn of folding keeps this: the room has only bytes, and the residue at place `i` represents the register after the first `i` bytes.
+pub record FoldedSoFar (start : ℕ) (bytes room : List ℕ) (i : ℕ) : Type 0 where
   pub long : length room ≡ 6064
   pub each : AreBytes room
   pub so_far : register_of_residue (take 1968 (drop i room)) ≡ after_bits start (bits_of (take i bytes))
 
--- A byte more.
-pub folds_more : (start : ℕ) (bytes room : List ℕ) (i : ℕ) → Folds start bytes room i → AreBytes bytes → i < length bytes →
-    length bytes ≤ 4096 → Folds start bytes (set room (i + 1968) (folded_at (get_or bytes i 0) room i)) (i + 1)
-folds_more start bytes room i p f h short =
+-- A further byte of the input moves the residue on by one place.
+pub fold_turn_takes_byte : (start : ℕ) (bytes room : List ℕ) (i : ℕ) → FoldedSoFar start bytes room i → AreBytes bytes → i < length bytes →
+    length bytes ≤ 4096 → FoldedSoFar start bytes (set room (i + 1968) (folded_byte_at (get_or bytes i 0) room i)) (i + 1)
+fold_turn_takes_byte start bytes room i p f h short =
     let m = get_or bytes i 0 in
-    let c = folded_at m room i in
+    let c = folded_byte_at m room i in
     let residue = take 1968 (drop i room) in
     let behind : i + 1968 < length room = omega (arith, p.long) in
-    let fits : c < 256 = folded_fits m room i (f i) p.each in
+    let fits : c < 256 = folded_byte_is_byte m room i (f i) p.each in
     let long : length residue ≡ 1968 = length-take-le 1968 (drop i room) (omega (arith, length-drop i room)) in
     let each : AreBytes residue = AreBytes-take 1968 (drop i room) (AreBytes-drop room i p.each) in
     record {
       long = length-set room (i + 1968) c ∙ p.long;
       each = AreBytes-set room (i + 1968) c p.each fits;
       so_far =
-          ap register_of_residue (residue_step room i c behind)
-          ∙ (fold_step m c residue long each (f i) fits (folded_same m room i)
-          ∙ (ap (λ (r : ℕ). after_bits r (low_bits 8 m)) p.so_far ∙ sym (after_more start bytes i h)));
+          ap register_of_residue (residue_slides_by_byte room i c behind)
+          ∙ (folding_takes_byte m c residue long each (f i) fits (folded_byte_of_residue m room i)
+          ∙ (ap (λ (r : ℕ). after_bits r (low_bits 8 m)) p.so_far ∙ sym (register_after_more start bytes i h)));
     }
 
 -- At the end the residue is copied to the front of the room.
-pub folds_end : (start i : ℕ) (bytes room : List ℕ) → Folds start bytes room i → i ≡ length bytes → length bytes ≤ 4096 →
+pub fold_ends_in_front : (start i : ℕ) (bytes room : List ℕ) → FoldedSoFar start bytes room i → i ≡ length bytes → length bytes ≤ 4096 →
     register_of_residue (take 1968 (copy_within room (length bytes) (length bytes + 1968) 0)) ≡ after_bits start (bits_of bytes)
-folds_end start i bytes room p all short =
+fold_ends_in_front start i bytes room p all short =
     let n = length bytes in
-    let q : Folds start bytes room n = subst (Folds start bytes room) all p in
+    let q : FoldedSoFar start bytes room n = subst (FoldedSoFar start bytes room) all p in
     let size : n + 1968 - n ≡ 1968 = omega arith in
     let residue = take 1968 (drop n room) in
     let long : length residue ≡ 1968 = length-take-le 1968 (drop n room) (omega (arith, length-drop n room, q.long)) in

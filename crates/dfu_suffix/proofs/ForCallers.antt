@@ -3,8 +3,8 @@ use Rattle.dfu_suffix.specs.Laws.{NoFileFault, OneReading}
 use Rattle.dfu_suffix.proofs.OneReading as reading
 
 -- Bytes that are a file of the grammar have no fault.
-pub never_both : NoFileFault
-never_both = reading.never_both
+pub grammar_file_is_faultless : NoFileFault
+grammar_file_is_faultless = reading.file_bytes_have_no_fault
 
 -- Two readings of the same bytes are the same.
 pub one_reading : OneReading

@@ -1,42 +1,43 @@
--- Four bytes at once.
+-- Four bytes that go into the register at once.
 use Rattle.std.proofs.Common.{subst, get_or, List, ◌≡◌, ℕ, ◌+◌, ◌/◌, ◌%◌, ◌^◌, ◌<◌, sym, ap, ◌∙◌, arith}
 use Rattle.std.specs.Int.Bits.{bit_xor, xor_assoc}
 use Rattle.std.proofs.lemmas.Nat.{shr-shr}
 use Rattle.byteorder.specs.Endian.{little_number}
 use Rattle.dfu_suffix.specs.Laws.{AreBytes}
 use Rattle.dfu_suffix.specs.Register.{shifts}
-use Rattle.dfu_suffix.proofs.Shifts.{shifts_peel}
+use Rattle.dfu_suffix.proofs.Shifts.{shifts_by_low_byte}
 
-peel : (m n s : ℕ) → m ≡ 8 + n → shifts m s ≡ bit_xor (shifts m (s % 256)) (shifts n (s / 256))
-peel m n s e = subst (λ (k : ℕ). shifts k s ≡ bit_xor (shifts k (s % 256)) (shifts n (s / 256))) (sym e) (shifts_peel n s)
+shifts_split_low_byte : (m n s : ℕ) → m ≡ 8 + n → shifts m s ≡ bit_xor (shifts m (s % 256)) (shifts n (s / 256))
+shifts_split_low_byte m n s e = subst (λ (k : ℕ). shifts k s
+    ≡ bit_xor (shifts k (s % 256)) (shifts n (s / 256))) (sym e) (shifts_by_low_byte n s)
 
 -- Shifts by 32 + n bits are those of the four bytes of a number below 2^32.
-pub shifts_by_fours : (n s : ℕ) → s < 2 ^ 32 →
+pub shifts_of_four_bytes : (n s : ℕ) → s < 2 ^ 32 →
     shifts (32 + n) s ≡ bit_xor (bit_xor (bit_xor (shifts (32 + n) (s % 256)) (shifts (24 + n) (s / 2 ^ 8 % 256)))
     (shifts (16 + n) (s / 2 ^ 16 % 256))) (shifts (8 + n) (s / 2 ^ 24 % 256))
-shifts_by_fours n s h =
-    let e0 = peel (32 + n) (24 + n) s (omega arith) in
-    let e1 = peel (24 + n) (16 + n) (s / 2 ^ 8) (omega arith)
+shifts_of_four_bytes n s h =
+    let e0 = shifts_split_low_byte (32 + n) (24 + n) s (omega arith) in
+    let e1 = shifts_split_low_byte (24 + n) (16 + n) (s / 2 ^ 8) (omega arith)
     ∙ ap (λ (z : ℕ). bit_xor (shifts (24 + n) (s / 2 ^ 8 % 256)) (shifts (16 + n) z)) (shr-shr s 8 8) in
-    let e2 = peel (16 + n) (8 + n) (s / 2 ^ 16) (omega arith)
+    let e2 = shifts_split_low_byte (16 + n) (8 + n) (s / 2 ^ 16) (omega arith)
     ∙ ap (λ (z : ℕ). bit_xor (shifts (16 + n) (s / 2 ^ 16 % 256)) (shifts (8 + n) z)) (shr-shr s 16 8) in
     let last : s / 2 ^ 24 ≡ s / 2 ^ 24 % 256 = omega arith in
     let e3 = ap (shifts (8 + n)) last in
     simp xor_assoc (cc)
 
 -- Four bytes make a number below 2^32.
-pub four_small : (xs : List ℕ) → AreBytes xs → little_number 4 xs < 2 ^ 32
-four_small xs f = omega (arith, f 0, f 1, f 2, f 3)
+pub four_bytes_below_2_32 : (xs : List ℕ) → AreBytes xs → little_number 4 xs < 2 ^ 32
+four_bytes_below_2_32 xs f = omega (arith, f 0, f 1, f 2, f 3)
 
--- Shifts of the number in four bytes by 32 + n bits are those of each byte, as far as it has to go.
-pub shifts_of_four : (n : ℕ) (xs : List ℕ) → AreBytes xs →
+-- Shifts of the number in four bytes by 32 + n bits are the shifts of each byte by as many bits as its place leaves.
+pub shifts_of_number_in_four_bytes : (n : ℕ) (xs : List ℕ) → AreBytes xs →
     shifts (32 + n) (little_number 4 xs) ≡ bit_xor (bit_xor (bit_xor (shifts (32 + n) (get_or xs 0 0)) (shifts (24 + n) (get_or xs 1 0)))
     (shifts (16 + n) (get_or xs 2 0))) (shifts (8 + n) (get_or xs 3 0))
-shifts_of_four n xs f =
+shifts_of_number_in_four_bytes n xs f =
     let s = little_number 4 xs in
     let e0 : s % 256 ≡ get_or xs 0 0 = omega (arith, f 0, f 1, f 2, f 3) in
     let e1 : s / 2 ^ 8 % 256 ≡ get_or xs 1 0 = omega (arith, f 0, f 1, f 2, f 3) in
     let e2 : s / 2 ^ 16 % 256 ≡ get_or xs 2 0 = omega (arith, f 0, f 1, f 2, f 3) in
     let e3 : s / 2 ^ 24 % 256 ≡ get_or xs 3 0 = omega (arith, f 0, f 1, f 2, f 3) in
-    let whole = shifts_by_fours n s (four_small xs f) in
+    let whole = shifts_of_four_bytes n s (four_bytes_below_2_32 xs f) in
     cc

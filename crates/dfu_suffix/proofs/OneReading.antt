@@ -1,4 +1,4 @@
--- What reading from the end answers for a file of the grammar, and for all else.
+-- Reading from the end answers the parts of a file of the grammar, and the first fault of any other bytes.
 use Rattle.std.specs.Prelude.{find}
 use Rattle.std.specs.Int.{w32, to_le_bytes}
 use Rattle.std.specs.Int.Bits.{bit_xor}
@@ -10,96 +10,99 @@ use Rattle.std.proofs.lemmas.List.{append_assoc, take_at, drop_at}
 use Rattle.byteorder.specs.Endian.{little_number}
 use Rattle.dfu_suffix.specs.Register.{after_bit, after_bits, bits_of, register}
 use Rattle.dfu_suffix.specs.Grammar.{Content, IsFile, First, fields_before_crc, before_crc, tail_of, is_signed, has_fault, fault_order}
-use Rattle.dfu_suffix.specs.inside.Reading.{content_of, content_or, reading}
+use Rattle.dfu_suffix.specs.inside.Reading.{content_of, content_or, read_content}
 use Rattle.dfu_suffix.specs.Laws.{NoFileFault, OneReading}
 use Rattle.dfu_wire.specs.declared.ids.Ids.{Ids}
 use Rattle.dfu_suffix.specs.declared.fault.SuffixFault.{SuffixFault}
 use Rattle.dfu_suffix.specs.declared.fault.SuffixFault.TheVariants.{TooShort, NoSignature, BadLength, DfuSe, BadCrc, TooLarge}
 
--- One more bit leaves a register of 32 bits within 32 bits.
+-- A further bit leaves a register of 32 bits within 32 bits.
 after_bit-fits : (r bit : ℕ) → r < 2 ^ 32 → after_bit r bit < 2 ^ 32
 after_bit-fits r bit h =
     let half : r / 2 < 2 ^ 32 = omega arith in
     let mixed : bit_xor (r / 2) 0xEDB8_8320 < 2 ^ 32 = xor_lt 32 (r / 2) 0xEDB8_8320 half (omega arith) in
     elim (eqb (r % 2) bit) as (λ t. cond t (r / 2) (bit_xor (r / 2) 0xEDB8_8320) < 2 ^ 32) [ true ↦ half | false ↦ mixed ]
 
--- More bits do so too.
+-- Any bits leave a register of 32 bits within 32 bits.
 after_bits-fits : (bits : List ℕ) (r : ℕ) → r < 2 ^ 32 → after_bits r bits < 2 ^ 32
 unfolding after_bits
 after_bits-fits [] r h = h
 after_bits-fits (bit ∷ bits) r h = after_bits-fits bits (after_bit r bit) (after_bit-fits r bit h)
 
--- So the register over bytes fits 32 bits.
+-- The register over bytes fits 32 bits.
 pub register-fits : (bytes : List ℕ) → register bytes < 2 ^ 32
 unfolding register after_bits bits_of
 register-fits bytes = after_bits-fits (bits_of bytes) 0xFFFF_FFFF (omega arith)
 
--- A number of two bytes is read back from them.
-back2 : (n : ℕ) → n < 2 ^ 16 → n % 256 + 256 * (n / 256 % 256 + 256 * 0) ≡ n
-back2 n h = omega arith
+-- A number below 2^16 is read back from its two bytes.
+two_bytes_give_number_back : (n : ℕ) → n < 2 ^ 16 → n % 256 + 256 * (n / 256 % 256 + 256 * 0) ≡ n
+two_bytes_give_number_back n h = omega arith
 
--- A number of four bytes is read back from them.
-pub back4 : (n : ℕ) → n < 2 ^ 32 → n % 256 + 256 * (n / 256 % 256 + 256 * (n / 65536 % 256 + 256 * (n / 16777216 % 256 + 256 * 0))) ≡ n
-back4 n h = omega arith
+-- A number below 2^32 is read back from its four bytes.
+pub four_bytes_give_number_back : (n : ℕ) → n < 2 ^ 32 → n % 256 + 256 * (n / 256 % 256 + 256 * (n / 65536 % 256 + 256 * (n / 16777216 %
+    256 + 256 * 0))) ≡ n
+four_bytes_give_number_back n h = omega arith
 
 -- An answer is a fault exactly if that fault was found.
-fault_is : (o : Option SuffixFault) (c : Content) (f : SuffixFault) → (content_or o c ≡ Err f) ↔ (o ≡ Some f)
-fault_is None c f = (λ h. cc, λ h. cc)
-fault_is (Some x) c f = (λ h. cc, λ h. cc)
+fault_answer_was_found : (o : Option SuffixFault) (c : Content) (f : SuffixFault) → (content_or o c ≡ Err f) ↔ (o ≡ Some f)
+fault_answer_was_found None c f = (λ h. cc, λ h. cc)
+fault_answer_was_found (Some x) c f = (λ h. cc, λ h. cc)
 
 -- Reading answers a fault exactly if it is the first one.
-pub reading_fault : (b : List ℕ) (f : SuffixFault) → (reading b ≡ Err f) ↔ First f b
-unfolding reading
-reading_fault b f = fault_is (find (has_fault b) fault_order) (content_of b) f
+pub fault_of_reading_is_first : (b : List ℕ) (f : SuffixFault) → (read_content b ≡ Err f) ↔ First f b
+unfolding read_content
+fault_of_reading_is_first b f = fault_answer_was_found (find (has_fault b) fault_order) (content_of b) f
 
--- A condition that doesn't hold is passed over.
-skip : {X : Type 0} (t : Bool) (x : X) (o : Option X) → t ≡ false → o ≡ None → cond t (Some x) o ≡ None
-skip true x o h e = cc
-skip false x o h e = e
+-- If a condition for a fault is false, and the conditions after it find no fault, there is no fault.
+false_fault_is_skipped : {X : Type 0} (t : Bool) (x : X) (o : Option X) → t ≡ false → o ≡ None → cond t (Some x) o ≡ None
+false_fault_is_skipped true x o h e = cc
+false_fault_is_skipped false x o h e = e
 
--- A test says no if the one number is not less than the other.
-pub not_less : (a b : ℕ) → b ≤ a → ltb a b ≡ false
-not_less a b h = grind (arith, nat_tests)
+-- If `b` is at most `a`, the test `a` less than `b` is false.
+pub number_is_not_less : (a b : ℕ) → b ≤ a → ltb a b ≡ false
+number_is_not_less a b h = grind (arith, nat_tests)
 
--- A test says no if two numbers differ.
-not_equal : (a b : ℕ) → a ≢ b → eqb a b ≡ false
-not_equal a b h = elim (eqb_tells a b) [ inl p ↦ absurd (h p.1) | inr p ↦ p.0 ]
+-- The test for equality of two different numbers is false.
+different_numbers_test_false : (a b : ℕ) → a ≢ b → eqb a b ≡ false
+different_numbers_test_false a b h = elim (eqb_tells a b) [ inl p ↦ absurd (h p.1) | inr p ↦ p.0 ]
 
--- If neither of two tests says yes, both together say no.
-neither : (a b : Bool) → a ≡ false → b ≡ false → (a || b) ≡ false
-neither true b h e = h
-neither false b h e = e
+-- If two tests are false, the test for either is false.
+neither_of_two_true : (a b : Bool) → a ≡ false → b ≡ false → (a || b) ≡ false
+neither_of_two_true true b h e = h
+neither_of_two_true false b h e = e
 
 -- Bytes are spelled like a file of these parts, with any bcdDFU.
-abbrev pub IsSpelled : List ℕ → Ids → ℕ → List ℕ → List ℕ → Type 0
-IsSpelled payload ids dfu extra b = b ≡ before_crc payload ids dfu extra ++ to_le_bytes w32 (register (before_crc payload ids dfu extra))
+abbrev pub IsSpelledFile : List ℕ → Ids → ℕ → List ℕ → List ℕ → Type 0
+IsSpelledFile payload ids dfu extra b = b ≡ before_crc payload ids dfu extra
+    ++ to_le_bytes w32 (register (before_crc payload ids dfu extra))
 
--- A content is made of these parts.
-abbrev pub made : List ℕ → Ids → ℕ → ℕ → Content
-made payload ids dfu suffix = record { payload = payload; ids = ids; dfu = dfu; suffix = suffix }
+-- The content of a file with these parts.
+abbrev pub content_of_parts : List ℕ → Ids → ℕ → ℕ → Content
+content_of_parts payload ids dfu suffix = record { payload = payload; ids = ids; dfu = dfu; suffix = suffix }
 
--- Contents of the same parts are the same.
-made_same : (p p' : List ℕ) (d d' e e' v v' u u' s s' : ℕ) → p ≡ p' → d ≡ d' → e ≡ e' → v ≡ v' → u ≡ u' → s ≡ s' →
-    made p (record { device = d; product = e; vendor = v }) u s ≡ made p' (record { device = d'; product = e'; vendor = v' }) u'
+-- Contents of equal parts are equal.
+contents_of_equal_parts : (p p' : List ℕ) (d d' e e' v v' u u' s s' : ℕ) → p ≡ p' → d ≡ d' → e ≡ e' → v ≡ v' → u ≡ u' → s ≡ s' →
+    content_of_parts p (record { device = d; product = e; vendor = v }) u s
+    ≡ content_of_parts p' (record { device = d'; product = e'; vendor = v' }) u'
     s'
-made_same p p' d d' e e' v v' u u' s s' h0 h1 h2 h3 h4 h5 = cc
+contents_of_equal_parts p p' d d' e e' v v' u u' s s' h0 h1 h2 h3 h4 h5 = cc
 
 -- Bytes that are spelled like a file have their length, and end in the fields and dwCRC.
-tail_is : (payload extra b : List ℕ) (ids : Ids) (dfu : ℕ) → IsSpelled payload ids dfu extra b →
+spelled_file_length_and_tail : (payload extra b : List ℕ) (ids : Ids) (dfu : ℕ) → IsSpelledFile payload ids dfu extra b →
     (length b ≡ length payload + length extra + 16)
     × (tail_of b ≡ fields_before_crc ids dfu extra ++ to_le_bytes w32 (register (before_crc payload ids dfu extra)))
-tail_is payload extra b ids dfu h =
+spelled_file_length_and_tail payload extra b ids dfu h =
     let end = fields_before_crc ids dfu extra ++ to_le_bytes w32 (register (before_crc payload ids dfu extra)) in
     let whole : b ≡ (payload ++ extra) ++ end = h ∙ simp append_assoc in
     let len : length b ≡ length payload + length extra + 16 =
     ap length whole ∙ (length-append (payload ++ extra) end ∙ ap (λ (k : ℕ). k + 16) (length-append payload extra)) in
     (len, ap (drop (length b - 16)) whole ∙ drop_at (payload ++ extra) end (length b - 16) (omega (arith, len, length-append payload extra)))
 
--- What precedes a suffix is as many bytes fewer as its bLength says.
-pub paid : (payload extra b : List ℕ) (ids : Ids) (dfu : ℕ) → IsSpelled payload ids dfu extra b →
+-- The payload of a spelled file is all but as many bytes as bLength says.
+pub spelled_payload_is_read_back : (payload extra b : List ℕ) (ids : Ids) (dfu : ℕ) → IsSpelledFile payload ids dfu extra b →
     take (length b - get_or (tail_of b) 11 0) b ≡ payload
-paid payload extra b ids dfu h =
-    let tail = tail_is payload extra b ids dfu h in
+spelled_payload_is_read_back payload extra b ids dfu h =
+    let tail = spelled_file_length_and_tail payload extra b ids dfu h in
     let l = get_or (tail_of b) 11 0 in
     let length_is : l ≡ 16 + length extra = ap (λ (t : List ℕ). get_or t 11 0) tail.1 in
     let end = fields_before_crc ids dfu extra ++ to_le_bytes w32 (register (before_crc payload ids dfu extra)) in
@@ -107,66 +110,71 @@ paid payload extra b ids dfu h =
     ap (take (length b - l)) whole ∙ take_at payload (extra ++ end) (length b - l) (omega (arith, length_is, tail.0))
 
 -- Bytes that are spelled like a file can only have the fault DfuSe, and their end says the parts.
-pub record Reads (payload : List ℕ) (ids : Ids) (dfu : ℕ) (extra b : List ℕ) : Type 0 where
+pub record PartsAreRead (payload : List ℕ) (ids : Ids) (dfu : ℕ) (extra b : List ℕ) : Type 0 where
   pub small : has_fault b TooLarge ≡ false
   pub long : has_fault b TooShort ≡ false
   pub signed : has_fault b NoSignature ≡ false
   pub within : has_fault b BadLength ≡ false
   pub intact : has_fault b BadCrc ≡ false
   pub version : little_number 2 (drop 6 (tail_of b)) ≡ dfu
-  pub content : content_of b ≡ made payload ids dfu (16 + length extra)
+  pub content : content_of b ≡ content_of_parts payload ids dfu (16 + length extra)
 
--- This holds if the numbers fit, and there are not too many bytes.
-pub reads : (payload : List ℕ) (ids : Ids) (dfu : ℕ) (extra b : List ℕ) → IsSpelled payload ids dfu extra b → ids.device < 2 ^ 16 →
-    ids.product < 2 ^ 16 → ids.vendor < 2 ^ 16 → dfu < 2 ^ 16 → length b ≤ 16777216 → Reads payload ids dfu extra b
-reads payload ids dfu extra b whole device_fits product_fits vendor_fits dfu_fits small =
+-- Bytes that are spelled of parts are read as those parts, if the numbers fit and the bytes are within the limit.
+pub parts_are_read : (payload : List ℕ) (ids : Ids) (dfu : ℕ) (extra b : List ℕ) → IsSpelledFile payload ids dfu extra b →
+    ids.device < 2 ^ 16 →
+    ids.product < 2 ^ 16 → ids.vendor < 2 ^ 16 → dfu < 2 ^ 16 → length b ≤ 16777216 → PartsAreRead payload ids dfu extra b
+parts_are_read payload ids dfu extra b whole device_fits product_fits vendor_fits dfu_fits small =
     let front = before_crc payload ids dfu extra in
     let r = register front in
     let q = to_le_bytes w32 r in
-    let tailed = tail_is payload extra b ids dfu whole in
+    let tailed = spelled_file_length_and_tail payload extra b ids dfu whole in
     let len = tailed.0 in
     let tail = tailed.1 in
     let len_front : length front ≡ length b - 4 = omega (arith, ap length whole, length-append front q) in
     let cut : take (length b - 4) b ≡ front = ap (take (length b - 4)) whole ∙ take_at front q (length b - 4) len_front in
     let suffix : get_or (tail_of b) 11 0 ≡ 16 + length extra = ap (λ (t : List ℕ). get_or t 11 0) tail in
     let version : little_number 2 (drop 6 (tail_of b)) ≡ dfu = ap (λ (t : List ℕ). little_number 2 (drop 6 t)) tail
-    ∙ back2 dfu dfu_fits in
-    let crc : little_number 4 (drop 12 (tail_of b)) ≡ r = ap (λ (t : List ℕ). little_number 4 (drop 12 t)) tail ∙ back4 r (register-fits front) in
+    ∙ two_bytes_give_number_back dfu dfu_fits in
+    let crc : little_number 4 (drop 12 (tail_of b)) ≡ r = ap (λ (t : List ℕ). little_number 4 (drop 12 t)) tail
+    ∙ four_bytes_give_number_back r (register-fits front) in
     let d : little_number 2 (drop 0 (tail_of b)) ≡ ids.device = ap (λ (t : List ℕ). little_number 2 (drop 0 t)) tail
-    ∙ back2 ids.device device_fits in
+    ∙ two_bytes_give_number_back ids.device device_fits in
     let p : little_number 2 (drop 2 (tail_of b)) ≡ ids.product = ap (λ (t : List ℕ). little_number 2 (drop 2 t)) tail
-    ∙ back2 ids.product product_fits in
+    ∙ two_bytes_give_number_back ids.product product_fits in
     let v : little_number 2 (drop 4 (tail_of b)) ≡ ids.vendor = ap (λ (t : List ℕ). little_number 2 (drop 4 t)) tail
-    ∙ back2 ids.vendor vendor_fits in
+    ∙ two_bytes_give_number_back ids.vendor vendor_fits in
     record {
-      small = not_less 16777216 (length b) small;
-      long = not_less (length b) 16 (omega (arith, len));
+      small = number_is_not_less 16777216 (length b) small;
+      long = number_is_not_less (length b) 16 (omega (arith, len));
       signed = ap (λ (t : List ℕ). not (is_signed t)) tail;
-      within = neither (ltb (get_or (tail_of b) 11 0) 16) (ltb (length b) (get_or (tail_of b) 11 0))
-          (not_less (get_or (tail_of b) 11 0) 16 (omega (arith, suffix)))
-          (not_less (length b) (get_or (tail_of b) 11 0) (omega (arith, suffix, len)));
+      within = neither_of_two_true (ltb (get_or (tail_of b) 11 0) 16) (ltb (length b) (get_or (tail_of b) 11 0))
+          (number_is_not_less (get_or (tail_of b) 11 0) 16 (omega (arith, suffix)))
+          (number_is_not_less (length b) (get_or (tail_of b) 11 0) (omega (arith, suffix, len)));
       intact = ap not (eq-eqb (little_number 4 (drop 12 (tail_of b))) (register (take (length b - 4) b)) (crc ∙ ap register (sym cut)));
       version = version;
-      content = made_same _ _ _ _ _ _ _ _ _ _ _ _ (paid payload extra b ids dfu whole) d p v version suffix;
+      content = contents_of_equal_parts _ _ _ _ _ _ _ _ _ _ _ _ (spelled_payload_is_read_back payload extra b ids dfu whole) d p v version
+          suffix;
     }
 
--- Reading a file of the grammar answers what it says.
-pub reading_only : (payload : List ℕ) (ids : Ids) (dfu : ℕ) (extra b : List ℕ) → IsFile payload ids dfu extra b →
-    reading b ≡ Ok (record { payload = payload; ids = ids; dfu = dfu; suffix = 16 + length extra })
-unfolding reading
-reading_only payload ids dfu extra b h =
-    let r = reads payload ids dfu extra b h.spelled h.device_fits h.product_fits h.vendor_fits h.dfu_fits h.small in
-    let other : has_fault b DfuSe ≡ false = not_equal (little_number 2 (drop 6 (tail_of b))) 0x011A (λ e. h.not_dfuse (sym r.version ∙ e)) in
+-- Reading of a file of the grammar answers its parts.
+pub grammar_file_is_read : (payload : List ℕ) (ids : Ids) (dfu : ℕ) (extra b : List ℕ) → IsFile payload ids dfu extra b →
+    read_content b ≡ Ok (record { payload = payload; ids = ids; dfu = dfu; suffix = 16 + length extra })
+unfolding read_content
+grammar_file_is_read payload ids dfu extra b h =
+    let r = parts_are_read payload ids dfu extra b h.spelled h.device_fits h.product_fits h.vendor_fits h.dfu_fits h.small in
+    let other : has_fault b DfuSe ≡ false = different_numbers_test_false (little_number 2 (drop 6 (tail_of b))) 0x011A (λ e. h.not_dfuse
+    (sym r.version ∙ e)) in
     let none : find (has_fault b) fault_order ≡ None =
-    skip (has_fault b TooLarge) TooLarge _ r.small (skip (has_fault b TooShort) TooShort _ r.long
-    (skip (has_fault b NoSignature) NoSignature _ r.signed (skip (has_fault b BadLength) BadLength _ r.within
-    (skip (has_fault b DfuSe) DfuSe _ other (skip (has_fault b BadCrc) BadCrc _ r.intact refl))))) in
+    false_fault_is_skipped (has_fault b TooLarge) TooLarge _ r.small (false_fault_is_skipped (has_fault b TooShort) TooShort _ r.long
+    (false_fault_is_skipped (has_fault b NoSignature) NoSignature _ r.signed (false_fault_is_skipped (has_fault b BadLength) BadLength _
+    r.within
+    (false_fault_is_skipped (has_fault b DfuSe) DfuSe _ other (false_fault_is_skipped (has_fault b BadCrc) BadCrc _ r.intact refl))))) in
     ap (λ (o : Option SuffixFault). content_or o (content_of b)) none ∙ ap Ok r.content
 
 -- The extra bytes of a file follow its payload.
-pub parts_stand : (payload : List ℕ) (ids : Ids) (dfu : ℕ) (extra b : List ℕ) → IsFile payload ids dfu extra b →
+pub extra_bytes_follow_payload : (payload : List ℕ) (ids : Ids) (dfu : ℕ) (extra b : List ℕ) → IsFile payload ids dfu extra b →
     (length b ≡ length payload + length extra + 16) × (extra ≡ take (length extra) (drop (length payload) b))
-parts_stand payload ids dfu extra b h =
+extra_bytes_follow_payload payload ids dfu extra b h =
     let front = before_crc payload ids dfu extra in
     let a = fields_before_crc ids dfu extra in
     let q = to_le_bytes w32 (register front) in
@@ -178,18 +186,18 @@ parts_stand payload ids dfu extra b h =
     ∙ drop_at payload (extra ++ (a ++ q)) (length payload) refl in
     (len, sym (ap (take (length extra)) after ∙ take_at extra (a ++ q) (length extra) refl))
 
--- Bytes that are a file of the grammar have no fault.
-pub never_both : NoFileFault
-never_both b fault (payload, ids, dfu, extra, h) first =
-    let right = reading_only payload ids dfu extra b h in
-    let wrong = (reading_fault b fault).1 first in
+-- A file that follows the grammar has no fault.
+pub file_bytes_have_no_fault : NoFileFault
+file_bytes_have_no_fault b fault (payload, ids, dfu, extra, h) first =
+    let right = grammar_file_is_read payload ids dfu extra b h in
+    let wrong = (fault_of_reading_is_first b fault).1 first in
     cc
 
--- The parts of contents that are the same are the same.
-same_content : (p q : List ℕ) (i j : Ids) (d e n m : ℕ) →
+-- Equal contents have equal parts.
+equal_contents_have_equal_parts : (p q : List ℕ) (i j : Ids) (d e n m : ℕ) →
     ◌≡◌ {A = Result Content SuffixFault} (Ok (record { payload = p; ids = i; dfu = d; suffix = n }))
     (Ok (record { payload = q; ids = j; dfu = e; suffix = m })) → (p ≡ q) × (i ≡ j) × (d ≡ e) × (n ≡ m)
-same_content p q i j d e n m h =
+equal_contents_have_equal_parts p q i j d e n m h =
     let same : ◌≡◌ {A = Content} (record { payload = p; ids = i; dfu = d; suffix = n })
     (record { payload = q; ids = j; dfu = e; suffix = m }) = cc in (
       ap (λ (c : Content). c.payload) same,
@@ -198,13 +206,14 @@ same_content p q i j d e n m h =
       ap (λ (c : Content). c.suffix) same,
     )
 
--- Two readings of the same bytes are the same.
+-- Two readings of the same bytes are equal.
 pub one_reading : OneReading
 one_reading b p q i j d e x y h k =
-    let same = same_content p q i j d e (16 + length x) (16 + length y) (sym (reading_only p i d x b h) ∙ reading_only q j e y b k) in
+    let same = equal_contents_have_equal_parts p q i j d e (16 + length x) (16 + length y) (sym (grammar_file_is_read p i d x b h)
+    ∙ grammar_file_is_read q j e y b k) in
     let long : length x ≡ length y = omega (arith, same.3) in
-    let mine = (parts_stand p i d x b h).1 in
-    let yours = (parts_stand q j e y b k).1 in
+    let mine = (extra_bytes_follow_payload p i d x b h).1 in
+    let yours = (extra_bytes_follow_payload q j e y b k).1 in
     let moved : take (length x) (drop (length p) b) ≡ take (length y) (drop (length q) b) =
     ap (λ (n : ℕ). take n (drop (length p) b)) long ∙ ap (λ (zs : List ℕ). take (length y) (drop (length zs) b)) same.0 in
     (same.0, same.1, same.2, mine ∙ (moved ∙ sym yours))

@@ -1,28 +1,28 @@
--- How far a text is written that is put out piece by piece.
+-- Progress of a text that is written piece by piece.
 use Rattle.std.proofs.Common.{◌≡◌, ℕ, ◌<◌, List, [], ◌++◌, length, take, drop, Option, sym, ap, ◌∙◌, subst}
 use Rattle.std.proofs.KnownBytes.{Appends-nil, Appends-trans, Appends-kept}
 use Rattle.std.proofs.lemmas.List.{append_assoc, take-append-drop, append-nil}
 use Rattle.std.specs.Io.KnownBytes.{Appends, Keeps}
 use Rattle.dfu_suffix.specs.Writing.{IsOutInPart}
 
--- A prefix of the text is out, and the rest is left.
-abbrev pub Progress : Option (List ℕ) → Option (List ℕ) → List ℕ → List ℕ → Type 0
-Progress old new text rest = (front : List ℕ) × (text ≡ front ++ rest) × Appends old new front
+-- A prefix of `text` is written, and `rest` is left.
+abbrev pub WrittenSoFar : Option (List ℕ) → Option (List ℕ) → List ℕ → List ℕ → Type 0
+WrittenSoFar old new text rest = (front : List ℕ) × (text ≡ front ++ rest) × Appends old new front
 
--- Once the first bytes of the rest are written too, the bytes after them are left.
-pub progress_more : (old mid new : Option (List ℕ)) (text rest : List ℕ) (n : ℕ) →
-    Progress old mid text rest → Appends mid new (take n rest) → Progress old new text (drop n rest)
-progress_more old mid new text rest n p k = (
+-- Once the first `n` bytes of the rest are written too, the bytes after them are left.
+pub progress_after_written_bytes : (old mid new : Option (List ℕ)) (text rest : List ℕ) (n : ℕ) →
+    WrittenSoFar old mid text rest → Appends mid new (take n rest) → WrittenSoFar old new text (drop n rest)
+progress_after_written_bytes old mid new text rest n p k = (
   p.0 ++ take n rest,
   p.1 ∙ (ap (λ (zs : List ℕ). p.0 ++ zs) (sym (take-append-drop n rest))
       ∙ sym (append_assoc p.0 (take n rest) (drop n rest))),
   Appends-trans old mid new p.0 (take n rest) p.2 k,
 )
 
--- If something is left, and no more was written, a prefix of the text is written, and not all of it.
-pub progress_stopped : (old mid new : Option (List ℕ)) (text rest : List ℕ) →
-    Progress old mid text rest → 0 < length rest → Appends mid new [] → IsOutInPart old new text
-progress_stopped old mid new text rest p some k = record {
+-- If some of the text is left, and no more was written, a prefix of the text is written, and not all of it.
+pub stopped_progress_is_in_part : (old mid new : Option (List ℕ)) (text rest : List ℕ) →
+    WrittenSoFar old mid text rest → 0 < length rest → Appends mid new [] → IsOutInPart old new text
+stopped_progress_is_in_part old mid new text rest p some k = record {
   front = p.0;
   rest = rest;
   whole = p.1;
@@ -30,6 +30,6 @@ progress_stopped old mid new text rest p some k = record {
   told = subst (λ (zs : List ℕ). Appends old new zs) (append-nil p.0) (Appends-trans old mid new p.0 [] p.2 k);
 }
 
--- If nothing changed, nothing was written.
-pub keeps_nothing : (mid new : Option (List ℕ)) → Keeps mid new → Appends mid new []
-keeps_nothing mid new k = Appends-kept mid mid new [] (Appends-nil mid) k
+-- If the contents didn't change, no byte was written.
+pub no_progress_no_bytes : (mid new : Option (List ℕ)) → Keeps mid new → Appends mid new []
+no_progress_no_bytes mid new k = Appends-kept mid mid new [] (Appends-nil mid) k

@@ -1,4 +1,4 @@
--- Answer and text of adding a suffix.
+-- Answer of adding a suffix, and the text that is written.
 use Rattle.std.specs.Prelude.{◌≡◌, ◌⊎◌, ℕ, ◌<◌, ◌≤◌, List, [], length, Option, Result, Ok, Err, ⊤}
 use Rattle.std.specs.Io.KnownBytes.{Appends, Keeps}
 use Rattle.dfu_suffix.specs.Grammar.{IsFile, First}
@@ -8,28 +8,29 @@ use Rattle.dfu_wire.specs.declared.ids.Ids.{Ids}
 use Rattle.dfu_suffix.specs.declared.fault.SuffixFault.{SuffixFault}
 use Rattle.dfu_suffix.specs.declared.fault.SuffixFault.TheVariants.{AlreadySuffixed, DfuSe, TooLarge, NoMemory, Read, Write}
 
--- The bytes have a suffix already: they are a file of the grammar, or DfuSe is their first fault.
+-- The bytes have a suffix already: they are a file of the grammar, or `DfuSe` is their first fault.
 abbrev pub HasSuffix : List ℕ → Type 0
 HasSuffix bytes = HasReading bytes ⊎ First DfuSe bytes
 
--- The bytes are to get a suffix: with it they are within the limit of a file, and they have no suffix yet.
+-- The bytes lack a suffix: with one they are within the limit of a file, and they have none yet.
 abbrev pub NeedsSuffix : List ℕ → Type 0
 NeedsSuffix bytes = (length bytes ≤ 16777200) × (HasSuffix bytes → ⊥)
 
--- The text is the file with this payload and these identifiers, with bcdDFU 0100h and no extra bytes.
-abbrev pub IsAdded : List ℕ → Ids → List ℕ → Type 0
-IsAdded payload ids text = IsFile payload ids 0x0100 [] text
+-- The text is the file of the payload and the identifiers, with bcdDFU 0100h and no extra bytes.
+abbrev pub IsFileWithSuffix : List ℕ → Ids → List ℕ → Type 0
+IsFileWithSuffix payload ids text = IsFile payload ids 0x0100 [] text
 
--- At Ok the whole file is written, and its length is the answer; at Write a part from its start; TooLarge and
--- AlreadySuffixed say what is wrong with the bytes; Read and NoMemory say nothing of them.
-abbrev pub Adds : List ℕ → Ids → Option (List ℕ) → Option (List ℕ) → Result ℕ SuffixFault → Type 0
-Adds all ids old new (Ok n) = NeedsSuffix all × (text : List ℕ) × IsAdded all ids text × Appends old new text × (n ≡ length text)
-Adds all ids old new (Err TooLarge) = 16777200 < length all
-Adds all ids old new (Err AlreadySuffixed) = (length all ≤ 16777200) × HasSuffix all
-Adds all ids old new (Err Write) = NeedsSuffix all × (text : List ℕ) × IsAdded all ids text × IsOutInPart old new text
-Adds all ids old new (Err Read) = ⊤
-Adds all ids old new (Err NoMemory) = ⊤
-Adds all ids old new (Err fault) = ⊥
+-- At `Ok` the whole file is written, and its length is the answer; at `Write` a part from its start; `TooLarge` and `AlreadySuffixed` say
+-- what is wrong with the bytes; `Read` and `NoMemory` say nothing of them.
+abbrev pub AddResult : List ℕ → Ids → Option (List ℕ) → Option (List ℕ) → Result ℕ SuffixFault → Type 0
+AddResult all ids old new (Ok n) = NeedsSuffix all × (text : List ℕ) × IsFileWithSuffix all ids text × Appends old new text × (n
+    ≡ length text)
+AddResult all ids old new (Err TooLarge) = 16777200 < length all
+AddResult all ids old new (Err AlreadySuffixed) = (length all ≤ 16777200) × HasSuffix all
+AddResult all ids old new (Err Write) = NeedsSuffix all × (text : List ℕ) × IsFileWithSuffix all ids text × IsOutInPart old new text
+AddResult all ids old new (Err Read) = ⊤
+AddResult all ids old new (Err NoMemory) = ⊤
+AddResult all ids old new (Err fault) = ⊥
 
 -- A fault other than Write leaves what the writer holds as it was.
 abbrev pub UnchangedAtFault : {T : Type 0} → Option (List ℕ) → Option (List ℕ) → Result T SuffixFault → Type 0

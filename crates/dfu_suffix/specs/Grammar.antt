@@ -22,11 +22,11 @@ fields_before_crc ids dfu extra =
     to_le_bytes w16 ids.device ++ (to_le_bytes w16 ids.product ++ (to_le_bytes w16 ids.vendor
     ++ (to_le_bytes w16 dfu ++ (0x55 ∷ 0x46 ∷ 0x44 ∷ (16 + length extra) ∷ []))))
 
--- A file has its payload, its extra bytes and these fields before dwCRC.
+-- Bytes of a file before dwCRC: the payload, the extra bytes, and the fields.
 abbrev pub before_crc : List ℕ → Ids → ℕ → List ℕ → List ℕ
 before_crc payload ids dfu extra = payload ++ (extra ++ fields_before_crc ids dfu extra)
 
--- The bytes are a file with this payload, these fields and these extra bytes, and then the register over all of that.
+-- The bytes are a file with this payload, these fields and these extra bytes, and then the register over all bytes before it.
 pub record IsFile (payload : List ℕ) (ids : Ids) (dfu : ℕ) (extra : List ℕ) (bytes : List ℕ) : Type 0 where
   pub spelled : bytes ≡ before_crc payload ids dfu extra ++ to_le_bytes w32 (register (before_crc payload ids dfu extra))
   pub extra_fits : length extra ≤ 239
@@ -62,6 +62,6 @@ has_fault bytes Write = false
 abbrev pub fault_order : List SuffixFault
 fault_order = TooLarge ∷ TooShort ∷ NoSignature ∷ BadLength ∷ DfuSe ∷ BadCrc ∷ []
 
--- This is the first fault of the bytes.
+-- First fault of the bytes.
 abbrev pub First : SuffixFault → List ℕ → Type 0
 First fault bytes = find (has_fault bytes) fault_order ≡ Some fault

@@ -19,7 +19,7 @@ abbrev pub EachFileOrFault : Type 0
 EachFileOrFault = (bytes : List ℕ) → AreBytes bytes → (HasReading bytes ⊎ ((fault : SuffixFault) × First fault bytes))
     × ((fault : SuffixFault) → HasReading bytes → First fault bytes → ⊥)
 
--- The register over four bytes or more is 0 exactly if the last four are the register over those before.
+-- The register over four bytes or more is 0 exactly if the number in the last four is the register over the bytes before them.
 abbrev pub LastFour : Type 0
 LastFour = (bytes : List ℕ) → AreBytes bytes → 4 ≤ length bytes → (register bytes ≡ 0)
     ↔ (little_number 4 (drop (length bytes - 4) bytes) ≡ register (take (length bytes - 4) bytes))
@@ -28,7 +28,7 @@ LastFour = (bytes : List ℕ) → AreBytes bytes → 4 ≤ length bytes → (reg
 abbrev pub NoFileFault : Type 0
 NoFileFault = (bytes : List ℕ) (fault : SuffixFault) → HasReading bytes → First fault bytes → ⊥
 
--- Two readings of the same bytes are the same.
+-- Two readings of the same bytes are equal.
 abbrev pub OneReading : Type 0
 OneReading =
     (bytes p q : List ℕ) (i j : Ids) (d e : ℕ) (x y : List ℕ) → IsFile p i d x bytes → IsFile q j e y bytes → (p ≡ q) × (i ≡ j)

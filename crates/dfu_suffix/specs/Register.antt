@@ -11,7 +11,7 @@ after_bit r bit = if r % 2 == bit then r / 2 else bit_xor (r / 2) 0xEDB8_8320
 unfoldable pub after_bits : ℕ → List ℕ → ℕ
 after_bits r bits = fold after_bit r bits
 
--- A number has these n low bits, the lowest first.
+-- The `n` low bits of a number, the lowest first.
 unfoldable pub low_bits : ℕ → ℕ → List ℕ
 low_bits zero x = []
 low_bits (suc n) x = x % 2 ∷ low_bits n (x / 2)

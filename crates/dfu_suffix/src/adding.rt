@@ -1,8 +1,8 @@
-//! Files made of what a reader gives.
+//! Adding a suffix to all bytes of a reader.
 
 ghost use Rattle.std.specs.Prelude.{◌≡◌, ◌≤◌, length, IfOk, IfSome};
-ghost use Rattle.dfu_suffix.specs.Adding.{Adds, UnchangedAtFault};
-ghost use Rattle.dfu_suffix.specs.inside.Making.{Makes, gathering_fault};
+ghost use Rattle.dfu_suffix.specs.Adding.{AddResult, UnchangedAtFault};
+ghost use Rattle.dfu_suffix.specs.inside.Making.{MakeResult, gathering_fault};
 
 use crate::fault::SuffixFault;
 use crate::file::MAX_PAYLOAD;
@@ -13,7 +13,7 @@ use dfu_wire::Ids;
 use std::alloc::Global;
 use std::io::{Read, Write};
 
-/// The fault of `add` for one of gathering.
+/// Returns the fault of `add` for `fault`, that of gathering.
 fn fault_of(fault: GatherFault) -> SuffixFault
     ensures { result ≡ gathering_fault fault }
 {
@@ -24,10 +24,10 @@ fn fault_of(fault: GatherFault) -> SuffixFault
     }
 }
 
-/// The file of a payload, in memory.
+/// Returns the file of `payload` and its suffix with `ids`, in memory.
 fn with_suffix(mut payload: Vec<u8>, ids: Ids) -> Result<Vec<u8>, SuffixFault>
     requires { length payload.items ≤ 16777200 }
-    ensures all { Makes payload.items ids result }
+    ensures all { MakeResult payload.items ids result }
     ensures len { IfOk result (λ v. length v.items ≤ 16777216) }
 {
     if has_suffix(&payload) {
@@ -39,9 +39,9 @@ fn with_suffix(mut payload: Vec<u8>, ids: Ids) -> Result<Vec<u8>, SuffixFault>
     }
 }
 
-/// The file of all that a reader gives, in memory.
+/// Returns the file of all bytes that `reader` gives and their suffix with `ids`, in memory.
 fn file_of<R: Read + Drop>(alloc: Global, reader: R, ids: Ids) -> Result<Vec<u8>, SuffixFault>
-    ensures all { IfSome (R.remaining reader) (λ all. Makes all ids result) }
+    ensures all { IfSome (R.remaining reader) (λ all. MakeResult all ids result) }
     ensures len { IfOk result (λ v. length v.items ≤ 16777216) }
 {
     match gather(alloc, reader, MAX_PAYLOAD) {
@@ -50,10 +50,9 @@ fn file_of<R: Read + Drop>(alloc: Global, reader: R, ids: Ids) -> Result<Vec<u8>
     }
 }
 
-/// Writes all that a reader gives and then a suffix of 16 bytes, with these identifiers and
-/// bcdDFU 0100h (USB DFU 1.1, appendix B). It answers the number of bytes written, at most
-/// 16,777,216. It gathers the whole file in memory before it writes the first byte, and it doesn't
-/// flush: the writer stays the caller's.
+/// Writes all bytes that a reader gives and then a suffix of 16 bytes, with these identifiers and bcdDFU 0100h (USB DFU 1.1, appendix B).
+/// The answer is the number of bytes written, at most 16,777,216. The whole file is gathered in memory before its first byte is written,
+/// and the writer is not flushed, because it stays the caller's.
 ///
 /// # Errors
 ///
@@ -69,9 +68,9 @@ pub fn add<R: Read + Drop, W: Write>(
     ids: Ids,
     writer: &mut W,
 ) -> Result<u32, SuffixFault>
-    // The answer tells of all that the reader gives, in whatever pieces: at Ok a file of the grammar with that payload and these
+    // The answer tells of all bytes of the reader, in whatever pieces they come: at Ok a file of the grammar with that payload and these
     // identifiers is written, and at Write a part from its start.
-    ensures answer { IfSome (R.remaining reader) (λ all. Adds all ids (W.contents writer.old) (W.contents writer.new) result) }
+    ensures answer { IfSome (R.remaining reader) (λ all. AddResult all ids (W.contents writer.old) (W.contents writer.new) result) }
     // After a fault other than Write nothing is written.
     ensures kept { UnchangedAtFault (W.contents writer.old) (W.contents writer.new) result }
 {

@@ -1,7 +1,7 @@
-//! Checks of a file that a reader gives.
+//! Checks of a file whose bytes a reader gives.
 
 ghost use Rattle.std.specs.Prelude.{◌≡◌, ◌≢◌, ◌<◌, ◌++◌, ℕ, length, drop, slice_index, Err, IfSome};
-ghost use Rattle.dfu_suffix.specs.Checking.{Checks, FindingsOfFile, UnlessRead};
+ghost use Rattle.dfu_suffix.specs.Checking.{CheckResult, FindingsOfFile, UnlessRead};
 ghost use Rattle.dfu_suffix.specs.declared.fault.SuffixFault.TheVariants.{NoMemory};
 
 use crate::crc::Crc;
@@ -11,9 +11,8 @@ use crate::findings::{Findings, findings_of};
 use crate::summary::{Summary, check_register};
 use std::io::Read;
 
-/// Checks all that a reader gives, as `read` of those bytes. Of these it keeps the register over
-/// them, their count and the last 16, and takes no memory, for any number of bytes. It reads up to
-/// 65,536 bytes at a time, into a buffer on the stack.
+/// Checks all bytes that a reader gives, as `read` of the bytes. Only the register over them, their count and the last 16 are kept, and no
+/// memory is taken, for any number of bytes. Up to 65,536 bytes are read at a time, into a buffer on the stack.
 ///
 /// # Errors
 ///
@@ -22,7 +21,7 @@ use std::io::Read;
 pub fn check<R: Read + Drop>(reader: R) -> Result<Summary, SuffixFault>
     // An answer other than Read is Ok exactly for a file of the grammar, with its summary, and
     // else the first fault of the bytes, in whatever pieces they come.
-    ensures answer { IfSome (R.remaining reader) (λ all. UnlessRead result (Checks all result)) }
+    ensures answer { IfSome (R.remaining reader) (λ all. UnlessRead result (CheckResult all result)) }
     // The fault is never NoMemory, for any reader.
     ensures memory { result ≢ Err NoMemory }
 {
@@ -30,8 +29,8 @@ pub fn check<R: Read + Drop>(reader: R) -> Result<Summary, SuffixFault>
     check_with(reader, &mut findings)
 }
 
-/// Does what `check` does, and writes into `findings` what the reason of BadLength or BadCrc is made of. After
-/// TooShort, TooLarge and Read they say nothing of the file.
+/// Checks as `check` does, and writes into `findings` the numbers of which the reason of BadLength or BadCrc is made. After TooShort,
+/// TooLarge and Read they say nothing of the file.
 ///
 /// # Errors
 ///
@@ -41,8 +40,8 @@ pub fn check_with<R: Read + Drop>(
     findings: &mut Findings,
 ) -> Result<Summary, SuffixFault>
     // The answer is that of `check`.
-    ensures answer { IfSome (R.remaining reader) (λ all. UnlessRead result (Checks all result)) }
-    // Unless it is Read, the findings are those of all bytes, if there are 16 to 16,777,216 of them.
+    ensures answer { IfSome (R.remaining reader) (λ all. UnlessRead result (CheckResult all result)) }
+    // Unless the answer is Read, the findings are those of all bytes, if there are 16 to 16,777,216 of them.
     ensures findings { IfSome (R.remaining reader) (λ all. UnlessRead result (FindingsOfFile all findings.new)) }
     // The fault is never NoMemory, for any reader.
     ensures memory { result ≢ Err NoMemory }

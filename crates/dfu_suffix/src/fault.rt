@@ -1,4 +1,4 @@
-//! Why a file is refused.
+//! Faults for which a file is refused.
 
 ghost use Rattle.std.specs.Prelude.{◌≡◌};
 ghost use Rattle.dfu_suffix.specs.FaultName.{suffix_fault_name};
@@ -6,9 +6,8 @@ ghost use Rattle.dfu_suffix.specs.FaultName.{suffix_fault_name};
 use std::fmt;
 use thiserror::Error;
 
-/// Why a file isn't read, checked or written. `read` and `check` answer the first of TooLarge,
-/// TooShort, NoSignature, BadLength, DfuSe, BadCrc whose condition holds, looked for in this
-/// order; `add` looks for TooLarge and then AlreadySuffixed.
+/// Faults for which a file isn't read, checked or written. `read` and `check` answer the first of TooLarge, TooShort, NoSignature,
+/// BadLength, DfuSe, BadCrc whose condition holds, looked for in this order; `add` looks for TooLarge and then AlreadySuffixed.
 #[derive(Clone, Copy, Error)]
 pub enum SuffixFault {
     /// The file has under 16 bytes.
@@ -23,7 +22,7 @@ pub enum SuffixFault {
     BadCrc,
     /// The bytes that are to get a suffix have one: `read` would answer Ok or DfuSe for them.
     AlreadySuffixed,
-    /// The file has over 16,777,216 bytes, or would have with the 16 of a suffix.
+    /// The file has over 16,777,216 bytes, or would have with the 16 bytes of a suffix.
     TooLarge,
     /// An allocation was refused, in `add`.
     NoMemory,
@@ -67,7 +66,7 @@ static NAMES: [&str; 10] = [
 ];
 
 impl SuffixFault {
-    /// The name of the fault, that of its variant, as `TooShort`.
+    /// Returns the name of the fault, that of its variant, as `TooShort`.
     pub fn name(self) -> &'static str
         ensures { result.now ≡ suffix_fault_name self }
     {

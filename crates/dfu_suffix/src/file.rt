@@ -5,19 +5,19 @@ ghost use Rattle.std.specs.Prelude.{◌≡◌, ◌≢◌, ◌≤◌};
 use dfu_wire::Ids;
 use std::marker::Model;
 
-/// The most bytes that a file has.
+/// Largest number of bytes of a file.
 pub(crate) const MAX_FILE: usize = 16_777_216;
 
-/// The most reads that a file is worth: each but the last gives a byte.
+/// Limit of the reads of a file: each but the last gives at least a byte.
 pub(crate) const MAX_READS: usize = MAX_FILE + 1;
 
 /// Bytes for which a reader is asked at a time.
-pub const READ_BYTES: usize = 65_536;
+pub const READ_BYTES: usize = 16_384;
 
 /// The fewest bytes that a suffix has.
 pub(crate) const MIN_SUFFIX: u32 = 16;
 
-/// The most bytes of a payload: with the shortest suffix they are the most bytes of a file.
+/// Largest number of bytes of a payload: with the shortest suffix they make the largest file.
 pub(crate) const MAX_PAYLOAD: usize = 16_777_200;
 
 /// The value of bcdDFU in a DfuSe file.
@@ -45,21 +45,21 @@ impl<'f> Model for File<'f> {
 }
 
 impl<'f> File<'f> {
-    /// The bytes before the suffix, which are what a device gets.
+    /// Returns the bytes before the suffix, which are what a device gets.
     pub fn payload(&self) -> &'f [u8]
         ensures { result.now ≡ self.now.payload }
     {
         self.payload
     }
 
-    /// The device that the file is for.
+    /// Returns the identifiers of the device that the file is for.
     pub fn ids(&self) -> Ids
         ensures { result ≡ self.now.ids }
     {
         self.ids
     }
 
-    /// bcdDFU, the version of the format. It isn't 011Ah.
+    /// Returns bcdDFU, the version of the format. It isn't 011Ah.
     pub fn dfu(&self) -> u16
         ensures value { result ≡ self.now.dfu }
         ensures other { result ≢ 0x011A }
@@ -67,7 +67,7 @@ impl<'f> File<'f> {
         self.dfu
     }
 
-    /// bLength: how many bytes the suffix has, from 16 to 255.
+    /// Returns bLength: the number of bytes of the suffix, from 16 to 255.
     pub fn suffix(&self) -> u8
         ensures value { result ≡ self.now.suffix }
         ensures fits { 16 ≤ result }

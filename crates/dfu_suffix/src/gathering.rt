@@ -1,13 +1,13 @@
-//! All that a reader gives, up to a limit.
+//! Gathering of all bytes that a reader gives, up to a limit.
 
 ghost use Rattle.std.specs.Prelude.{◌≤◌, length, IfOk, IfSome};
-ghost use Rattle.dfu_suffix.specs.Gathering.{Gathers};
+ghost use Rattle.dfu_suffix.specs.Gathering.{GatherResult};
 
 use crate::file::{MAX_READS, READ_BYTES};
 use std::alloc::Global;
 use std::io::Read;
 
-/// Faults for which the bytes of a reader were not all gathered.
+/// A fault for which the bytes of a reader were not all gathered.
 #[derive(Clone, Copy)]
 pub enum GatherFault {
     /// The reader gives more bytes than the limit.
@@ -18,7 +18,7 @@ pub enum GatherFault {
     Read,
 }
 
-/// All that the reader gives, which is at most `limit` bytes. It reads up to 65,536 bytes at a time.
+/// Gathers all bytes that the reader gives, at most `limit`. Up to 65,536 bytes are read at a time.
 ///
 /// # Errors
 ///
@@ -30,9 +30,9 @@ pub fn gather<R: Read + Drop>(
     limit: usize,
 ) -> Result<Vec<u8>, GatherFault>
     requires { limit ≤ 16777216 }
-    // At Ok these are all the bytes that the reader gives, and at TooLarge they are over the limit.
-    ensures all { IfSome (R.remaining reader) (λ all. Gathers limit all result) }
-    // They are within the limit, for any reader.
+    // At Ok the bytes are all that the reader gives, and at TooLarge those are over the limit.
+    ensures all { IfSome (R.remaining reader) (λ all. GatherResult limit all result) }
+    // The bytes are within the limit, for any reader.
     ensures len { IfOk result (λ v. length v.items ≤ limit) }
 {
     let mut bytes = Vec::new(alloc);

@@ -9,8 +9,7 @@ pub fn one_reading()
     ensures one { OneReading }
 {}
 
-/// The register over four bytes or more is 0 exactly if the last four are the register over
-/// those before.
+/// The register over four bytes or more is 0 exactly if the number in the last four is the register over the bytes before them.
 pub fn last_four()
     ensures { LastFour }
 {}

@@ -1,4 +1,4 @@
-//! The suffix that a payload gets (USB DFU 1.1, appendix B), and whether bytes have one.
+//! The suffix of a payload (USB DFU 1.1, appendix B), and a test whether bytes have one.
 
 ghost use Rattle.std.specs.Prelude.{◌≡◌, ◌↔◌, ◌++◌, ℕ, true, OnOk};
 ghost use Rattle.dfu_suffix.specs.Adding.{HasSuffix};
@@ -13,7 +13,7 @@ use crate::parse::read;
 use dfu_wire::Ids;
 use std::alloc::AllocError;
 
-/// The fields up to dwCRC: bcdDFU is 0100h and bLength 16.
+/// Returns the fields up to dwCRC of a suffix with `ids`: bcdDFU is 0100h and bLength 16.
 #[tactic(auto, unfolding(crate::specs::inside::Making::added_fields))]
 fn fields_of(ids: Ids) -> [u8; 12]
     ensures { result ≡ added_fields ids }
@@ -37,7 +37,7 @@ fn fields_of(ids: Ids) -> [u8; 12]
     ]
 }
 
-/// dwCRC over a payload and the fields after it.
+/// Returns dwCRC over `payload` and the `fields` after it.
 fn crc_over(payload: &[u8], fields: &[u8]) -> u32
     ensures { result ≡ register (payload.now ++ fields.now) }
 {
@@ -47,7 +47,7 @@ fn crc_over(payload: &[u8], fields: &[u8]) -> u32
     crc.value()
 }
 
-/// Makes a file of its payload. If an allocation is refused, the text is of no more use.
+/// Makes a file of its payload. If an allocation is refused, the text has no meaning any more.
 pub(crate) fn append_suffix(text: &mut Vec<u8>, ids: Ids) -> Result<(), AllocError>
     ensures { OnOk result (text.new.items ≡ text.old.items ++ added_suffix text.old.items ids) }
 {
@@ -59,7 +59,7 @@ pub(crate) fn append_suffix(text: &mut Vec<u8>, ids: Ids) -> Result<(), AllocErr
     }
 }
 
-/// Returns whether the fault is that of a DfuSe file.
+/// Returns true if `fault` is that of a DfuSe file.
 fn is_dfuse(fault: SuffixFault) -> bool
     ensures { (result ≡ true) ↔ (fault ≡ DfuSe) }
 {
@@ -69,7 +69,7 @@ fn is_dfuse(fault: SuffixFault) -> bool
     }
 }
 
-/// Returns whether the bytes have a suffix, which may be a DfuSe file's.
+/// Returns true if `bytes` have a suffix, also that of a DfuSe file.
 pub(crate) fn has_suffix(bytes: &[u8]) -> bool
     ensures { (result ≡ true) ↔ HasSuffix bytes.now }
 {

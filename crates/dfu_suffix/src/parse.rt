@@ -3,7 +3,7 @@
 ghost use Rattle.std.specs.Prelude.{◌≡◌, ◌+◌, ◌-◌, ◌≤◌, ◌↔◌, ℕ, List, length, take, Ok, Err, IfOk};
 ghost use Rattle.dfu_suffix.specs.Grammar.{IsFile, First, tail_of};
 ghost use Rattle.dfu_suffix.specs.Register.{register};
-ghost use Rattle.dfu_suffix.specs.inside.Reading.{reading};
+ghost use Rattle.dfu_suffix.specs.inside.Reading.{read_content};
 ghost use Rattle.dfu_wire.specs.declared.ids.Ids.{Ids};
 
 use crate::crc::Crc;
@@ -11,7 +11,7 @@ use crate::fault::SuffixFault;
 use crate::file::{File, MAX_FILE, MIN_SUFFIX};
 use crate::summary::parse_tail;
 
-// The last 16 bytes, or all of them if there are fewer.
+// The last 16 bytes, or all bytes if there are fewer.
 fn tail(bytes: &[u8]) -> &[u8]
     ensures value { result.now ≡ tail_of bytes.now }
     ensures len { 16 ≤ length bytes.now → length result.now ≡ 16 }
@@ -20,7 +20,7 @@ fn tail(bytes: &[u8]) -> &[u8]
     tail
 }
 
-// The register over all bytes, which is the same by either table.
+// The register over all bytes, which is the same by the large tables and the small one.
 #[inline(always)]
 fn register_over(bytes: &[u8], by_small_table: bool) -> u32
     ensures { result ≡ register bytes.now }
@@ -43,12 +43,12 @@ fn payload_of(bytes: &[u8], suffix: usize) -> &[u8]
     payload
 }
 
-/// Reads the fields of the bytes from their end, or returns their first fault. Each reader has a body of its own, so that the small one is
-/// linked without the large tables.
+/// Reads the fields of the bytes from their end, or returns their first fault. Each reader has a body of its own, so that the small reader
+/// is linked without the large tables.
 #[inline(always)]
-#[tactic(auto, using(std::proofs::lemmas::Bool::Decides::nat_tests), unfolding(crate::specs::inside::Reading::reading))]
+#[tactic(auto, using(std::proofs::lemmas::Bool::Decides::nat_tests), unfolding(crate::specs::inside::Reading::read_content))]
 fn parse(bytes: &[u8], by_small_table: bool) -> Result<File<'_>, SuffixFault>
-    ensures { result ≡ reading bytes.now }
+    ensures { result ≡ read_content bytes.now }
 {
     if bytes.len() > MAX_FILE {
         return Err(SuffixFault::TooLarge);
@@ -76,15 +76,13 @@ fn read_by(bytes: &[u8], by_small_table: bool) -> Result<File<'_>, SuffixFault>
     parse(bytes, by_small_table)
 }
 
-/// Reads a whole file (USB DFU 1.1, appendix B). It takes no memory: the payload is a slice of
-/// `bytes`.
+/// Reads a whole file (USB DFU 1.1, appendix B). No memory is taken, because the payload is a slice of `bytes`.
 ///
 /// # Errors
 ///
-/// The first of these that holds: TooLarge over 16,777,216 bytes, TooShort under 16, NoSignature
-/// if the last 16 bytes lack 'UFD', BadLength if bLength is under 16 or over the file's
-/// length, DfuSe if bcdDFU is 011Ah, BadCrc if dwCRC isn't the register over the bytes
-/// before it.
+/// The first of these whose condition holds: TooLarge over 16,777,216 bytes, TooShort under 16, NoSignature if the last 16 bytes lack
+/// 'UFD', BadLength if bLength is under 16 or over the file's length, DfuSe if bcdDFU is 011Ah, BadCrc if dwCRC isn't the register over the
+/// bytes before it.
 pub fn read(bytes: &[u8]) -> Result<File<'_>, SuffixFault>
     // The result is a file of the grammar.
     ensures found { IfOk result (λ f. (extra : List ℕ) × IsFile f.payload f.ids f.dfu extra bytes.now × (f.suffix ≡ 16 + length extra)) }
@@ -97,9 +95,9 @@ pub fn read(bytes: &[u8]) -> Result<File<'_>, SuffixFault>
     read_by(bytes, false)
 }
 
-/// Reads a whole file as `read` does, with the same faults, by a table of 64 bytes, in about nine times as many
-/// instructions: for a program that has no room for the 8,192 bytes of the large tables. Only one that nowhere calls
-/// `read`, `check`, `add`, `Crc::update` or `Crc::update_long` links without these.
+/// Reads a whole file as `read` does, with the same faults, by a table of 64 bytes, in about nine times as many instructions: for a program
+/// that has no room for the 8,192 bytes of the large tables. Only a program that nowhere calls `read`, `check`, `add`, `Crc::update` or
+/// `Crc::update_long` links without them.
 ///
 /// # Errors
 ///

@@ -12,12 +12,12 @@ use crate::file::{DFUSE, MIN_SUFFIX};
 use byteorder::{ByteOrder, LittleEndian};
 use dfu_wire::Ids;
 
-/// A file's fields and the length of its payload, as `check` answers them.
+/// Fields of a file and the length of its payload, as `check` answers them.
 #[derive(Clone, Copy)]
 pub struct Summary {
     /// Length of the payload in bytes, at most 16,777,200.
     pub payload: u32,
-    /// bLength: how many bytes the suffix has, from 16 to 255.
+    /// bLength: the number of bytes of the suffix, from 16 to 255.
     pub suffix: u8,
     /// The device that the file is for.
     pub ids: Ids,
@@ -44,7 +44,7 @@ fn u16_at(bytes: &[u8], at: usize) -> u16
     LittleEndian::read_u16(field)
 }
 
-/// The number in the four bytes from `at`, the low one first.
+/// Returns the number in the four bytes of `bytes` from index `at` on, the low byte first.
 pub(crate) fn u32_at(bytes: &[u8], at: usize) -> u32
     requires { at + 4 ≤ length bytes.now }
     ensures { result ≡ little_number 4 (drop at bytes.now) }
@@ -65,7 +65,7 @@ fn ids_of(tail: &[u8]) -> Ids
     }
 }
 
-/// Returns the fields of the last 16 of `count` bytes, or the first fault of the file but TooLarge and BadCrc.
+/// Returns the fields in the last 16 of `count` bytes, or the first fault of the file other than TooLarge and BadCrc.
 #[tactic(auto, using(std::proofs::lemmas::Bool::Decides::nat_tests), unfolding(crate::specs::inside::TailChecks::tail_summary))]
 pub(crate) fn parse_tail(tail: &[u8], count: u32) -> Result<Summary, SuffixFault>
     requires { 16 ≤ count → length tail.now ≡ 16 }
@@ -96,8 +96,12 @@ pub(crate) fn parse_tail(tail: &[u8], count: u32) -> Result<Summary, SuffixFault
     })
 }
 
-/// The summary of a file of `count` bytes, or its first fault but TooLarge, by its last 16 bytes and the register over all of it. The
-/// register is 0 exactly if dwCRC is right.
+/// Returns the summary of a file of `count` bytes, by `tail`, its last 16 bytes, and by `register`, that over all of the file, which is 0
+/// exactly if dwCRC is right.
+///
+/// # Errors
+///
+/// The first fault of the file other than TooLarge.
 pub(crate) fn check_register(tail: &[u8], count: u32, register: u32) -> Result<Summary, SuffixFault>
     requires { length tail.now ≡ 16 }
     ensures answer { result ≡ register_checked tail.now count register }

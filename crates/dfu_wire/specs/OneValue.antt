@@ -8,7 +8,7 @@ use Rattle.dfu_wire.specs.Setup.{IsSetup}
 use Rattle.dfu_wire.specs.State.{state_byte}
 use Rattle.dfu_wire.specs.Status.{StatusFields, IsStatus}
 
--- Two values of the same bytes are the same value.
+-- Two values of the same bytes are equal.
 abbrev pub OneValue : (A : Type 0) → (A → List ℕ → Type 0) → Type 0
 OneValue A Is = (x y : A) (b : List ℕ) → Is x b → Is y b → x ≡ y
 
@@ -17,8 +17,8 @@ abbrev pub NoFault : (A : Type 0) → (A → List ℕ → Type 0) → (WireFault
 NoFault A Is Fails = (x : A) (e : WireFault) (b : List ℕ) → Is x b → Fails e b → ⊥
 
 -- No bytes are two setups.
-pub IsSetup-one : OneValue Setup IsSetup
-IsSetup-one s t b x y = λ k. record {
+pub setup_bytes_one_value : OneValue Setup IsSetup
+setup_bytes_one_value s t b x y = λ k. record {
   kind = (x.kind ∙ sym y.kind) k;
   request = (x.request ∙ sym y.request) k;
   value = (x.value ∙ sym y.value) k;
@@ -27,8 +27,8 @@ IsSetup-one s t b x y = λ k. record {
 }
 
 -- No bytes are two statuses.
-pub IsStatus-one : OneValue StatusFields IsStatus
-IsStatus-one s t b x y = grind arith
+pub status_bytes_one_value : OneValue StatusFields IsStatus
+status_bytes_one_value s t b x y = grind arith
 
 -- The states in the order of their numbers.
 abbrev states : List State
@@ -40,19 +40,19 @@ states =
 abbrev state_numbered : ℕ → State
 state_numbered n = slice_index_or states n state.Error
 
-state_back : (s : State) → state_numbered (state_byte s) ≡ s
-state_back state.AppIdle = refl
-state_back state.AppDetach = refl
-state_back state.DfuIdle = refl
-state_back state.DownloadSync = refl
-state_back state.DownloadBusy = refl
-state_back state.DownloadIdle = refl
-state_back state.ManifestSync = refl
-state_back state.Manifest = refl
-state_back state.ManifestWaitReset = refl
-state_back state.UploadIdle = refl
-state_back state.Error = refl
+state_of_state_byte : (s : State) → state_numbered (state_byte s) ≡ s
+state_of_state_byte state.AppIdle = refl
+state_of_state_byte state.AppDetach = refl
+state_of_state_byte state.DfuIdle = refl
+state_of_state_byte state.DownloadSync = refl
+state_of_state_byte state.DownloadBusy = refl
+state_of_state_byte state.DownloadIdle = refl
+state_of_state_byte state.ManifestSync = refl
+state_of_state_byte state.Manifest = refl
+state_of_state_byte state.ManifestWaitReset = refl
+state_of_state_byte state.UploadIdle = refl
+state_of_state_byte state.Error = refl
 
--- Two states of the same number are the same state.
-pub one_state : (s t : State) → state_byte s ≡ state_byte t → s ≡ t
-one_state s t e = sym (state_back s) ∙ ap state_numbered e ∙ state_back t
+-- Two states of the same number are equal.
+pub equal_state_bytes_equal_states : (s t : State) → state_byte s ≡ state_byte t → s ≡ t
+equal_state_bytes_equal_states s t e = sym (state_of_state_byte s) ∙ ap state_numbered e ∙ state_of_state_byte t

@@ -10,7 +10,7 @@ pub record IsClass (s : Setup) (kind_byte number : ℕ) : Type 0 where
   pub request : s.request ≡ number
   pub index : s.index ≡ 0
 
--- The setup is this one of the seven requests: 21h sends to the device and A1h reads from it.
+-- The setup is one of the seven requests: 21h sends to the device and A1h reads from it.
 abbrev pub IsNamed : Setup → Request → Type 0
 IsNamed s (request.Detach timeout) = IsClass s 0x21 0 × (s.length ≡ 0) × (timeout ≡ s.value)
 IsNamed s (request.Dnload block len) = IsClass s 0x21 1 × (block ≡ s.value) × (len ≡ s.length)
@@ -37,7 +37,7 @@ SetupRequest s r = IsNamed s r
 abbrev pub IsUnnamed : Request → Type 0
 IsUnnamed r = (r ≡ request.OtherClass) ⊎ (r ≡ request.NotDfu)
 
--- The name of a request in the standard, or which of the other two it is.
+-- Name of a request in the standard, or the word for a request that the standard doesn't name.
 abbrev pub request_name : Request → List ℕ
 request_name (request.Detach timeout) = codes "DETACH"
 request_name (request.Dnload block len) = codes "DNLOAD"

@@ -2,7 +2,7 @@
 use Rattle.std.specs.Prelude.{◌≡◌, ℕ, ◌+◌, ◌*◌, List, length, slice_index}
 use Rattle.dfu_wire.specs.declared.setups.Setup.{Setup}
 
--- These eight bytes are this setup: numbers of two bytes have their low byte first.
+-- The eight bytes are the setup `s`: numbers of two bytes have their low byte first.
 pub record IsSetup (s : Setup) (b : List ℕ) : Type 0 where
   pub length : length b ≡ 8
   pub kind : s.kind ≡ slice_index b 0

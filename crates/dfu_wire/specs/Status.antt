@@ -14,16 +14,14 @@ pub record StatusFields : Type 0 where
   pub poll_ms : ℕ
   pub state : State
 
--- These six bytes are this status: the poll time has its low byte first, and the sixth byte, the
--- index of a string, may be anything.
+-- The six bytes are the status `s`: the poll time has its low byte first, and the sixth byte, the index of a string, may be anything.
 pub record IsStatus (s : StatusFields) (b : List ℕ) : Type 0 where
   pub length : length b ≡ 6
   pub code : slice_index b 0 ≡ code_byte s.code
   pub poll : s.poll_ms ≡ slice_index b 1 + 256 * slice_index b 2 + 65536 * slice_index b 3
   pub state : slice_index b 4 ≡ state_byte s.state
 
--- Bytes that are no status have this first fault: they are too few, then too many, then there is no
--- such code, then no such state.
+-- First fault of bytes that are no status: they are too few; they are too many; there is no such code; there is no such state.
 abbrev pub FirstStatusFault : WireFault → List ℕ → Type 0
 FirstStatusFault fault.Short b = length b < 6
 FirstStatusFault fault.Long b = 6 < length b

@@ -50,7 +50,7 @@ static NAMES: [&str; 16] = [
 ];
 
 impl Code {
-    /// The code of this number; `UnknownCode` if it is over 15.
+    /// Returns the code with number `byte`; `UnknownCode` if `byte` is over 15.
     pub fn from_byte(byte: u8) -> Result<Code, WireFault>
         ensures ok { IfOk result (λ c. code_byte c ≡ byte) }
         ensures only { (c : Code) → code_byte c ≡ byte → result ≡ Ok c }
@@ -62,14 +62,14 @@ impl Code {
         )
     }
 
-    /// The number of the code, 0 to 15.
+    /// Returns the number of the code, 0 to 15.
     pub fn byte(self) -> u8
         ensures { result ≡ code_byte self }
     {
         self as u8
     }
 
-    /// The name of the code in the standard, as `errWRITE`.
+    /// Returns the name of the code in the standard, as `errWRITE`.
     pub fn name(self) -> &'static str
         ensures { result.now ≡ code_name self }
     {

@@ -6,7 +6,7 @@ ghost use Rattle.dfu_wire.specs.FaultName.{wire_fault_name};
 use std::fmt;
 use thiserror::Error;
 
-/// Faults of bytes or numbers that are not a value of the wire. Each reader says in which order it looks.
+/// A fault of bytes or numbers that are not a value of the wire. Each reader says in which order it looks.
 #[derive(Clone, Copy, Error)]
 pub enum WireFault {
     /// There are fewer bytes than the value has: no bytes of a functional descriptor, or fewer than its
@@ -57,7 +57,7 @@ static NAMES: [&str; 7] = [
 ];
 
 impl WireFault {
-    /// The name of the fault, that of its variant, as `Short`.
+    /// Returns the name of the fault, that of its variant, as `Short`.
     pub fn name(self) -> &'static str
         ensures { result.now ≡ wire_fault_name self }
     {

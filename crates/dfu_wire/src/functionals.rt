@@ -52,7 +52,8 @@ impl Functional {
     ghost use Rattle.dfu_wire.specs.Functional.{IsFunctional, FirstFunctionalFault, functional_of};
     ghost use Rattle.dfu_wire.specs.declared.functionals.Functional.{Functional};
 
-    /// The descriptor with these bmAttributes, of which bits 4 to 7 are ignored, and these numbers.
+    /// Returns the descriptor with bmAttributes `attributes`, of which bits 4 to 7 are ignored, wDetachTimeOut `detach_ms`, wTransferSize
+    /// `transfer` and bcdDFUVersion `version`.
     pub fn of_attributes(attributes: u8, detach_ms: u16, transfer: u16, version: u16) -> Functional
         ensures { result ≡ functional_of attributes detach_ms transfer version }
     {
@@ -137,7 +138,7 @@ impl Functional {
     }
 }
 
-/// bmAttributes of these flags, with the reserved bits 0.
+/// Returns bmAttributes of the four flags, with the reserved bits 0.
 fn attributes_of(can_download: bool, can_upload: bool, tolerant: bool, will_detach: bool) -> u8
     ensures download { IsTrue can_download ↔ IsBitSet result 0 }
     ensures upload { IsTrue can_upload ↔ IsBitSet result 1 }

@@ -3,8 +3,8 @@
 ghost use Rattle.std.specs.Prelude.{◌≡◌};
 ghost use Rattle.dfu_wire.specs.Identifier.{identifier_in};
 
-/// The number that four hexadecimal digits of either case write, the highest first; nothing for any
-/// other text. So scripts and options write idVendor, idProduct and bcdDevice.
+/// Returns the number that `digits`, four hexadecimal digits of either case, write, the highest first; None for any other text. So scripts
+/// and options write idVendor, idProduct and bcdDevice.
 pub fn identifier(digits: &[u8]) -> Option<u16>
     ensures { result ≡ identifier_in digits.now }
 {

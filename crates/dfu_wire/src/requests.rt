@@ -43,9 +43,8 @@ pub enum Request {
 impl Request {
     ghost use Rattle.dfu_wire.specs.declared.requests.Request.{Request};
 
-    /// The setup that asks for this, with index 0, and value 0 if the table has none. It is
-    /// `None` only for `OtherClass` and `NotDfu`. `Setup::request` of the result is the request
-    /// again.
+    /// Returns the setup of the request, with index 0, and value 0 if the table has none. It is `None` only for `OtherClass` and `NotDfu`.
+    /// `Setup::request` of the result is the request again.
     pub fn setup(&self) -> Option<Setup>
         ensures some { IfSome result (λ s. SetupRequest s self.now × IsPlain s self.now) }
         ensures only { (s : Setup) → IsNamed s self.now → IsPlain s self.now → result ≡ Some s }
@@ -70,7 +69,8 @@ impl Request {
         })
     }
 
-    /// The name of the request in the standard, as `DETACH`; `other-class` and `not-dfu` for the two that are not one of the seven.
+    /// Returns the name of the request in the standard, as `DETACH`; `other-class` and `not-dfu` for the two that are not one of the
+    /// seven.
     pub fn name(self) -> &'static str
         ensures { result.now ≡ request_name self }
     {

@@ -34,7 +34,7 @@ impl Setup {
     ghost use Rattle.dfu_wire.specs.declared.setups.Setup.{Setup};
     ghost use Rattle.dfu_wire.specs.declared.requests.Request.{Request};
 
-    /// Reads a setup. It never fails: any eight bytes are one.
+    /// Reads `bytes` as a setup. The call never fails: any eight bytes are one.
     pub fn decode(bytes: &[u8; 8]) -> Setup
         ensures fields { IsSetup result bytes.now }
         ensures only { (s : Setup) → IsSetup s bytes.now → result ≡ s }

@@ -40,7 +40,7 @@ static NAMES: [&str; 11] = [
 ];
 
 impl State {
-    /// The state of this number; `UnknownState` if it is over 10.
+    /// Returns the state with number `byte`; `UnknownState` if `byte` is over 10.
     pub fn from_byte(byte: u8) -> Result<State, WireFault>
         ensures ok { IfOk result (λ s. state_byte s ≡ byte) }
         ensures only { (s : State) → state_byte s ≡ byte → result ≡ Ok s }
@@ -52,14 +52,14 @@ impl State {
         )
     }
 
-    /// The number of the state, 0 to 10.
+    /// Returns the number of the state, 0 to 10.
     pub fn byte(self) -> u8
         ensures { result ≡ state_byte self }
     {
         self as u8
     }
 
-    /// The name of the state in the standard, as `dfuIDLE`.
+    /// Returns the name of the state in the standard, as `dfuIDLE`.
     pub fn name(self) -> &'static str
         ensures { result.now ≡ state_name self }
     {

@@ -7,7 +7,7 @@ use crate::{Code, State, WireFault};
 use byteorder::{ByteOrder, LittleEndian};
 use std::marker::Model;
 
-/// The most milliseconds that the three bytes of bwPollTimeout hold: 16,777,215.
+/// Largest number of milliseconds that the three bytes of bwPollTimeout hold: 16,777,215.
 const LONGEST_POLL: u32 = 0xff_ffff;
 
 /// The answer to GETSTATUS: 6 bytes on the wire.
@@ -42,7 +42,7 @@ impl Model for Status {
 }
 
 impl Status {
-    /// A status of these fields; `PollTooLong` if the poll time is over 16,777,215.
+    /// Returns a status of `code`, `poll_ms` and `state`; `PollTooLong` if `poll_ms` is over 16,777,215.
     pub fn new(code: Code, poll_ms: u32, state: State) -> Result<Status, WireFault>
         ensures ok { IfOk result (λ s.
             s ≡ record { code = code; poll_ms = poll_ms; state = state }) }
@@ -59,7 +59,7 @@ impl Status {
         })
     }
 
-    /// The status code.
+    /// Returns the status code.
     pub fn code(&self) -> Code
         ensures { result ≡ self.now.code }
     {
@@ -74,7 +74,7 @@ impl Status {
         self.poll
     }
 
-    /// The state that the device enters right after this answer.
+    /// Returns the state that the device enters right after the answer with the status.
     pub fn state(&self) -> State
         ensures { result ≡ self.now.state }
     {

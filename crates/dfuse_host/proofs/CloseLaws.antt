@@ -16,142 +16,153 @@ use Rattle.dfuse_host.specs.declared.command.Command.TheVariants as command
 use Rattle.dfuse_host.specs.declared.session.Session.{Session}
 use Rattle.dfuse_host.specs.Images.{image_start, image_end}
 use Rattle.dfuse_host.specs.Plans.{front_end, page_end, write_end}
-use Rattle.dfuse_host.specs.Settling.{stand, byte_in, can_read, sending, comparing, leaving_by, staying, to_leave, compare_front_or, to_compare_front, write_front_or, to_write_front, compare_or, to_compare, write_or, to_write, erase_or, to_erase, settle}
-use Rattle.dfuse_host.specs.Commands.{command_of, done, erased, after_write, unsure}
+use Rattle.dfuse_host.specs.Settling.{phase_with_step, byte_in, can_read, sending_step, comparing_step, phase_to_set_start, phase_when_compared, to_leave, compare_front_phase_for, to_compare_front, write_front_phase_for, to_write_front, compare_phase_for, to_compare, write_phase_for, to_write, erase_phase_for, to_erase, settled_phase}
+use Rattle.dfuse_host.specs.Commands.{command_of, phase_after_command, phase_after_erase, phase_after_write, phase_if_unsure}
 use Rattle.dfuse_host.specs.Table.{read_on, row}
-use Rattle.dfuse_host.specs.Sessions.{resumed, dfuse_step_after, dfuse_after_phase}
-use Rattle.dfuse_host.proofs.RowForms.{RowForm, stays, settles, reads, does, doubts, fails, leaves, row_form}
-use Rattle.dfuse_host.proofs.Restarts.{at_budgeted, at_restart}
-use Rattle.dfuse_host.specs.ReadBack.{Closes, ClosesIn, ClosesAlways}
+use Rattle.dfuse_host.specs.Sessions.{phase_resumed, session_after_step_heard, session_after_phase_heard}
+use Rattle.dfuse_host.proofs.RowForms.{RowForm, stays, settles, reads, does, doubts, fails, leaves, each_row_has_form}
+use Rattle.dfuse_host.proofs.Restarts.{fact_of_budgeted_phase, fact_of_session_restart}
+use Rattle.dfuse_host.specs.ReadBack.{ClosesAfterCompare, PhaseClosesAfterCompare, AlwaysClosesAfterCompare}
 
 module _ (plan : Plan) where
   -- ---- the order of work
 
-  by_sending : (w : Work) (p : Place) → Closes w (sending p)
-  by_sending w place.Lost = tt
-  by_sending w (place.At p) = tt
-  by_sending w (place.Reading p) = tt
+  sending_step_closes_late : (w : Work) (p : Place) → ClosesAfterCompare w (sending_step p)
+  sending_step_closes_late w place.Lost = tt
+  sending_step_closes_late w (place.At p) = tt
+  sending_step_closes_late w (place.Reading p) = tt
 
-  by_comparing : (w : Work) (at : ℕ) (p : Place) → Closes w (comparing plan at p)
-  by_comparing w at place.Lost = tt
-  by_comparing w at (place.At p) = elim (eqb p at) as (λ t. Closes w (cond t step.BeginReading step.Send)) [ true ↦ tt | false ↦ tt ]
-  by_comparing w at (place.Reading base) = elim (can_read plan base at) as (λ t. Closes w (cond t step.Read step.EndReading)) [ true ↦ tt | false ↦ tt ]
+  comparing_step_closes_late : (w : Work) (at : ℕ) (p : Place) → ClosesAfterCompare w (comparing_step plan at p)
+  comparing_step_closes_late w at place.Lost = tt
+  comparing_step_closes_late w at (place.At p) =
+      elim (eqb p at) as (λ t. ClosesAfterCompare w (cond t step.BeginReading step.Send)) [ true ↦ tt | false ↦ tt ]
+  comparing_step_closes_late w at (place.Reading base) =
+      elim (can_read plan base at) as (λ t. ClosesAfterCompare w (cond t step.Read step.EndReading)) [ true ↦ tt | false ↦ tt ]
 
-  by_leaving : (p : Place) → ClosesIn (leaving_by plan p)
-  by_leaving place.Lost = tt
-  by_leaving (place.At p) = elim (eqb p plan.start) as (λ t. ClosesIn (cond t (stand work.Leave (place.At p) step.Close) (stand work.Leave (place.At p) step.Send))) [
-    | true ↦ refl
-    | false ↦ tt
-  ]
-  by_leaving (place.Reading p) = tt
+  leaving_closes_late : (p : Place) → PhaseClosesAfterCompare (phase_to_set_start plan p)
+  leaving_closes_late place.Lost = tt
+  leaving_closes_late (place.At p) =
+      elim (eqb p plan.start) as (λ t. PhaseClosesAfterCompare (cond t (phase_with_step work.Leave (place.At p) step.Close)
+      (phase_with_step work.Leave (place.At p) step.Send))) [
+        | true ↦ refl
+        | false ↦ tt
+      ]
+  leaving_closes_late (place.Reading p) = tt
 
-  by_staying : (p : Place) → ClosesIn (staying p)
-  by_staying place.Lost = tt
-  by_staying (place.At p) = tt
-  by_staying (place.Reading p) = tt
+  staying_closes_late : (p : Place) → PhaseClosesAfterCompare (phase_when_compared p)
+  staying_closes_late place.Lost = tt
+  staying_closes_late (place.At p) = tt
+  staying_closes_late (place.Reading p) = tt
 
-  at_leave : (p : Place) → ClosesIn (to_leave plan p)
+  to_leave_closes_late : (p : Place) → PhaseClosesAfterCompare (to_leave plan p)
   unfolding to_leave
-  at_leave p = elim plan.leaves as (λ t. ClosesIn (cond t (leaving_by plan p) (staying p))) [ true ↦ by_leaving p | false ↦ by_staying p ]
+  to_leave_closes_late p =
+      elim plan.leaves as (λ t. PhaseClosesAfterCompare (cond t (phase_to_set_start plan p) (phase_when_compared p)))
+      [ true ↦ leaving_closes_late p | false ↦ staying_closes_late p ]
 
-  compare_front_by : (p : Place) (o : Option ℕ) → ClosesIn (compare_front_or plan p o)
-  compare_front_by p None = at_leave p
-  compare_front_by p (Some at) = by_comparing (work.CompareFront at) at p
+  compare_front_closes_by_byte : (p : Place) (o : Option ℕ) → PhaseClosesAfterCompare (compare_front_phase_for plan p o)
+  compare_front_closes_by_byte p None = to_leave_closes_late p
+  compare_front_closes_by_byte p (Some at) = comparing_step_closes_late (work.CompareFront at) at p
 
-  at_compare_front : (p : Place) (at : ℕ) → ClosesIn (to_compare_front plan p at)
+  to_compare_front_closes_late : (p : Place) (at : ℕ) → PhaseClosesAfterCompare (to_compare_front plan p at)
   unfolding to_compare_front
-  at_compare_front p at = compare_front_by p (byte_in plan at (front_end plan))
+  to_compare_front_closes_late p at = compare_front_closes_by_byte p (byte_in plan at (front_end plan))
 
-  write_front_by : (p : Place) (o : Option ℕ) → ClosesIn (write_front_or plan p o)
-  write_front_by p None = at_compare_front p (image_start plan.image.now)
-  write_front_by p (Some at) = by_sending (work.WriteFront at) p
+  write_front_closes_by_byte : (p : Place) (o : Option ℕ) → PhaseClosesAfterCompare (write_front_phase_for plan p o)
+  write_front_closes_by_byte p None = to_compare_front_closes_late p (image_start plan.image.now)
+  write_front_closes_by_byte p (Some at) = sending_step_closes_late (work.WriteFront at) p
 
-  at_write_front : (p : Place) (at : ℕ) → ClosesIn (to_write_front plan p at)
+  to_write_front_closes_late : (p : Place) (at : ℕ) → PhaseClosesAfterCompare (to_write_front plan p at)
   unfolding to_write_front
-  at_write_front p at = write_front_by p (byte_in plan at (front_end plan))
+  to_write_front_closes_late p at = write_front_closes_by_byte p (byte_in plan at (front_end plan))
 
-  compare_by : (p : Place) (o : Option ℕ) → ClosesIn (compare_or plan p o)
-  compare_by p None = at_write_front p (image_start plan.image.now)
-  compare_by p (Some at) = by_comparing (work.Compare at) at p
+  compare_closes_by_byte : (p : Place) (o : Option ℕ) → PhaseClosesAfterCompare (compare_phase_for plan p o)
+  compare_closes_by_byte p None = to_write_front_closes_late p (image_start plan.image.now)
+  compare_closes_by_byte p (Some at) = comparing_step_closes_late (work.Compare at) at p
 
-  at_compare : (p : Place) (at : ℕ) → ClosesIn (to_compare plan p at)
+  to_compare_closes_late : (p : Place) (at : ℕ) → PhaseClosesAfterCompare (to_compare plan p at)
   unfolding to_compare
-  at_compare p at = compare_by p (byte_in plan at (image_end plan.image.now))
+  to_compare_closes_late p at = compare_closes_by_byte p (byte_in plan at (image_end plan.image.now))
 
-  write_by : (p : Place) (end : ℕ) (o : Option ℕ) → ClosesIn (write_or plan p end o)
-  write_by p end None = at_compare p (front_end plan)
-  write_by p end (Some at) = by_sending (work.Write at end) p
+  write_closes_by_byte : (p : Place) (end : ℕ) (o : Option ℕ) → PhaseClosesAfterCompare (write_phase_for plan p end o)
+  write_closes_by_byte p end None = to_compare_closes_late p (front_end plan)
+  write_closes_by_byte p end (Some at) = sending_step_closes_late (work.Write at end) p
 
-  at_write : (p : Place) (at end : ℕ) → ClosesIn (to_write plan p at end)
+  to_write_closes_late : (p : Place) (at end : ℕ) → PhaseClosesAfterCompare (to_write plan p at end)
   unfolding to_write
-  at_write p at end = write_by p end (byte_in plan at end)
+  to_write_closes_late p at end = write_closes_by_byte p end (byte_in plan at end)
 
-  erase_by : (p : Place) (o : Option ℕ) → ClosesIn (erase_or plan p o)
-  erase_by p None = at_write p (front_end plan) (image_end plan.image.now)
-  erase_by p (Some at) = by_sending (work.Erase at) p
+  erase_closes_by_byte : (p : Place) (o : Option ℕ) → PhaseClosesAfterCompare (erase_phase_for plan p o)
+  erase_closes_by_byte p None = to_write_closes_late p (front_end plan) (image_end plan.image.now)
+  erase_closes_by_byte p (Some at) = sending_step_closes_late (work.Erase at) p
 
-  at_erase : (p : Place) (at : ℕ) → ClosesIn (to_erase plan p at)
+  to_erase_closes_late : (p : Place) (at : ℕ) → PhaseClosesAfterCompare (to_erase plan p at)
   unfolding to_erase
-  at_erase p at = erase_by p (byte_in plan at (image_end plan.image.now))
+  to_erase_closes_late p at = erase_closes_by_byte p (byte_in plan at (image_end plan.image.now))
 
-  at_settle : (w : Work) (p : Place) → ClosesIn (settle plan w p)
-  unfolding settle
-  at_settle (work.Erase at) p = at_erase p at
-  at_settle (work.EraseAgain page end) p = by_sending (work.EraseAgain page end) p
-  at_settle (work.Write at end) p = at_write p at end
-  at_settle (work.Compare at) p = at_compare p at
-  at_settle (work.WriteFront at) p = at_write_front p at
-  at_settle (work.CompareFront at) p = at_compare_front p at
-  at_settle work.Leave p = at_leave p
+  settled_phase_closes_late : (w : Work) (p : Place) → PhaseClosesAfterCompare (settled_phase plan w p)
+  unfolding settled_phase
+  settled_phase_closes_late (work.Erase at) p = to_erase_closes_late p at
+  settled_phase_closes_late (work.EraseAgain page end) p = sending_step_closes_late (work.EraseAgain page end) p
+  settled_phase_closes_late (work.Write at end) p = to_write_closes_late p at end
+  settled_phase_closes_late (work.Compare at) p = to_compare_closes_late p at
+  settled_phase_closes_late (work.WriteFront at) p = to_write_front_closes_late p at
+  settled_phase_closes_late (work.CompareFront at) p = to_compare_front_closes_late p at
+  settled_phase_closes_late work.Leave p = to_leave_closes_late p
 
   -- ---- commands
 
-  at_unsure : (w : Work) (c : Command) → ClosesIn (unsure plan w c)
-  at_unsure w (command.SetAddress at) = tt
-  at_unsure w (command.ErasePage at) = tt
-  at_unsure w (command.Write at) = tt
+  unsure_phase_closes_late : (w : Work) (c : Command) → PhaseClosesAfterCompare (phase_if_unsure plan w c)
+  unsure_phase_closes_late w (command.SetAddress at) = tt
+  unsure_phase_closes_late w (command.ErasePage at) = tt
+  unsure_phase_closes_late w (command.Write at) = tt
 
-  at_erased : (w : Work) (at : ℕ) → ClosesIn (erased plan w at)
-  at_erased (work.EraseAgain page end) at = at_write place.Lost _ end
-  at_erased w at = at_erase place.Lost (page_end plan at)
+  after_erase_closes_late : (w : Work) (at : ℕ) → PhaseClosesAfterCompare (phase_after_erase plan w at)
+  after_erase_closes_late (work.EraseAgain page end) at = to_write_closes_late place.Lost _ end
+  after_erase_closes_late w at = to_erase_closes_late place.Lost (page_end plan at)
 
-  at_written : (w : Work) (at : ℕ) → ClosesIn (after_write plan w at)
-  at_written (work.Write from end) at = at_write place.Lost _ end
-  at_written w at = at_write_front place.Lost (write_end plan at (front_end plan))
+  after_write_closes_late : (w : Work) (at : ℕ) → PhaseClosesAfterCompare (phase_after_write plan w at)
+  after_write_closes_late (work.Write from end) at = to_write_closes_late place.Lost _ end
+  after_write_closes_late w at = to_write_front_closes_late place.Lost (write_end plan at (front_end plan))
 
-  at_done : (w : Work) (c : Command) → ClosesIn (done plan w c)
-  at_done w (command.SetAddress at) = at_settle w (place.At at)
-  at_done w (command.ErasePage at) = at_erased w at
-  at_done w (command.Write at) = at_written w at
+  after_command_closes_late : (w : Work) (c : Command) → PhaseClosesAfterCompare (phase_after_command plan w c)
+  after_command_closes_late w (command.SetAddress at) = settled_phase_closes_late w (place.At at)
+  after_command_closes_late w (command.ErasePage at) = after_erase_closes_late w at
+  after_command_closes_late w (command.Write at) = after_write_closes_late w at
 
   -- ---- rows
 
-  by_form : (w : Work) (p : Place) (s : Step) (x : Heard) (next : Phase) → RowForm plan w p s x next → ClosesIn next
-  by_form w p s x next (stays p' s' c) = c
-  by_form w p s x next (settles p') = at_settle w p'
-  by_form w p s x next reads = at_settle (read_on plan w) p
-  by_form w p s x next does = at_done w (command_of plan w p)
-  by_form w p s x next doubts = at_unsure w (command_of plan w p)
-  by_form w p s x next (fails r no_success) = tt
-  by_form w p s x next (leaves e) = tt
+  row_form_closes_late : (w : Work) (p : Place) (s : Step) (x : Heard) (next : Phase) → RowForm plan w p s x next →
+      PhaseClosesAfterCompare next
+  row_form_closes_late w p s x next (stays p' s' c) = c
+  row_form_closes_late w p s x next (settles p') = settled_phase_closes_late w p'
+  row_form_closes_late w p s x next reads = settled_phase_closes_late (read_on plan w) p
+  row_form_closes_late w p s x next does = after_command_closes_late w (command_of plan w p)
+  row_form_closes_late w p s x next doubts = unsure_phase_closes_late w (command_of plan w p)
+  row_form_closes_late w p s x next (fails r no_success) = tt
+  row_form_closes_late w p s x next (leaves e) = tt
 
-  at_row : (w : Work) (p : Place) (s : Step) (x : Heard) → Closes w s → ClosesIn (row plan w p s x)
-  at_row w p s x c = by_form w p s x (row plan w p s x) (row_form plan w p s x c)
+  row_closes_late : (w : Work) (p : Place) (s : Step) (x : Heard) → ClosesAfterCompare w s → PhaseClosesAfterCompare (row plan w p s x)
+  row_closes_late w p s x c = row_form_closes_late w p s x (row plan w p s x) (each_row_has_form plan w p s x c)
 
-  at_resumed : (w : Work) (p : Place) (s : Step) → ClosesIn (resumed plan w p s)
-  at_resumed w p (step.Poll last) = at_unsure w (command_of plan w p)
-  at_resumed w p (step.PollWait ms) = at_unsure w (command_of plan w p)
-  at_resumed w p s = tt
+  resumed_phase_closes_late : (w : Work) (p : Place) (s : Step) → PhaseClosesAfterCompare (phase_resumed plan w p s)
+  resumed_phase_closes_late w p (step.Poll last) = unsure_phase_closes_late w (command_of plan w p)
+  resumed_phase_closes_late w p (step.PollWait ms) = unsure_phase_closes_late w (command_of plan w p)
+  resumed_phase_closes_late w p s = tt
 
 -- ---- sessions
 
-at_told : (s : Session) (w : Work) (p : Place) (at : Step) (x : Heard) → Closes w at → ClosesIn (dfuse_step_after s w p at x).phase
-at_told s w p at heard.Restarted c = at_restart ClosesIn (λ r. tt) at_resumed s w p at
-at_told s w p at x c = at_budgeted ClosesIn (λ r. tt) (pred s.actions) (row s.plan w p at x) (at_row s.plan w p at x c)
+heard_step_closes_late : (s : Session) (w : Work) (p : Place) (at : Step) (x : Heard) → ClosesAfterCompare w at
+    → PhaseClosesAfterCompare (session_after_step_heard s w p at x).phase
+heard_step_closes_late s w p at heard.Restarted c = fact_of_session_restart PhaseClosesAfterCompare (λ r. tt) resumed_phase_closes_late s w
+    p at
+heard_step_closes_late s w p at x c = fact_of_budgeted_phase PhaseClosesAfterCompare (λ r. tt) (pred s.actions) (row s.plan w p at x)
+    (row_closes_late s.plan w p at x c)
 
-at_phase : (s : Session) (p : Phase) (x : Heard) → s.phase ≡ p → ClosesIn p → ClosesIn (dfuse_after_phase s p x).phase
-at_phase s (Over r) x e c = subst ClosesIn (sym e) tt
-at_phase s (On at) x e c = at_told s at.work at.place at.step x c
+next_phase_closes_late : (s : Session) (p : Phase) (x : Heard) → s.phase ≡ p → PhaseClosesAfterCompare p →
+    PhaseClosesAfterCompare (session_after_phase_heard s p x).phase
+next_phase_closes_late s (Over r) x e c = subst PhaseClosesAfterCompare (sym e) tt
+next_phase_closes_late s (On at) x e c = heard_step_closes_late s at.work at.place at.step x c
 
-pub closes_always : ClosesAlways
-closes_always s x c = at_phase s s.phase x refl c
+pub closes_always : AlwaysClosesAfterCompare
+closes_always s x c = next_phase_closes_late s s.phase x refl c

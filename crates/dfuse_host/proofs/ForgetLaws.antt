@@ -11,24 +11,26 @@ use Rattle.dfuse_host.specs.declared.heard.Heard.TheVariants as heard
 use Rattle.dfuse_host.specs.declared.command.Command.{Command}
 use Rattle.dfuse_host.specs.declared.command.Command.TheVariants as command
 use Rattle.dfuse_host.specs.declared.session.Session.{Session}
-use Rattle.dfuse_host.specs.Commands.{command_of, unsure}
-use Rattle.dfuse_host.specs.Sessions.{resumed, dfuse_after_phase}
-use Rattle.dfuse_host.specs.Forgetting.{IsLost, ForgetsPointer}
-use Rattle.dfuse_host.proofs.Restarts.{at_restart}
+use Rattle.dfuse_host.specs.Commands.{command_of, phase_if_unsure}
+use Rattle.dfuse_host.specs.Sessions.{phase_resumed, session_after_phase_heard}
+use Rattle.dfuse_host.specs.Forgetting.{IsPointerLost, RestartForgetsPointer}
+use Rattle.dfuse_host.proofs.Restarts.{fact_of_session_restart}
 
-at_unsure : (plan : Plan) (w : Work) (c : Command) → IsLost (unsure plan w c)
-at_unsure plan w (command.SetAddress at) = refl
-at_unsure plan w (command.ErasePage at) = refl
-at_unsure plan w (command.Write at) = refl
+unsure_phase_loses_pointer : (plan : Plan) (w : Work) (c : Command) → IsPointerLost (phase_if_unsure plan w c)
+unsure_phase_loses_pointer plan w (command.SetAddress at) = refl
+unsure_phase_loses_pointer plan w (command.ErasePage at) = refl
+unsure_phase_loses_pointer plan w (command.Write at) = refl
 
-at_resumed : (plan : Plan) (w : Work) (p : Place) (s : Step) → IsLost (resumed plan w p s)
-at_resumed plan w p (step.Poll last) = at_unsure plan w (command_of plan w p)
-at_resumed plan w p (step.PollWait ms) = at_unsure plan w (command_of plan w p)
-at_resumed plan w p s = refl
+resumed_phase_loses_pointer : (plan : Plan) (w : Work) (p : Place) (s : Step) → IsPointerLost (phase_resumed plan w p s)
+resumed_phase_loses_pointer plan w p (step.Poll last) = unsure_phase_loses_pointer plan w (command_of plan w p)
+resumed_phase_loses_pointer plan w p (step.PollWait ms) = unsure_phase_loses_pointer plan w (command_of plan w p)
+resumed_phase_loses_pointer plan w p s = refl
 
-at_phase : (s : Session) (p : Phase) → s.phase ≡ p → IsLost (dfuse_after_phase s p heard.Restarted).phase
-at_phase s (Over r) e = subst IsLost (sym e) tt
-at_phase s (On at) e = at_restart IsLost (λ r. tt) at_resumed s at.work at.place at.step
+restarted_phase_loses_pointer : (s : Session) (p : Phase) → s.phase ≡ p →
+    IsPointerLost (session_after_phase_heard s p heard.Restarted).phase
+restarted_phase_loses_pointer s (Over r) e = subst IsPointerLost (sym e) tt
+restarted_phase_loses_pointer s (On at) e = fact_of_session_restart IsPointerLost (λ r. tt) resumed_phase_loses_pointer s at.work at.place
+    at.step
 
-pub forgets_pointer : ForgetsPointer
-forgets_pointer s = at_phase s s.phase refl
+pub restart_loses_pointer : RestartForgetsPointer
+restart_loses_pointer s = restarted_phase_loses_pointer s s.phase refl

@@ -13,64 +13,67 @@ use Rattle.dfuse_host.specs.declared.heard.Heard.TheVariants as heard
 use Rattle.dfuse_host.specs.declared.seen.Seen.{Seen}
 use Rattle.dfuse_host.specs.declared.session.Session.{Session}
 use Rattle.dfuse_host.specs.Refusing.{apart_from}
-use Rattle.dfuse_host.specs.Sessions.{initial_dfuse, resumed, dfuse_restarted, restarted_leaving, restarted_in, dfuse_step_after, dfuse_after_phase, SessionRow, SessionRows, seen_all, sees}
-use Rattle.dfuse_host.specs.ReadBack.{HasByte, WasReadIn, ReadsBackIn, ClosesIn}
-use Rattle.dfuse_host.specs.ReadInRun.{IsReadIn, EachIsRead}
+use Rattle.dfuse_host.specs.Sessions.{initial_dfuse_session, phase_resumed, session_with_restart_taken, restarted_leaving, session_after_restart, session_after_step_heard, session_after_phase_heard, SessionRow, SessionRows, seen_all, sees}
+use Rattle.dfuse_host.specs.ReadBack.{HasByte, WasReadInPhase, PhaseReadsBack, PhaseClosesAfterCompare}
+use Rattle.dfuse_host.specs.ReadInRun.{IsReadInRun, VerifiedReadEachByte}
 use Rattle.dfuse_host.proofs.CloseLaws.{closes_always}
 use Rattle.dfuse_host.proofs.ReadBackLaws.{only_read_back}
 
 -- ---- a session keeps its plan
 
-plan_restarted : (s : Session) (p : Phase) (n : ℕ) → (dfuse_restarted s p n).plan ≡ s.plan
-plan_restarted s p zero = refl
-plan_restarted s p (suc n) = refl
+restarted_session_keeps_plan : (s : Session) (p : Phase) (n : ℕ) → (session_with_restart_taken s p n).plan ≡ s.plan
+restarted_session_keeps_plan s p zero = refl
+restarted_session_keeps_plan s p (suc n) = refl
 
-plan_leaving : (s : Session) (p : Place) (at : Step) → (restarted_leaving s p at).plan ≡ s.plan
-plan_leaving s p step.Close = refl
-plan_leaving s p step.CloseProbe = refl
-plan_leaving s p step.ClosePoll = refl
-plan_leaving s p at = plan_restarted s (resumed s.plan work.Leave p at) s.restarts
+restart_leaving_keeps_plan : (s : Session) (p : Place) (at : Step) → (restarted_leaving s p at).plan ≡ s.plan
+restart_leaving_keeps_plan s p step.Close = refl
+restart_leaving_keeps_plan s p step.CloseProbe = refl
+restart_leaving_keeps_plan s p step.ClosePoll = refl
+restart_leaving_keeps_plan s p at = restarted_session_keeps_plan s (phase_resumed s.plan work.Leave p at) s.restarts
 
-plan_restart : (s : Session) (w : Work) (p : Place) (at : Step) → (restarted_in s w p at).plan ≡ s.plan
-plan_restart s work.Leave p at = plan_leaving s p at
-plan_restart s w p at = plan_restarted s (resumed s.plan w p at) s.restarts
+restart_keeps_plan : (s : Session) (w : Work) (p : Place) (at : Step) → (session_after_restart s w p at).plan ≡ s.plan
+restart_keeps_plan s work.Leave p at = restart_leaving_keeps_plan s p at
+restart_keeps_plan s w p at = restarted_session_keeps_plan s (phase_resumed s.plan w p at) s.restarts
 
--- A session that goes on keeps its plan, whatever it hears.
-pub plan_told : (s : Session) (w : Work) (p : Place) (at : Step) (h : Heard) → (dfuse_step_after s w p at h).plan ≡ s.plan
-plan_told s w p at heard.Restarted = plan_restart s w p at
-plan_told s w p at h = refl
+-- A session that goes on keeps its plan, whatever is heard.
+pub step_after_keeps_plan : (s : Session) (w : Work) (p : Place) (at : Step) (h : Heard) → (session_after_step_heard s w p at h).plan
+    ≡ s.plan
+step_after_keeps_plan s w p at heard.Restarted = restart_keeps_plan s w p at
+step_after_keeps_plan s w p at h = refl
 
--- So does its next step.
-pub plan_after : (s : Session) (p : Phase) (h : Heard) → (dfuse_after_phase s p h).plan ≡ s.plan
-plan_after s (Over r) h = refl
-plan_after s (On at) h = plan_told s at.work at.place at.step h
+-- The session after its next step has the same plan, whatever is heard.
+pub phase_after_keeps_plan : (s : Session) (p : Phase) (h : Heard) → (session_after_phase_heard s p h).plan ≡ s.plan
+phase_after_keeps_plan s (Over r) h = refl
+phase_after_keeps_plan s (On at) h = step_after_keeps_plan s at.work at.place at.step h
 
 -- ---- a run
 
--- Facts of a session whose bytes are counted.
-record Counts (s : Session) (a : ℕ) : Type 0 where
+-- Facts of a session that counts the byte at `a` as read back or not.
+record CountsReadByte (s : Session) (a : ℕ) : Type 0 where
   apart : apart_from 0 s.plan.image.now ≡ true
   has : HasByte a s.plan.image.now
-  closes : ClosesIn s.phase
+  closes : PhaseClosesAfterCompare s.phase
 
-counts_on : (s mid : Session) (seen : Seen) (a : ℕ) → SessionRow s seen mid → Counts s a → Counts mid a
-counts_on s mid seen a step c =
-    let plan : mid.plan ≡ s.plan = ap (λ (t : Session). t.plan) step.same ∙ plan_after s s.phase step.heard in record {
+read_facts_after_row : (s mid : Session) (seen : Seen) (a : ℕ) → SessionRow s seen mid → CountsReadByte s a → CountsReadByte mid a
+read_facts_after_row s mid seen a step c =
+    let plan : mid.plan ≡ s.plan = ap (λ (t : Session). t.plan) step.same ∙ phase_after_keeps_plan s s.phase step.heard in record {
       apart = subst (λ (q : Plan). apart_from 0 q.image.now ≡ true) (sym plan) c.apart;
       has = subst (λ (q : Plan). HasByte a q.image.now) (sym plan) c.has;
-      closes = subst (λ (t : Session). ClosesIn t.phase) (sym step.same) (closes_always s step.heard c.closes);
+      closes = subst (λ (t : Session). PhaseClosesAfterCompare t.phase) (sym step.same) (closes_always s step.heard c.closes);
     }
 
--- Behind one thing seen, a byte counted before, or it was read back.
-one_step : (s mid : Session) (seen : Seen) (a : ℕ) (step : SessionRow s seen mid) → Counts s a → WasReadIn mid.plan mid.phase a →
-    WasReadIn s.plan s.phase a ⊎ ReadsBackIn s.plan s.phase step.heard a
-one_step s mid seen a step c h =
-    let plan : mid.plan ≡ s.plan = ap (λ (t : Session). t.plan) step.same ∙ plan_after s s.phase step.heard in
-    let here : WasReadIn s.plan mid.phase a = subst (λ (q : Plan). WasReadIn q mid.phase a) plan h in
-    only_read_back s step.heard a c.apart c.has c.closes (subst (λ (t : Session). WasReadIn s.plan t.phase a) step.same here)
+-- After one result, a byte counts as read back because it did before, or was read back just now.
+read_byte_after_result : (s mid : Session) (seen : Seen) (a : ℕ) (step : SessionRow s seen mid) → CountsReadByte s a →
+    WasReadInPhase mid.plan mid.phase a →
+    WasReadInPhase s.plan s.phase a ⊎ PhaseReadsBack s.plan s.phase step.heard a
+read_byte_after_result s mid seen a step c h =
+    let plan : mid.plan ≡ s.plan = ap (λ (t : Session). t.plan) step.same ∙ phase_after_keeps_plan s s.phase step.heard in
+    let here : WasReadInPhase s.plan mid.phase a = subst (λ (q : Plan). WasReadInPhase q mid.phase a) plan h in
+    only_read_back s step.heard a c.apart c.has c.closes (subst (λ (t : Session). WasReadInPhase s.plan t.phase a) step.same here)
 
-later : (s mid s' : Session) (seen : Seen) (more : List Seen) (a : ℕ) → SessionRow s seen mid → IsReadIn mid more s' a → IsReadIn s (seen ∷ more) s' a
-later s mid s' seen more a step r = record {
+read_in_longer_run : (s mid s' : Session) (seen : Seen) (more : List Seen) (a : ℕ) → SessionRow s seen mid → IsReadInRun mid more s' a →
+    IsReadInRun s (seen ∷ more) s' a
+read_in_longer_run s mid s' seen more a step r = record {
   before = seen ∷ r.before;
   answer = r.answer;
   behind = r.behind;
@@ -83,12 +86,13 @@ later s mid s' seen more a step r = record {
   rest = r.rest;
 }
 
-in_run : (s s' : Session) (seens : List Seen) (a : ℕ) → SessionRows s seens s' → Counts s a → WasReadIn s'.plan s'.phase a →
-    WasReadIn s.plan s.phase a ⊎ IsReadIn s seens s' a
-in_run s s' [] a seen_all c h = inl h
-in_run s s' (seen ∷ more) a (sees {mid = mid} step rows) c h =
-    elim (in_run mid s' more a rows (counts_on s mid seen a step c) h) [
-      | inl w ↦ elim (one_step s mid seen a step c w) [
+counted_byte_is_read_in_run : (s s' : Session) (seens : List Seen) (a : ℕ) → SessionRows s seens s' → CountsReadByte s a →
+    WasReadInPhase s'.plan s'.phase a →
+    WasReadInPhase s.plan s.phase a ⊎ IsReadInRun s seens s' a
+counted_byte_is_read_in_run s s' [] a seen_all c h = inl h
+counted_byte_is_read_in_run s s' (seen ∷ more) a (sees {mid = mid} step rows) c h =
+    elim (counted_byte_is_read_in_run mid s' more a rows (read_facts_after_row s mid seen a step c) h) [
+      | inl w ↦ elim (read_byte_after_result s mid seen a step c w) [
         | inl k ↦ inl k
         | inr k ↦ inr (record {
           before = [];
@@ -103,11 +107,11 @@ in_run s s' (seen ∷ more) a (sees {mid = mid} step rows) c h =
           rest = rows;
         })
       ]
-      | inr w ↦ inr (later s mid s' seen more a step w)
+      | inr w ↦ inr (read_in_longer_run s mid s' seen more a step w)
     ]
 
-pub each_is_read : EachIsRead
-each_is_read plan limits seens s' leaving a apart rows over b =
-    let counts : Counts (initial_dfuse plan limits) a = record { apart = apart; has = b; closes = tt } in
-    let end : WasReadIn s'.plan s'.phase a = subst (λ (p : Phase). WasReadIn s'.plan p a) (sym over) tt in
-    elim (in_run (initial_dfuse plan limits) s' seens a rows counts end) [ inl w ↦ absurd w | inr w ↦ w ]
+pub verified_session_read_each_byte : VerifiedReadEachByte
+verified_session_read_each_byte plan limits seens s' leaving a apart rows over b =
+    let counts : CountsReadByte (initial_dfuse_session plan limits) a = record { apart = apart; has = b; closes = tt } in
+    let end : WasReadInPhase s'.plan s'.phase a = subst (λ (p : Phase). WasReadInPhase s'.plan p a) (sym over) tt in
+    elim (counted_byte_is_read_in_run (initial_dfuse_session plan limits) s' seens a rows counts end) [ inl w ↦ absurd w | inr w ↦ w ]

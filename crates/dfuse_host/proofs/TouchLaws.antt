@@ -1,4 +1,4 @@
--- Rows lead to bytes of the image.
+-- Works of each next phase are at bytes of the image.
 use Rattle.std.proofs.Common.{◌≡◌, ℕ, ◌≤◌, max, true, false, cond, eqb, Option, Some, None, refl, arith}
 use Rattle.dfuse_host.specs.declared.plan.Plan.{Plan}
 use Rattle.dfuse_host.specs.declared.phase.Phase.{Phase}
@@ -15,130 +15,147 @@ use Rattle.dfuse_host.specs.declared.command.Command.TheVariants as command
 use Rattle.dfuse_host.specs.Images.{next_byte, image_start, image_end}
 use Rattle.dfuse_host.specs.Plans.{page_end, front_end, write_end}
 use Rattle.dfuse_host.specs.Refusing.{is_empty}
-use Rattle.dfuse_host.specs.Settling.{byte_in, leaving_by, staying, to_leave, compare_front_or, to_compare_front, write_front_or, to_write_front, compare_or, to_compare, write_or, to_write, erase_or, to_erase, settle}
-use Rattle.dfuse_host.specs.Commands.{command_of, done, erased, after_write, again, unsure}
+use Rattle.dfuse_host.specs.Settling.{byte_in, phase_to_set_start, phase_when_compared, to_leave, compare_front_phase_for, to_compare_front, write_front_phase_for, to_write_front, compare_phase_for, to_compare, write_phase_for, to_write, erase_phase_for, to_erase, settled_phase}
+use Rattle.dfuse_host.specs.Commands.{command_of, phase_after_command, phase_after_erase, phase_after_write, work_after_unsure_write, phase_if_unsure}
 use Rattle.dfuse_host.specs.Table.{read_on}
 use Rattle.dfuse_host.specs.ReadBack.{HasByte}
-use Rattle.dfuse_host.specs.Touching.{Touches, TouchesIn}
+use Rattle.dfuse_host.specs.Touching.{WorkTouchesImage, PhaseTouchesImage}
 use Rattle.dfuse_host.proofs.RowForms.{RowForm, stays, settles, reads, does, doubts, fails, leaves}
-use Rattle.dfuse_host.proofs.TouchedBytes.{next_has, before_is, filled, byte_from}
+use Rattle.dfuse_host.proofs.TouchedBytes.{next_byte_of_image, if_before_keeps_byte, nonempty_image_is_filled, byte_in_not_before}
 
 module _ (plan : Plan) (some : is_empty plan.image.now ≡ false) where
-  byte_has : (at end c : ℕ) → byte_in plan at end ≡ Some c → HasByte c plan.image.now
+  byte_in_is_of_image : (at end c : ℕ) → byte_in plan at end ≡ Some c → HasByte c plan.image.now
   unfolding byte_in
-  byte_has at end c h = next_has at c plan.image.now (filled plan.image.now some) (before_is end c (next_byte at plan.image.now) h)
+  byte_in_is_of_image at end c h =
+      next_byte_of_image at c plan.image.now (nonempty_image_is_filled plan.image.now some) (if_before_keeps_byte end c (next_byte at
+      plan.image.now) h)
 
-  by_leaving : (p : Place) → TouchesIn plan (leaving_by plan p)
-  by_leaving place.Lost = tt
-  by_leaving (place.At p) = elim (eqb p plan.start) as (λ t. TouchesIn plan (cond t (On (record { work = work.Leave; place = place.At p; step = step.Close })) (On (record { work = work.Leave; place = place.At p; step = step.Send })))) [ true ↦ tt | false ↦ tt ]
-  by_leaving (place.Reading p) = tt
+  leaving_touches_image : (p : Place) → PhaseTouchesImage plan (phase_to_set_start plan p)
+  leaving_touches_image place.Lost = tt
+  leaving_touches_image (place.At p) =
+      elim (eqb p plan.start) as (λ t. PhaseTouchesImage plan
+      (cond t (On (record { work = work.Leave; place = place.At p; step = step.Close }))
+      (On (record { work = work.Leave; place = place.At p; step = step.Send })))) [ true ↦ tt | false ↦ tt ]
+  leaving_touches_image (place.Reading p) = tt
 
-  by_staying : (p : Place) → TouchesIn plan (staying p)
-  by_staying place.Lost = tt
-  by_staying (place.At p) = tt
-  by_staying (place.Reading p) = tt
+  staying_touches_image : (p : Place) → PhaseTouchesImage plan (phase_when_compared p)
+  staying_touches_image place.Lost = tt
+  staying_touches_image (place.At p) = tt
+  staying_touches_image (place.Reading p) = tt
 
-  at_leave : (p : Place) → TouchesIn plan (to_leave plan p)
+  to_leave_touches_image : (p : Place) → PhaseTouchesImage plan (to_leave plan p)
   unfolding to_leave
-  at_leave p = elim plan.leaves as (λ t. TouchesIn plan (cond t (leaving_by plan p) (staying p))) [ true ↦ by_leaving p | false ↦ by_staying p ]
+  to_leave_touches_image p =
+      elim plan.leaves as (λ t. PhaseTouchesImage plan (cond t (phase_to_set_start plan p) (phase_when_compared p)))
+      [ true ↦ leaving_touches_image p | false ↦ staying_touches_image p ]
 
-  compare_front_by : (p : Place) (o : Option ℕ) → TouchesIn plan (compare_front_or plan p o)
-  compare_front_by p None = at_leave p
-  compare_front_by p (Some at) = tt
+  compare_front_touches_by_byte : (p : Place) (o : Option ℕ) → PhaseTouchesImage plan (compare_front_phase_for plan p o)
+  compare_front_touches_by_byte p None = to_leave_touches_image p
+  compare_front_touches_by_byte p (Some at) = tt
 
-  at_compare_front : (p : Place) (at : ℕ) → TouchesIn plan (to_compare_front plan p at)
+  to_compare_front_touches_image : (p : Place) (at : ℕ) → PhaseTouchesImage plan (to_compare_front plan p at)
   unfolding to_compare_front
-  at_compare_front p at = compare_front_by p (byte_in plan at (front_end plan))
+  to_compare_front_touches_image p at = compare_front_touches_by_byte p (byte_in plan at (front_end plan))
 
-  write_front_by : (p : Place) (o : Option ℕ) → ((c : ℕ) → o ≡ Some c → HasByte c plan.image.now) → TouchesIn plan (write_front_or plan p o)
-  write_front_by p None f = at_compare_front p (image_start plan.image.now)
-  write_front_by p (Some at) f = f at refl
+  write_front_touches_by_byte : (p : Place) (o : Option ℕ) → ((c : ℕ) → o ≡ Some c → HasByte c plan.image.now)
+      → PhaseTouchesImage plan (write_front_phase_for plan p o)
+  write_front_touches_by_byte p None f = to_compare_front_touches_image p (image_start plan.image.now)
+  write_front_touches_by_byte p (Some at) f = f at refl
 
-  at_write_front : (p : Place) (at : ℕ) → TouchesIn plan (to_write_front plan p at)
+  to_write_front_touches_image : (p : Place) (at : ℕ) → PhaseTouchesImage plan (to_write_front plan p at)
   unfolding to_write_front
-  at_write_front p at = write_front_by p (byte_in plan at (front_end plan)) (byte_has at (front_end plan))
+  to_write_front_touches_image p at = write_front_touches_by_byte p (byte_in plan at (front_end plan)) (byte_in_is_of_image at (front_end
+      plan))
 
-  compare_by : (p : Place) (o : Option ℕ) → TouchesIn plan (compare_or plan p o)
-  compare_by p None = at_write_front p (image_start plan.image.now)
-  compare_by p (Some at) = tt
+  compare_touches_by_byte : (p : Place) (o : Option ℕ) → PhaseTouchesImage plan (compare_phase_for plan p o)
+  compare_touches_by_byte p None = to_write_front_touches_image p (image_start plan.image.now)
+  compare_touches_by_byte p (Some at) = tt
 
-  at_compare : (p : Place) (at : ℕ) → TouchesIn plan (to_compare plan p at)
+  to_compare_touches_image : (p : Place) (at : ℕ) → PhaseTouchesImage plan (to_compare plan p at)
   unfolding to_compare
-  at_compare p at = compare_by p (byte_in plan at (image_end plan.image.now))
+  to_compare_touches_image p at = compare_touches_by_byte p (byte_in plan at (image_end plan.image.now))
 
-  write_by : (p : Place) (end : ℕ) (o : Option ℕ) → ((c : ℕ) → o ≡ Some c → HasByte c plan.image.now × (front_end plan ≤ c)) →
-      TouchesIn plan (write_or plan p end o)
-  write_by p end None f = at_compare p (front_end plan)
-  write_by p end (Some at) f = f at refl
+  write_touches_by_byte : (p : Place) (end : ℕ) (o : Option ℕ) → ((c : ℕ) → o ≡ Some c → HasByte c plan.image.now × (front_end plan ≤ c)) →
+      PhaseTouchesImage plan (write_phase_for plan p end o)
+  write_touches_by_byte p end None f = to_compare_touches_image p (front_end plan)
+  write_touches_by_byte p end (Some at) f = f at refl
 
-  at_write : (p : Place) (at end : ℕ) → front_end plan ≤ at → TouchesIn plan (to_write plan p at end)
+  to_write_touches_image : (p : Place) (at end : ℕ) → front_end plan ≤ at → PhaseTouchesImage plan (to_write plan p at end)
   unfolding to_write
-  at_write p at end f = write_by p end (byte_in plan at end) (λ c e. (byte_has at end c e, omega (arith, f, byte_from plan at end c e)))
+  to_write_touches_image p at end f = write_touches_by_byte p end (byte_in plan at end) (λ c e. (
+    byte_in_is_of_image at end c e,
+    omega
+        (arith, f, byte_in_not_before plan at end c e),
+  ))
 
-  erase_by : (p : Place) (o : Option ℕ) → ((c : ℕ) → o ≡ Some c → HasByte c plan.image.now) → TouchesIn plan (erase_or plan p o)
-  erase_by p None f = at_write p (front_end plan) (image_end plan.image.now) (omega arith)
-  erase_by p (Some at) f = f at refl
+  erase_touches_by_byte : (p : Place) (o : Option ℕ) → ((c : ℕ) → o ≡ Some c → HasByte c plan.image.now) →
+      PhaseTouchesImage plan (erase_phase_for plan p o)
+  erase_touches_by_byte p None f = to_write_touches_image p (front_end plan) (image_end plan.image.now) (omega arith)
+  erase_touches_by_byte p (Some at) f = f at refl
 
-  at_erase : (p : Place) (at : ℕ) → TouchesIn plan (to_erase plan p at)
+  to_erase_touches_image : (p : Place) (at : ℕ) → PhaseTouchesImage plan (to_erase plan p at)
   unfolding to_erase
-  at_erase p at = erase_by p (byte_in plan at (image_end plan.image.now)) (byte_has at (image_end plan.image.now))
+  to_erase_touches_image p at = erase_touches_by_byte p (byte_in plan at (image_end plan.image.now)) (byte_in_is_of_image at (image_end
+      plan.image.now))
 
-  at_settle : (w : Work) (p : Place) → Touches plan w → TouchesIn plan (settle plan w p)
-  unfolding settle
-  at_settle (work.Erase at) p h = at_erase p at
-  at_settle (work.EraseAgain page end) p h = h
-  at_settle (work.Write at end) p h = at_write p at end h.1
-  at_settle (work.Compare at) p h = at_compare p at
-  at_settle (work.WriteFront at) p h = at_write_front p at
-  at_settle (work.CompareFront at) p h = at_compare_front p at
-  at_settle work.Leave p h = at_leave p
+  settled_phase_touches_image : (w : Work) (p : Place) → WorkTouchesImage plan w → PhaseTouchesImage plan (settled_phase plan w p)
+  unfolding settled_phase
+  settled_phase_touches_image (work.Erase at) p h = to_erase_touches_image p at
+  settled_phase_touches_image (work.EraseAgain page end) p h = h
+  settled_phase_touches_image (work.Write at end) p h = to_write_touches_image p at end h.1
+  settled_phase_touches_image (work.Compare at) p h = to_compare_touches_image p at
+  settled_phase_touches_image (work.WriteFront at) p h = to_write_front_touches_image p at
+  settled_phase_touches_image (work.CompareFront at) p h = to_compare_front_touches_image p at
+  settled_phase_touches_image work.Leave p h = to_leave_touches_image p
 
   -- ---- commands
 
-  at_again : (w : Work) → Touches plan w → Touches plan (again plan w)
-  at_again (work.Erase at) h = h
-  at_again (work.EraseAgain page end) h = h
-  at_again (work.Write at end) h = record { byte = at; has = h.0; is = refl }
-  at_again (work.Compare at) h = h
-  at_again (work.WriteFront at) h = record { byte = at; has = h; is = refl }
-  at_again (work.CompareFront at) h = h
-  at_again work.Leave h = h
+  work_again_touches : (w : Work) → WorkTouchesImage plan w → WorkTouchesImage plan (work_after_unsure_write plan w)
+  work_again_touches (work.Erase at) h = h
+  work_again_touches (work.EraseAgain page end) h = h
+  work_again_touches (work.Write at end) h = record { byte = at; has = h.0; is = refl }
+  work_again_touches (work.Compare at) h = h
+  work_again_touches (work.WriteFront at) h = record { byte = at; has = h; is = refl }
+  work_again_touches (work.CompareFront at) h = h
+  work_again_touches work.Leave h = h
 
-  pub at_unsure : (w : Work) (c : Command) → Touches plan w → TouchesIn plan (unsure plan w c)
-  at_unsure w (command.SetAddress at) h = h
-  at_unsure w (command.ErasePage at) h = h
-  at_unsure w (command.Write at) h = at_again w h
+  pub unsure_phase_touches_image : (w : Work) (c : Command) → WorkTouchesImage plan w → PhaseTouchesImage plan (phase_if_unsure plan w c)
+  unsure_phase_touches_image w (command.SetAddress at) h = h
+  unsure_phase_touches_image w (command.ErasePage at) h = h
+  unsure_phase_touches_image w (command.Write at) h = work_again_touches w h
 
-  at_erased : (w : Work) (at : ℕ) → TouchesIn plan (erased plan w at)
-  at_erased (work.EraseAgain page end) at = at_write place.Lost (max page (front_end plan)) end (omega arith)
-  at_erased w at = at_erase place.Lost (page_end plan at)
+  after_erase_touches_image : (w : Work) (at : ℕ) → PhaseTouchesImage plan (phase_after_erase plan w at)
+  after_erase_touches_image (work.EraseAgain page end) at = to_write_touches_image place.Lost (max page (front_end plan)) end (omega arith)
+  after_erase_touches_image w at = to_erase_touches_image place.Lost (page_end plan at)
 
-  at_written : (w : Work) (at : ℕ) → Touches plan w → TouchesIn plan (after_write plan w at)
-  at_written (work.Write from end) at h =
-      at_write place.Lost (max from (write_end plan at end)) end (omega (arith, h.1))
-  at_written w at h = at_write_front place.Lost (write_end plan at (front_end plan))
+  after_write_touches_image : (w : Work) (at : ℕ) → WorkTouchesImage plan w → PhaseTouchesImage plan (phase_after_write plan w at)
+  after_write_touches_image (work.Write from end) at h =
+      to_write_touches_image place.Lost (max from (write_end plan at end)) end (omega (arith, h.1))
+  after_write_touches_image w at h = to_write_front_touches_image place.Lost (write_end plan at (front_end plan))
 
-  at_done : (w : Work) (c : Command) → Touches plan w → TouchesIn plan (done plan w c)
-  at_done w (command.SetAddress at) h = at_settle w (place.At at) h
-  at_done w (command.ErasePage at) h = at_erased w at
-  at_done w (command.Write at) h = at_written w at h
+  after_command_touches_image : (w : Work) (c : Command) → WorkTouchesImage plan w → PhaseTouchesImage plan (phase_after_command plan w c)
+  after_command_touches_image w (command.SetAddress at) h = settled_phase_touches_image w (place.At at) h
+  after_command_touches_image w (command.ErasePage at) h = after_erase_touches_image w at
+  after_command_touches_image w (command.Write at) h = after_write_touches_image w at h
 
-  at_read : (w : Work) → Touches plan w → Touches plan (read_on plan w)
-  at_read (work.Erase at) h = h
-  at_read (work.EraseAgain page end) h = h
-  at_read (work.Write at end) h = h
-  at_read (work.Compare at) h = tt
-  at_read (work.WriteFront at) h = h
-  at_read (work.CompareFront at) h = tt
-  at_read work.Leave h = tt
+  read_on_touches : (w : Work) → WorkTouchesImage plan w → WorkTouchesImage plan (read_on plan w)
+  read_on_touches (work.Erase at) h = h
+  read_on_touches (work.EraseAgain page end) h = h
+  read_on_touches (work.Write at end) h = h
+  read_on_touches (work.Compare at) h = tt
+  read_on_touches (work.WriteFront at) h = h
+  read_on_touches (work.CompareFront at) h = tt
+  read_on_touches work.Leave h = tt
 
   -- ---- rows
 
-  pub by_form : (w : Work) (p : Place) (s : Step) (x : Heard) (next : Phase) → RowForm plan w p s x next → Touches plan w → TouchesIn plan next
-  by_form w p s x next (stays p' s' c) h = h
-  by_form w p s x next (settles p') h = at_settle w p' h
-  by_form w p s x next reads h = at_settle (read_on plan w) p (at_read w h)
-  by_form w p s x next does h = at_done w (command_of plan w p) h
-  by_form w p s x next doubts h = at_unsure w (command_of plan w p) h
-  by_form w p s x next (fails r no_success) h = tt
-  by_form w p s x next (leaves e) h = tt
+  pub row_form_touches_image : (w : Work) (p : Place) (s : Step) (x : Heard) (next : Phase) → RowForm plan w p s x next →
+      WorkTouchesImage plan w
+      → PhaseTouchesImage plan next
+  row_form_touches_image w p s x next (stays p' s' c) h = h
+  row_form_touches_image w p s x next (settles p') h = settled_phase_touches_image w p' h
+  row_form_touches_image w p s x next reads h = settled_phase_touches_image (read_on plan w) p (read_on_touches w h)
+  row_form_touches_image w p s x next does h = after_command_touches_image w (command_of plan w p) h
+  row_form_touches_image w p s x next doubts h = unsure_phase_touches_image w (command_of plan w p) h
+  row_form_touches_image w p s x next (fails r no_success) h = tt
+  row_form_touches_image w p s x next (leaves e) h = tt

@@ -1,4 +1,4 @@
--- Deed of a session at each step.
+-- Action of a session at each step.
 use Rattle.std.specs.Prelude.{ℕ, ◌+◌, ◌-◌, ◌/◌, ◌%◌, ◌^◌, List, [], ◌∷◌, length}
 use Rattle.std.specs.Int.{w32, to_le_bytes}
 use Rattle.dfu_wire.specs.declared.requests.Request.{Request}
@@ -18,7 +18,7 @@ use Rattle.dfuse_host.specs.declared.report.Report.{Report}
 use Rattle.dfuse_host.specs.Plans.{block_size, write_end, read_end}
 use Rattle.dfuse_host.specs.Commands.{command_of, end_of_work, bytes_in}
 
--- It sends a request with its body, waits, or is done.
+-- An action sends a request with its body, waits, or ends the session with a report.
 pub data DfuseDeed : Type 0 where
   Send : (request : Request) (body : List ℕ) → DfuseDeed
   Wait : (ms : ℕ) → DfuseDeed
@@ -33,10 +33,10 @@ abbrev pub dfuse_download : List ℕ → DfuseDeed
 dfuse_download body = Send (request.Dnload 2 (length body)) body
 
 -- A command is sent.
-abbrev pub sends : Plan → Work → Command → DfuseDeed
-sends plan w (command.SetAddress at) = address_command 0x21 at
-sends plan w (command.ErasePage at) = address_command 0x41 at
-sends plan w (command.Write at) = dfuse_download (bytes_in plan at (write_end plan at (end_of_work plan w)))
+abbrev pub command_deed : Plan → Work → Command → DfuseDeed
+command_deed plan w (command.SetAddress at) = address_command 0x21 at
+command_deed plan w (command.ErasePage at) = address_command 0x41 at
+command_deed plan w (command.Write at) = dfuse_download (bytes_in plan at (write_end plan at (end_of_work plan w)))
 
 -- The address that a work has reached.
 abbrev pub stands_at : Work → ℕ
@@ -48,11 +48,11 @@ stands_at (work.WriteFront at) = at
 stands_at (work.CompareFront at) = at
 stands_at work.Leave = 0
 
--- The bytes of the image that are to be read back.
+-- The bytes of the image that a work reads back next.
 unfoldable pub read_bytes : Plan → Work → List ℕ
 read_bytes plan w = bytes_in plan (stands_at w) (read_end plan (stands_at w) (end_of_work plan w))
 
--- The address to which the pointer was set for what is read.
+-- The address to which the pointer was set for the bytes that are read.
 abbrev pub base_of : Place → (at : ℕ) → ℕ
 base_of place.Lost at = at
 base_of (place.At p) at = at
@@ -62,8 +62,8 @@ base_of (place.Reading p) at = p
 unfoldable pub upload_block : Plan → Place → (at : ℕ) → ℕ
 upload_block plan p at = (at - base_of p at) / block_size plan % 65534 + 2
 
-abbrev pub upload : Plan → Work → Place → DfuseDeed
-upload plan w p = Send (request.Upload (upload_block plan p (stands_at w)) (length (read_bytes plan w))) []
+abbrev pub upload_deed : Plan → Work → Place → DfuseDeed
+upload_deed plan w p = Send (request.Upload (upload_block plan p (stands_at w)) (length (read_bytes plan w))) []
 
 abbrev pub get_state : DfuseDeed
 get_state = Send (request.GetState 1) []
@@ -72,24 +72,24 @@ abbrev pub get_status : DfuseDeed
 get_status = Send (request.GetStatus 6) []
 
 -- The action of each step.
-abbrev pub deed_of : Plan → Work → Place → Step → DfuseDeed
-deed_of plan w p step.Abort = Send request.Abort []
-deed_of plan w p step.AskState = get_state
-deed_of plan w p step.AskStatus = get_status
-deed_of plan w p (step.ClearWait ms) = Wait ms
-deed_of plan w p step.ClearStatus = Send request.ClrStatus []
-deed_of plan w p step.Send = sends plan w (command_of plan w p)
-deed_of plan w p step.Probe = get_state
-deed_of plan w p (step.Poll last) = get_status
-deed_of plan w p (step.PollWait ms) = Wait ms
-deed_of plan w p step.BeginReading = Send request.Abort []
-deed_of plan w p step.EndReading = Send request.Abort []
-deed_of plan w p step.Read = upload plan w p
-deed_of plan w p step.Close = dfuse_download []
-deed_of plan w p step.CloseProbe = get_state
-deed_of plan w p step.ClosePoll = get_status
+abbrev pub deed_of_step : Plan → Work → Place → Step → DfuseDeed
+deed_of_step plan w p step.Abort = Send request.Abort []
+deed_of_step plan w p step.AskState = get_state
+deed_of_step plan w p step.AskStatus = get_status
+deed_of_step plan w p (step.ClearWait ms) = Wait ms
+deed_of_step plan w p step.ClearStatus = Send request.ClrStatus []
+deed_of_step plan w p step.Send = command_deed plan w (command_of plan w p)
+deed_of_step plan w p step.Probe = get_state
+deed_of_step plan w p (step.Poll last) = get_status
+deed_of_step plan w p (step.PollWait ms) = Wait ms
+deed_of_step plan w p step.BeginReading = Send request.Abort []
+deed_of_step plan w p step.EndReading = Send request.Abort []
+deed_of_step plan w p step.Read = upload_deed plan w p
+deed_of_step plan w p step.Close = dfuse_download []
+deed_of_step plan w p step.CloseProbe = get_state
+deed_of_step plan w p step.ClosePoll = get_status
 
 -- The action of a phase.
 abbrev pub dfuse_deed : Plan → Phase → DfuseDeed
-dfuse_deed plan (On s) = deed_of plan s.work s.place s.step
+dfuse_deed plan (On s) = deed_of_step plan s.work s.place s.step
 dfuse_deed plan (Over report) = Done report

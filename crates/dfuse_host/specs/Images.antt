@@ -6,16 +6,16 @@ use Rattle.dfu_formats.specs.declared.dfuse.element.Element.{Element}
 abbrev pub end_of : Element → ℕ
 end_of e = e.address + length e.bytes.now
 
--- An element has a byte for this address.
-abbrev pub holds : ℕ → Element → Bool
-holds at e = nat_le e.address at && nat_lt at (end_of e)
+-- The element has a byte at the address.
+abbrev pub element_holds : ℕ → Element → Bool
+element_holds at e = nat_le e.address at && nat_lt at (end_of e)
 
--- The element that has a byte for this address.
+-- The element that has a byte at the address.
 unfoldable pub element_at : ℕ → List Element → Option Element
 element_at at [] = None
-element_at at (e ∷ es) = if holds at e then Some e else element_at at es
+element_at at (e ∷ es) = if element_holds at e then Some e else element_at at es
 
--- The first address from this one on for which the image, whose elements ascend, has a byte.
+-- The first address from `at` on for which the image, whose elements ascend, has a byte.
 unfoldable pub next_byte : ℕ → List Element → Option ℕ
 next_byte at [] = None
 next_byte at (e ∷ es) = if nat_lt at (end_of e) then Some (max at e.address) else next_byte at es

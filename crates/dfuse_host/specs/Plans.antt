@@ -1,4 +1,4 @@
--- Addresses of a plan.
+-- Addresses at which pages, elements, blocks and the front of a plan begin and end.
 use Rattle.std.specs.Prelude.{ℕ, ◌+◌, ◌^◌, nat_lt, min, max, Option, Some, None, if◌then◌else◌}
 use Rattle.dfu_formats.specs.declared.memory.pages.Page.{Page}
 use Rattle.dfu_formats.specs.memory.Lookups.{page_at}
@@ -30,7 +30,7 @@ front_end plan =
 abbrev pub block_size : Plan → ℕ
 block_size plan = max 1 plan.transfer
 
--- The address after the bytes that are written at once from this one on: they are in one block, one element and one page.
+-- The address after the bytes from `at` on that are written at once: they are in one block, one element and one page.
 unfoldable pub write_end : Plan → (at end : ℕ) → ℕ
 write_end plan at end = min (at + block_size plan) (min (min (element_end plan at) (page_end plan at)) end)
 

@@ -8,11 +8,11 @@ use Rattle.dfuse_host.specs.declared.report.Report.TheVariants.{Verified}
 use Rattle.dfuse_host.specs.declared.session.Session.{Session}
 use Rattle.dfuse_host.specs.declared.limits.Limits.{Limits}
 use Rattle.dfuse_host.specs.Refusing.{apart_from}
-use Rattle.dfuse_host.specs.ReadBack.{HasByte, ReadsBackIn}
-use Rattle.dfuse_host.specs.Sessions.{SessionRow, SessionRows, initial_dfuse}
+use Rattle.dfuse_host.specs.ReadBack.{HasByte, PhaseReadsBack}
+use Rattle.dfuse_host.specs.Sessions.{SessionRow, SessionRows, initial_dfuse_session}
 
--- Among what a session sees is an answer that reads this byte back, and it is the image's.
-pub record IsReadIn (s : Session) (seens : List Seen) (s' : Session) (a : ℕ) : Type 0 where
+-- Among the results is an answer that reads the byte back, and finds it to be the byte of the image.
+pub record IsReadInRun (s : Session) (seens : List Seen) (s' : Session) (a : ℕ) : Type 0 where
   pub before : List Seen
   pub answer : Seen
   pub behind : List Seen
@@ -21,12 +21,12 @@ pub record IsReadIn (s : Session) (seens : List Seen) (s' : Session) (a : ℕ) :
   pub cut : seens ≡ before ++ answer ∷ behind
   pub reached : SessionRows s before at
   pub row : SessionRow at answer next
-  pub reads : ReadsBackIn at.plan at.phase row.heard a
+  pub reads : PhaseReadsBack at.plan at.phase row.heard a
   pub rest : SessionRows next behind s'
 
 -- A session that ends as Verified has read back each byte of its image.
-abbrev pub EachIsRead : Type 0
-EachIsRead =
+abbrev pub VerifiedReadEachByte : Type 0
+VerifiedReadEachByte =
     (plan : Plan) (limits : Limits) (seens : List Seen) (s' : Session) (leaving : Leaving) (a : ℕ) → apart_from 0 plan.image.now ≡ true →
-    SessionRows (initial_dfuse plan limits) seens s' → s'.phase ≡ Over (Verified leaving) → HasByte a plan.image.now →
-    IsReadIn (initial_dfuse plan limits) seens s' a
+    SessionRows (initial_dfuse_session plan limits) seens s' → s'.phase ≡ Over (Verified leaving) → HasByte a plan.image.now →
+    IsReadInRun (initial_dfuse_session plan limits) seens s' a

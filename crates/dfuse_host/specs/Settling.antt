@@ -1,4 +1,4 @@
--- The order of work: what is done next, once the device is ready for a command.
+-- Order of works: the next phase once the device is ready for a command.
 use Rattle.std.specs.Prelude.{ℕ, ◌-◌, ◌/◌, ◌%◌, ◌==◌, ◌&&◌, nat_lt, nat_le, Bool, false, Option, Some, None, if◌then◌else◌}
 use Rattle.dfuse_host.specs.declared.plan.Plan.{Plan}
 use Rattle.dfuse_host.specs.declared.phase.Phase.{Phase}
@@ -14,26 +14,26 @@ use Rattle.dfuse_host.specs.declared.report.Leaving.TheVariants as leaving
 use Rattle.dfuse_host.specs.Images.{next_byte, image_start, image_end, element_at}
 use Rattle.dfuse_host.specs.Plans.{front_end, block_size}
 
--- A session that goes on like this.
-abbrev pub stand : Work → Place → Step → Phase
-stand w p s = On (record { work = w; place = p; step = s })
+-- A phase that goes on with a work, a place and a step.
+abbrev pub phase_with_step : Work → Place → Step → Phase
+phase_with_step w p s = On (record { work = w; place = p; step = s })
 
--- The address, if it lies before the end.
-abbrev pub if_before : (end : ℕ) → Option ℕ → Option ℕ
-if_before end None = None
-if_before end (Some at) = if nat_lt at end then Some at else None
+-- The address, if it lies before `end`.
+abbrev pub address_if_before : (end : ℕ) → Option ℕ → Option ℕ
+address_if_before end None = None
+address_if_before end (Some at) = if nat_lt at end then Some at else None
 
 -- The first byte of the image from an address to before another.
 unfoldable pub byte_in : Plan → (at end : ℕ) → Option ℕ
-byte_in plan at end = if_before end (next_byte at plan.image.now)
+byte_in plan at end = address_if_before end (next_byte at plan.image.now)
 
 -- The step that leads to a command: first the device leaves dfuUPLOAD-IDLE.
-abbrev pub sending : Place → Step
-sending place.Lost = step.Send
-sending (place.At p) = step.Send
-sending (place.Reading p) = step.EndReading
+abbrev pub sending_step : Place → Step
+sending_step place.Lost = step.Send
+sending_step (place.At p) = step.Send
+sending_step (place.Reading p) = step.EndReading
 
--- From the address to which the pointer was set, the bytes of this address begin a block that can be asked for, of the same element.
+-- From the address `base` of the pointer, a block that begins at `at` can be asked for, in the same element.
 unfoldable pub can_read : Plan → (base at : ℕ) → Bool
 can_read plan base at =
     nat_le base at
@@ -41,74 +41,75 @@ can_read plan base at =
     && (nat_le ((at - base) / block_size plan) 65533
     && elim (element_at at plan.image.now) [ None ↦ false | Some e ↦ nat_le e.address base ]))
 
--- The step that leads to bytes that are read back: the pointer is set, the device goes to dfuIDLE, and then they are asked for.
-abbrev pub comparing : Plan → (at : ℕ) → Place → Step
-comparing plan at place.Lost = step.Send
-comparing plan at (place.At p) = if p == at then step.BeginReading else step.Send
-comparing plan at (place.Reading base) = if can_read plan base at then step.Read else step.EndReading
+-- The step that leads to bytes that are read back: the pointer is set, the device goes to dfuIDLE, and then the bytes are asked for.
+abbrev pub comparing_step : Plan → (at : ℕ) → Place → Step
+comparing_step plan at place.Lost = step.Send
+comparing_step plan at (place.At p) = if p == at then step.BeginReading else step.Send
+comparing_step plan at (place.Reading base) = if can_read plan base at then step.Read else step.EndReading
 
--- Leaving: the pointer is set to the address at which the application starts, if it isn't there.
-abbrev pub leaving_by : Plan → Place → Phase
-leaving_by plan place.Lost = stand work.Leave place.Lost step.Send
-leaving_by plan (place.At p) = if p == plan.start then stand work.Leave (place.At p) step.Close else stand work.Leave (place.At p) step.Send
-leaving_by plan (place.Reading p) = stand work.Leave (place.Reading p) step.EndReading
+-- To leave, the pointer is set to the address at which the application starts, unless it is there.
+abbrev pub phase_to_set_start : Plan → Place → Phase
+phase_to_set_start plan place.Lost = phase_with_step work.Leave place.Lost step.Send
+phase_to_set_start plan (place.At p) =
+    if p == plan.start then phase_with_step work.Leave (place.At p) step.Close else phase_with_step work.Leave (place.At p) step.Send
+phase_to_set_start plan (place.Reading p) = phase_with_step work.Leave (place.Reading p) step.EndReading
 
--- All was compared: the device stays in dfuIDLE, or leaves.
-abbrev pub staying : Place → Phase
-staying place.Lost = Over (report.Verified leaving.Stayed)
-staying (place.At p) = Over (report.Verified leaving.Stayed)
-staying (place.Reading p) = stand work.Leave (place.Reading p) step.EndReading
+-- Once all was compared, the device stays in dfuIDLE, or leaves.
+abbrev pub phase_when_compared : Place → Phase
+phase_when_compared place.Lost = Over (report.Verified leaving.Stayed)
+phase_when_compared (place.At p) = Over (report.Verified leaving.Stayed)
+phase_when_compared (place.Reading p) = phase_with_step work.Leave (place.Reading p) step.EndReading
 
--- At the end.
+-- The end: the device leaves, or stays.
 unfoldable pub to_leave : Plan → Place → Phase
-to_leave plan p = if plan.leaves then leaving_by plan p else staying p
+to_leave plan p = if plan.leaves then phase_to_set_start plan p else phase_when_compared p
 
--- The front is compared from here on, and then comes the end.
-abbrev pub compare_front_or : Plan → Place → Option ℕ → Phase
-compare_front_or plan p None = to_leave plan p
-compare_front_or plan p (Some at) = stand (work.CompareFront at) p (comparing plan at p)
+-- The front is compared from the next byte on; without one comes the end.
+abbrev pub compare_front_phase_for : Plan → Place → Option ℕ → Phase
+compare_front_phase_for plan p None = to_leave plan p
+compare_front_phase_for plan p (Some at) = phase_with_step (work.CompareFront at) p (comparing_step plan at p)
 
 unfoldable pub to_compare_front : Plan → Place → (at : ℕ) → Phase
-to_compare_front plan p at = compare_front_or plan p (byte_in plan at (front_end plan))
+to_compare_front plan p at = compare_front_phase_for plan p (byte_in plan at (front_end plan))
 
--- The front is written from here on, and then compared.
-abbrev pub write_front_or : Plan → Place → Option ℕ → Phase
-write_front_or plan p None = to_compare_front plan p (image_start plan.image.now)
-write_front_or plan p (Some at) = stand (work.WriteFront at) p (sending p)
+-- The front is written from the next byte on; without one it is compared.
+abbrev pub write_front_phase_for : Plan → Place → Option ℕ → Phase
+write_front_phase_for plan p None = to_compare_front plan p (image_start plan.image.now)
+write_front_phase_for plan p (Some at) = phase_with_step (work.WriteFront at) p (sending_step p)
 
 unfoldable pub to_write_front : Plan → Place → (at : ℕ) → Phase
-to_write_front plan p at = write_front_or plan p (byte_in plan at (front_end plan))
+to_write_front plan p at = write_front_phase_for plan p (byte_in plan at (front_end plan))
 
--- All but the front is compared from here on, and then the front is written.
-abbrev pub compare_or : Plan → Place → Option ℕ → Phase
-compare_or plan p None = to_write_front plan p (image_start plan.image.now)
-compare_or plan p (Some at) = stand (work.Compare at) p (comparing plan at p)
+-- All but the front is compared from the next byte on; without one the front is written.
+abbrev pub compare_phase_for : Plan → Place → Option ℕ → Phase
+compare_phase_for plan p None = to_write_front plan p (image_start plan.image.now)
+compare_phase_for plan p (Some at) = phase_with_step (work.Compare at) p (comparing_step plan at p)
 
 unfoldable pub to_compare : Plan → Place → (at : ℕ) → Phase
-to_compare plan p at = compare_or plan p (byte_in plan at (image_end plan.image.now))
+to_compare plan p at = compare_phase_for plan p (byte_in plan at (image_end plan.image.now))
 
--- The image is written from here on up to an end, and then all of it is compared, but for the front.
-abbrev pub write_or : Plan → Place → (end : ℕ) → Option ℕ → Phase
-write_or plan p end None = to_compare plan p (front_end plan)
-write_or plan p end (Some at) = stand (work.Write at end) p (sending p)
+-- The image is written from the next byte on, up to `end`; without one all but the front is compared.
+abbrev pub write_phase_for : Plan → Place → (end : ℕ) → Option ℕ → Phase
+write_phase_for plan p end None = to_compare plan p (front_end plan)
+write_phase_for plan p end (Some at) = phase_with_step (work.Write at end) p (sending_step p)
 
 unfoldable pub to_write : Plan → Place → (at end : ℕ) → Phase
-to_write plan p at end = write_or plan p end (byte_in plan at end)
+to_write plan p at end = write_phase_for plan p end (byte_in plan at end)
 
--- Pages are erased from here on, and then all but the front is written.
-abbrev pub erase_or : Plan → Place → Option ℕ → Phase
-erase_or plan p None = to_write plan p (front_end plan) (image_end plan.image.now)
-erase_or plan p (Some at) = stand (work.Erase at) p (sending p)
+-- Pages are erased from the next byte on; without one all but the front is written.
+abbrev pub erase_phase_for : Plan → Place → Option ℕ → Phase
+erase_phase_for plan p None = to_write plan p (front_end plan) (image_end plan.image.now)
+erase_phase_for plan p (Some at) = phase_with_step (work.Erase at) p (sending_step p)
 
 unfoldable pub to_erase : Plan → Place → (at : ℕ) → Phase
-to_erase plan p at = erase_or plan p (byte_in plan at (image_end plan.image.now))
+to_erase plan p at = erase_phase_for plan p (byte_in plan at (image_end plan.image.now))
 
--- The device is ready for a command: what is worked at goes on.
-unfoldable pub settle : Plan → Work → Place → Phase
-settle plan (work.Erase at) p = to_erase plan p at
-settle plan (work.EraseAgain page end) p = stand (work.EraseAgain page end) p (sending p)
-settle plan (work.Write at end) p = to_write plan p at end
-settle plan (work.Compare at) p = to_compare plan p at
-settle plan (work.WriteFront at) p = to_write_front plan p at
-settle plan (work.CompareFront at) p = to_compare_front plan p at
-settle plan work.Leave p = to_leave plan p
+-- The device is ready for a command, and the work goes on.
+unfoldable pub settled_phase : Plan → Work → Place → Phase
+settled_phase plan (work.Erase at) p = to_erase plan p at
+settled_phase plan (work.EraseAgain page end) p = phase_with_step (work.EraseAgain page end) p (sending_step p)
+settled_phase plan (work.Write at end) p = to_write plan p at end
+settled_phase plan (work.Compare at) p = to_compare plan p at
+settled_phase plan (work.WriteFront at) p = to_write_front plan p at
+settled_phase plan (work.CompareFront at) p = to_compare_front plan p at
+settled_phase plan work.Leave p = to_leave plan p

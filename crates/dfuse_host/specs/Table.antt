@@ -1,4 +1,4 @@
--- The table: which phase follows what is heard in each, but for a restart of the device and the budget.
+-- The table: the next phase by what is heard in each phase, without restarts of the device and the budget.
 use Rattle.std.specs.Prelude.{ℕ, ◌==◌, true, false, if◌then◌else◌}
 use Rattle.dfu_wire.specs.declared.codes.Code.{Code}
 use Rattle.dfu_wire.specs.declared.codes.Code.TheVariants as code
@@ -18,141 +18,142 @@ use Rattle.dfuse_host.specs.declared.heard.Heard.TheVariants as heard
 use Rattle.dfuse_host.specs.declared.report.Report.TheVariants as report
 use Rattle.dfuse_host.specs.declared.report.Leaving.TheVariants as leaving
 use Rattle.dfuse_host.specs.Plans.{read_end}
-use Rattle.dfuse_host.specs.Settling.{stand, settle}
-use Rattle.dfuse_host.specs.Commands.{command_of, end_of_work, cleared, done, unsure}
+use Rattle.dfuse_host.specs.Settling.{phase_with_step, settled_phase}
+use Rattle.dfuse_host.specs.Commands.{command_of, end_of_work, phase_to_clear, phase_after_command, phase_if_unsure}
 
 -- ---- clearing: what an earlier session left is dropped, and waited for, but never started
 
--- The state once ABORT was sent. From dfuIDLE the work goes on, and the pointer isn't known.
+-- Phase after the state that follows ABORT. From dfuIDLE the work goes on, and the pointer isn't known.
 abbrev pub state_found : Plan → Work → State → Phase
 state_found plan w state.AppIdle = Over report.NotDfu
 state_found plan w state.AppDetach = Over report.NotDfu
-state_found plan w state.DfuIdle = settle plan w place.Lost
-state_found plan w state.DownloadSync = cleared w
-state_found plan w state.DownloadBusy = stand w place.Lost step.AskStatus
-state_found plan w state.DownloadIdle = cleared w
-state_found plan w state.ManifestSync = cleared w
-state_found plan w state.Manifest = stand w place.Lost step.AskStatus
-state_found plan w state.ManifestWaitReset = stand w place.Lost step.AskStatus
-state_found plan w state.UploadIdle = cleared w
-state_found plan w state.Error = stand w place.Lost step.AskStatus
+state_found plan w state.DfuIdle = settled_phase plan w place.Lost
+state_found plan w state.DownloadSync = phase_to_clear w
+state_found plan w state.DownloadBusy = phase_with_step w place.Lost step.AskStatus
+state_found plan w state.DownloadIdle = phase_to_clear w
+state_found plan w state.ManifestSync = phase_to_clear w
+state_found plan w state.Manifest = phase_with_step w place.Lost step.AskStatus
+state_found plan w state.ManifestWaitReset = phase_with_step w place.Lost step.AskStatus
+state_found plan w state.UploadIdle = phase_to_clear w
+state_found plan w state.Error = phase_with_step w place.Lost step.AskStatus
 
--- A code of dfuERROR by which a session ends that compares: any but that of a request out of place.
+-- A fault that ends a session that compares: any code but that of a request out of place.
 abbrev pub ends_comparing : Work → Code → Phase
-ends_comparing w code.StalledPkt = stand w place.Lost step.ClearStatus
+ends_comparing w code.StalledPkt = phase_with_step w place.Lost step.ClearStatus
 ends_comparing w c = Over (report.Refused c)
 
--- The device is in dfuERROR while it is cleared. It may be of an earlier session, unless bytes are read back, or protection shows.
+-- Phase if the device is in dfuERROR while it is cleared. The error may be of an earlier session, unless bytes are read back, or protection
+-- shows.
 abbrev pub fault_found : Work → Code → Phase
-fault_found (work.Erase at) c = stand (work.Erase at) place.Lost step.ClearStatus
+fault_found (work.Erase at) c = phase_with_step (work.Erase at) place.Lost step.ClearStatus
 fault_found w code.Vendor = Over report.ReadProtected
 fault_found (work.Compare at) c = ends_comparing (work.Compare at) c
 fault_found (work.CompareFront at) c = ends_comparing (work.CompareFront at) c
-fault_found w c = stand w place.Lost step.ClearStatus
+fault_found w c = phase_with_step w place.Lost step.ClearStatus
 
--- The status while the device is cleared.
+-- Phase after a status while the device is cleared.
 abbrev pub status_found : Work → Code → (poll : ℕ) → State → Phase
 status_found w c poll state.AppIdle = Over report.NotDfu
 status_found w c poll state.AppDetach = Over report.NotDfu
-status_found w c poll state.DfuIdle = stand w place.Lost step.AskState
-status_found w c poll state.DownloadIdle = cleared w
-status_found w c poll state.UploadIdle = cleared w
+status_found w c poll state.DfuIdle = phase_with_step w place.Lost step.AskState
+status_found w c poll state.DownloadIdle = phase_to_clear w
+status_found w c poll state.UploadIdle = phase_to_clear w
 status_found w c poll state.Error = fault_found w c
-status_found w c poll s = stand w place.Lost (step.ClearWait poll)
+status_found w c poll s = phase_with_step w place.Lost (step.ClearWait poll)
 
 abbrev pub on_abort : Work → Heard → Phase
-on_abort w heard.Acked = stand w place.Lost step.AskState
-on_abort w heard.Stalled = stand w place.Lost step.AskState
-on_abort w h = cleared w
+on_abort w heard.Acked = phase_with_step w place.Lost step.AskState
+on_abort w heard.Stalled = phase_with_step w place.Lost step.AskState
+on_abort w h = phase_to_clear w
 
 abbrev pub on_ask_state : Plan → Work → Heard → Phase
 on_ask_state plan w (heard.StateIs s) = state_found plan w s
-on_ask_state plan w heard.Stalled = stand w place.Lost step.AskStatus
-on_ask_state plan w h = stand w place.Lost step.AskState
+on_ask_state plan w heard.Stalled = phase_with_step w place.Lost step.AskStatus
+on_ask_state plan w h = phase_with_step w place.Lost step.AskState
 
--- A status that is stalled was asked for too early.
+-- Phase after GETSTATUS. A status that is stalled was asked for too early.
 abbrev pub on_ask_status : Work → Heard → Phase
 on_ask_status w (heard.Told status) = status_found w status.code status.poll_ms status.state
-on_ask_status w heard.Stalled = stand w place.Lost (step.ClearWait 100)
-on_ask_status w h = stand w place.Lost step.AskStatus
+on_ask_status w heard.Stalled = phase_with_step w place.Lost (step.ClearWait 100)
+on_ask_status w h = phase_with_step w place.Lost step.AskStatus
 
 abbrev pub on_clear_wait : Work → (ms : ℕ) → Heard → Phase
-on_clear_wait w ms heard.Waited = stand w place.Lost step.AskState
-on_clear_wait w ms h = stand w place.Lost (step.ClearWait ms)
+on_clear_wait w ms heard.Waited = phase_with_step w place.Lost step.AskState
+on_clear_wait w ms h = phase_with_step w place.Lost (step.ClearWait ms)
 
 -- ---- a command: DNLOAD brings it, and the GETSTATUS after it starts it
 
 abbrev pub on_send : Work → Place → Heard → Phase
-on_send w p heard.Acked = stand w p (step.Poll 0)
-on_send w p h = stand w p step.Probe
+on_send w p heard.Acked = phase_with_step w p (step.Poll 0)
+on_send w p h = phase_with_step w p step.Probe
 
--- Phase after the question if the command came: the question starts nothing. One that isn't there is sent again.
+-- Phase after the question if the command came, which starts nothing. A command that didn't come is sent again.
 abbrev pub probed : Plan → Work → Place → State → Phase
-probed plan w p state.DownloadSync = stand w p (step.Poll 0)
-probed plan w p state.DfuIdle = stand w p step.Send
-probed plan w p state.DownloadIdle = stand w p step.Send
-probed plan w p state.Error = cleared w
-probed plan w p s = unsure plan w (command_of plan w p)
+probed plan w p state.DownloadSync = phase_with_step w p (step.Poll 0)
+probed plan w p state.DfuIdle = phase_with_step w p step.Send
+probed plan w p state.DownloadIdle = phase_with_step w p step.Send
+probed plan w p state.Error = phase_to_clear w
+probed plan w p s = phase_if_unsure plan w (command_of plan w p)
 
 abbrev pub on_probe : Plan → Work → Place → Heard → Phase
 on_probe plan w p (heard.StateIs s) = probed plan w p s
-on_probe plan w p heard.Stalled = unsure plan w (command_of plan w p)
-on_probe plan w p h = stand w p step.Probe
+on_probe plan w p heard.Stalled = phase_if_unsure plan w (command_of plan w p)
+on_probe plan w p h = phase_with_step w p step.Probe
 
--- A command that ends in dfuERROR is refused, with any code, OK too; but for a request out of place, and protection.
-abbrev pub refused : Plan → Work → Place → Code → Phase
-refused plan w p code.StalledPkt = unsure plan w (command_of plan w p)
-refused plan w p code.Vendor = Over report.ReadProtected
-refused plan w p c = Over (report.Refused c)
+-- A command that ends in dfuERROR is refused, with any code, also OK; but not for a request out of place, or protection.
+abbrev pub phase_if_refused : Plan → Work → Place → Code → Phase
+phase_if_refused plan w p code.StalledPkt = phase_if_unsure plan w (command_of plan w p)
+phase_if_refused plan w p code.Vendor = Over report.ReadProtected
+phase_if_refused plan w p c = Over (report.Refused c)
 
-abbrev pub polled : Plan → Work → Place → Code → (poll : ℕ) → State → Phase
-polled plan w p c poll state.DownloadSync = stand w p (step.PollWait poll)
-polled plan w p c poll state.DownloadBusy = stand w p (step.PollWait poll)
-polled plan w p c poll state.DownloadIdle = done plan w (command_of plan w p)
-polled plan w p c poll state.Error = refused plan w p c
-polled plan w p c poll s = unsure plan w (command_of plan w p)
+abbrev pub phase_after_poll : Plan → Work → Place → Code → (poll : ℕ) → State → Phase
+phase_after_poll plan w p c poll state.DownloadSync = phase_with_step w p (step.PollWait poll)
+phase_after_poll plan w p c poll state.DownloadBusy = phase_with_step w p (step.PollWait poll)
+phase_after_poll plan w p c poll state.DownloadIdle = phase_after_command plan w (command_of plan w p)
+phase_after_poll plan w p c poll state.Error = phase_if_refused plan w p c
+phase_after_poll plan w p c poll s = phase_if_unsure plan w (command_of plan w p)
 
 -- Milliseconds to wait for a status that is stalled: as long as the device last said, or 100 milliseconds.
 abbrev pub stalled_ms : ℕ → ℕ
 stalled_ms last = if last == 0 then 100 else last
 
 abbrev pub on_poll : Plan → Work → Place → (last : ℕ) → Heard → Phase
-on_poll plan w p last (heard.Told status) = polled plan w p status.code status.poll_ms status.state
-on_poll plan w p last heard.Stalled = stand w p (step.PollWait (stalled_ms last))
-on_poll plan w p last h = stand w p (step.Poll last)
+on_poll plan w p last (heard.Told status) = phase_after_poll plan w p status.code status.poll_ms status.state
+on_poll plan w p last heard.Stalled = phase_with_step w p (step.PollWait (stalled_ms last))
+on_poll plan w p last h = phase_with_step w p (step.Poll last)
 
 abbrev pub on_poll_wait : Work → Place → (ms : ℕ) → Heard → Phase
-on_poll_wait w p ms heard.Waited = stand w p (step.Poll ms)
-on_poll_wait w p ms h = stand w p (step.PollWait ms)
+on_poll_wait w p ms heard.Waited = phase_with_step w p (step.Poll ms)
+on_poll_wait w p ms h = phase_with_step w p (step.PollWait ms)
 
 -- ---- reading back
 
 -- The pointer keeps its address when the device goes to dfuIDLE.
-abbrev pub reading_begun : Place → Place
-reading_begun (place.At p) = place.Reading p
-reading_begun p = p
+abbrev pub place_with_reading_begun : Place → Place
+place_with_reading_begun (place.At p) = place.Reading p
+place_with_reading_begun p = p
 
-abbrev pub reading_ended : Place → Place
-reading_ended (place.Reading p) = place.At p
-reading_ended p = p
+abbrev pub place_with_reading_ended : Place → Place
+place_with_reading_ended (place.Reading p) = place.At p
+place_with_reading_ended p = p
 
 -- The place after a step, if it is an ABORT that begins or ends reading.
-abbrev pub turned : Step → Place → Place
-turned step.BeginReading p = reading_begun p
-turned step.EndReading p = reading_ended p
-turned s p = p
+abbrev pub place_after_turn : Step → Place → Place
+place_after_turn step.BeginReading p = place_with_reading_begun p
+place_after_turn step.EndReading p = place_with_reading_ended p
+place_after_turn s p = p
 
--- ABORT, to begin to read or to read no more: once acknowledged it leads to the next place.
+-- ABORT, to begin reading or to end it: once acknowledged it leads to the next place.
 abbrev pub on_turn : Plan → Work → (p next : Place) → Step → Heard → Phase
-on_turn plan w p next s heard.Acked = settle plan w next
-on_turn plan w p next s heard.Stalled = cleared w
-on_turn plan w p next s h = stand w p s
+on_turn plan w p next s heard.Acked = settled_phase plan w next
+on_turn plan w p next s heard.Stalled = phase_to_clear w
+on_turn plan w p next s h = phase_with_step w p s
 
 abbrev pub on_begin_reading : Plan → Work → Place → Heard → Phase
-on_begin_reading plan w p h = on_turn plan w p (reading_begun p) step.BeginReading h
+on_begin_reading plan w p h = on_turn plan w p (place_with_reading_begun p) step.BeginReading h
 
 abbrev pub on_end_reading : Plan → Work → Place → Heard → Phase
-on_end_reading plan w p h = on_turn plan w p (reading_ended p) step.EndReading h
+on_end_reading plan w p h = on_turn plan w p (place_with_reading_ended p) step.EndReading h
 
 -- The work after the bytes that were read back.
 abbrev pub read_on : Plan → Work → Work
@@ -161,39 +162,39 @@ read_on plan (work.CompareFront at) = work.CompareFront (read_end plan at (end_o
 read_on plan w = w
 
 abbrev pub on_read : Plan → Work → Place → Heard → Phase
-on_read plan w p (heard.Compared true) = settle plan (read_on plan w) p
+on_read plan w p (heard.Compared true) = settled_phase plan (read_on plan w) p
 on_read plan w p (heard.Compared false) = Over report.Different
-on_read plan w p heard.Stalled = cleared w
-on_read plan w p h = stand w p step.Read
+on_read plan w p heard.Stalled = phase_to_clear w
+on_read plan w p h = phase_with_step w p step.Read
 
 -- ---- leaving
 
 abbrev pub on_close : Work → Place → Heard → Phase
-on_close w p heard.Acked = stand w p step.ClosePoll
-on_close w p h = stand w p step.CloseProbe
+on_close w p heard.Acked = phase_with_step w p step.ClosePoll
+on_close w p h = phase_with_step w p step.CloseProbe
 
 abbrev pub close_probed : Work → Place → State → Phase
-close_probed w p state.DfuIdle = stand w p step.Close
-close_probed w p state.DownloadIdle = stand w p step.Close
-close_probed w p state.Error = cleared w
-close_probed w p s = stand w p step.ClosePoll
+close_probed w p state.DfuIdle = phase_with_step w p step.Close
+close_probed w p state.DownloadIdle = phase_with_step w p step.Close
+close_probed w p state.Error = phase_to_clear w
+close_probed w p s = phase_with_step w p step.ClosePoll
 
 abbrev pub on_close_probe : Work → Place → Heard → Phase
 on_close_probe w p (heard.StateIs s) = close_probed w p s
-on_close_probe w p heard.Stalled = stand w p step.ClosePoll
-on_close_probe w p h = stand w p step.CloseProbe
+on_close_probe w p heard.Stalled = phase_with_step w p step.ClosePoll
+on_close_probe w p h = phase_with_step w p step.CloseProbe
 
 abbrev pub close_polled : Work → Place → Code → State → Phase
-close_polled w p c state.DfuIdle = stand w p step.Close
-close_polled w p c state.DownloadIdle = stand w p step.Close
-close_polled w p c state.Error = cleared w
+close_polled w p c state.DfuIdle = phase_with_step w p step.Close
+close_polled w p c state.DownloadIdle = phase_with_step w p step.Close
+close_polled w p c state.Error = phase_to_clear w
 close_polled w p code.Ok state.Manifest = Over (report.Verified leaving.Left)
 close_polled w p code.Ok state.ManifestWaitReset = Over (report.Verified leaving.Left)
-close_polled w p c s = stand w p step.ClosePoll
+close_polled w p c s = phase_with_step w p step.ClosePoll
 
 abbrev pub on_close_poll : Work → Place → Heard → Phase
 on_close_poll w p (heard.Told status) = close_polled w p status.code status.state
-on_close_poll w p h = stand w p step.ClosePoll
+on_close_poll w p h = phase_with_step w p step.ClosePoll
 
 -- ---- the table
 
@@ -202,7 +203,7 @@ row plan w p step.Abort h = on_abort w h
 row plan w p step.AskState h = on_ask_state plan w h
 row plan w p step.AskStatus h = on_ask_status w h
 row plan w p (step.ClearWait ms) h = on_clear_wait w ms h
-row plan w p step.ClearStatus h = cleared w
+row plan w p step.ClearStatus h = phase_to_clear w
 row plan w p step.Send h = on_send w p h
 row plan w p step.Probe h = on_probe plan w p h
 row plan w p (step.Poll last) h = on_poll plan w p last h

@@ -1,4 +1,4 @@
--- Parts of the table that go over the wire: actions as setups, and what is seen as what is understood.
+-- Parts of the table that go over the wire: actions as setups, and results as what is heard.
 use Rattle.std.specs.Prelude.{◌≡◌, ◌≢◌, ℕ, ◌==◌, List, [], ◌∷◌, length, if◌then◌else◌}
 use Rattle.std.specs.Str.{bytes_eq}
 use Rattle.dfu_wire.specs.declared.setups.Setup.{Setup}
@@ -20,14 +20,14 @@ use Rattle.dfuse_host.specs.declared.step.Step.{Step}
 use Rattle.dfuse_host.specs.declared.step.Step.TheVariants as step
 use Rattle.dfuse_host.specs.Deeds.{DfuseDeed, Send, Wait, Done, read_bytes}
 
--- The eight bytes are a setup that asks for this, with 0 if its value has no meaning.
+-- The eight bytes are a setup that asks for the request, with 0 if its value has no meaning.
 pub record IsDfuseSetupOf (q : Request) (bytes : List ℕ) : Type 0 where
   pub setup : Setup
   pub fields : IsSetup setup bytes
   pub asks : SetupRequest setup q
   pub plain : IsPlain setup q
 
--- An action as the caller gets it: a request is the bytes of its setup, with its body. No other pair spells.
+-- An action as the caller gets it: a request is the bytes of its setup, with its body. No other bytes spell it.
 abbrev pub DfuseSpells : DfuseDeed → Action → Type 0
 DfuseSpells (Send q body) (action.Send setup given) = IsDfuseSetupOf q setup × (given.now ≡ body)
 DfuseSpells (Send q body) (action.Command setup given) = IsDfuseSetupOf q setup × (given ≡ body)
@@ -35,23 +35,23 @@ DfuseSpells (Wait ms) (action.Wait given) = given ≡ ms
 DfuseSpells (Done report) (action.Done given) = given ≡ report
 DfuseSpells deed given = ⊥
 
--- Bytes that answer GETSTATUS are the status that they spell; if they spell none, it is as if nothing came.
+-- Bytes that answer GETSTATUS are the status that they spell; if they spell none, nothing is heard.
 abbrev pub DfuseReadsStatus : List ℕ → Heard → Type 0
 DfuseReadsStatus bytes (heard.Told status) = IsStatus status bytes
 DfuseReadsStatus bytes heard.Nothing = (s : StatusFields) → IsStatus s bytes → ⊥
 DfuseReadsStatus bytes h = ⊥
 
--- Bytes that answer GETSTATE are the state whose number is their one byte; else it is as if nothing came.
+-- Bytes that answer GETSTATE are the state whose number is their one byte; other bytes are heard as nothing.
 abbrev pub DfuseReadsState : List ℕ → Heard → Type 0
 DfuseReadsState bytes (heard.StateIs state) = bytes ≡ state_byte state ∷ []
 DfuseReadsState bytes heard.Nothing = (state : State) → bytes ≢ state_byte state ∷ []
 DfuseReadsState bytes h = ⊥
 
--- Bytes that answer UPLOAD are compared with these of the image, if they are as many; else it is as if nothing came.
-abbrev pub compared : (wanted bytes : List ℕ) → Heard
-compared wanted bytes = if length bytes == length wanted then heard.Compared (bytes_eq bytes wanted) else heard.Nothing
+-- Bytes that answer UPLOAD are compared with the wanted bytes, if they are as many; other bytes are heard as nothing.
+abbrev pub heard_of_compare : (wanted bytes : List ℕ) → Heard
+heard_of_compare wanted bytes = if length bytes == length wanted then heard.Compared (bytes_eq bytes wanted) else heard.Nothing
 
--- Bytes that come at a step: if the step asks for no bytes, it is as if nothing came.
+-- Meaning of bytes at a step: if the step asks for no bytes, nothing is heard.
 abbrev pub DfuseBytesMeaning : Plan → Work → Step → List ℕ → Heard → Type 0
 DfuseBytesMeaning plan w step.AskState bytes h = DfuseReadsState bytes h
 DfuseBytesMeaning plan w step.Probe bytes h = DfuseReadsState bytes h
@@ -59,7 +59,7 @@ DfuseBytesMeaning plan w step.CloseProbe bytes h = DfuseReadsState bytes h
 DfuseBytesMeaning plan w step.AskStatus bytes h = DfuseReadsStatus bytes h
 DfuseBytesMeaning plan w (step.Poll last) bytes h = DfuseReadsStatus bytes h
 DfuseBytesMeaning plan w step.ClosePoll bytes h = DfuseReadsStatus bytes h
-DfuseBytesMeaning plan w step.Read bytes h = h ≡ compared (read_bytes plan w) bytes
+DfuseBytesMeaning plan w step.Read bytes h = h ≡ heard_of_compare (read_bytes plan w) bytes
 DfuseBytesMeaning plan w step.Abort bytes h = h ≡ heard.Nothing
 DfuseBytesMeaning plan w (step.ClearWait ms) bytes h = h ≡ heard.Nothing
 DfuseBytesMeaning plan w step.ClearStatus bytes h = h ≡ heard.Nothing
@@ -69,7 +69,7 @@ DfuseBytesMeaning plan w step.BeginReading bytes h = h ≡ heard.Nothing
 DfuseBytesMeaning plan w step.EndReading bytes h = h ≡ heard.Nothing
 DfuseBytesMeaning plan w step.Close bytes h = h ≡ heard.Nothing
 
--- The result at a step, as it is understood. The table decides whether it fits the step.
+-- Meaning of a result at a step. The table decides if it fits the step.
 abbrev pub DfuseSeenMeaning : Plan → Work → Step → Seen → Heard → Type 0
 DfuseSeenMeaning plan w s (seen.Bytes bytes) h = DfuseBytesMeaning plan w s bytes.now h
 DfuseSeenMeaning plan w s seen.Ack h = h ≡ heard.Acked

@@ -5,13 +5,13 @@ use crate::report::Report;
 /// Actions that a session asks its caller to do.
 #[derive(Clone, Copy)]
 pub enum Action<'f> {
-    /// Send this request with this body: bytes of the image with a DNLOAD, else nothing. The answer is asked for if the setup's
-    /// first byte is A1h.
+    /// Send the request with its body: bytes of the image with a DNLOAD, and else none. The answer is asked for if the setup's first byte
+    /// is A1h.
     Send { setup: [u8; 8], body: &'f [u8] },
     /// Send this DNLOAD of block 0, whose body is a command of DfuSe.
     Command { setup: [u8; 8], body: [u8; 5] },
-    /// Wait for this many milliseconds, 0 to 16,777,215.
+    /// Wait for this number of milliseconds, 0 to 16,777,215.
     Wait(u32),
-    /// Nothing: the session is over, and this is its report.
+    /// Do nothing: the session is over, and this is its report.
     Done(Report),
 }

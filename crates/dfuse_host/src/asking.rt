@@ -16,7 +16,7 @@ use crate::step::Step;
 use crate::work::Work;
 use dfu_wire::Request;
 
-/// One of the seven requests, as its setup's bytes.
+/// Returns the bytes of the setup of `request`, which must be one of the seven.
 fn setup_of(request: Request) -> [u8; 8]
     requires { IsUnnamed request → ⊥ }
     ensures { IsDfuseSetupOf request result }
@@ -27,7 +27,7 @@ fn setup_of(request: Request) -> [u8; 8]
     }
 }
 
-/// One of the seven requests, with no body.
+/// Returns the action that sends `request`, which must be one of the seven, without a body.
 fn ask<'f>(request: Request) -> Action<'f>
     requires { IsUnnamed request → ⊥ }
     ensures { DfuseSpells (deeds.Send request []) result }
@@ -38,7 +38,7 @@ fn ask<'f>(request: Request) -> Action<'f>
     }
 }
 
-/// A command with an address.
+/// Returns the action that sends command `number` with address `at`.
 fn address_command<'f>(number: u8, at: u64) -> Action<'f>
     ensures { DfuseSpells (deeds.address_command number at) result }
 {
@@ -52,7 +52,7 @@ fn address_command<'f>(number: u8, at: u64) -> Action<'f>
     }
 }
 
-/// A DNLOAD of bytes, for the address to which the pointer was set.
+/// Returns the action that sends `body` by a DNLOAD, for the address to which the pointer was set.
 fn download(body: &[u8]) -> Action<'_>
     requires { length body.now < 2 ^ 16 }
     ensures { DfuseSpells (deeds.dfuse_download body.now) result }
@@ -64,7 +64,7 @@ fn download(body: &[u8]) -> Action<'_>
     }
 }
 
-/// The address that a work has reached.
+/// Returns the address that `work` has reached.
 pub(crate) fn stands_at(work: Work) -> u64
     ensures { result ≡ deeds.stands_at work }
 {
@@ -79,7 +79,7 @@ pub(crate) fn stands_at(work: Work) -> u64
     }
 }
 
-/// The address to which the pointer was set for what is read.
+/// Returns the address to which the pointer was set for the bytes that are read at `place`; `at` if none are read there.
 fn base_of(place: Place, at: u64) -> u64
     ensures { result ≡ deeds.base_of place at }
 {
@@ -92,7 +92,7 @@ fn base_of(place: Place, at: u64) -> u64
 impl<'f> Plan<'f> {
     ghost use Rattle.dfuse_host.specs.declared.work.Work.{Work};
 
-    /// The bytes of an element from one address to before another.
+    /// Returns the bytes of the image from address `at` to before `end`, up to the end of the element that has `at`.
     fn bytes_in(&self, at: u64, end: u64) -> &'f [u8]
         ensures value { result.now ≡ bytes_in self.now at end }
         ensures fits { length result.now ≤ end - at }
@@ -107,7 +107,7 @@ impl<'f> Plan<'f> {
         bytes
     }
 
-    /// The bytes of the image that are to be read back.
+    /// Returns the bytes of the image that `work` reads back next.
     #[tactic(auto, unfolding(crate::specs::Deeds::read_bytes))]
     pub(crate) fn read_bytes(&self, work: Work) -> &'f [u8]
         ensures value { result.now ≡ deeds.read_bytes self.now work }
@@ -117,7 +117,7 @@ impl<'f> Plan<'f> {
         self.bytes_in(at, self.read_end(at, self.end_of_work(work)))
     }
 
-    /// The number of the block that has an address.
+    /// Returns the number of the block that has address `at`, if the device reads at `place`.
     #[tactic(auto, unfolding(crate::specs::Deeds::upload_block))]
     fn upload_block(&self, place: Place, at: u64) -> u16
         ensures { result ≡ deeds.upload_block self.now place at }
@@ -125,9 +125,9 @@ impl<'f> Plan<'f> {
         (at.saturating_sub(base_of(place, at)) / self.block_size() % 65534 + 2) as u16
     }
 
-    /// A command, as the caller sends it.
+    /// Returns the action that sends `command` of `work`.
     fn sends(&self, work: Work, command: Command) -> Action<'f>
-        ensures { DfuseSpells (deeds.sends self.now work command) result }
+        ensures { DfuseSpells (deeds.command_deed self.now work command) result }
     {
         match command {
             Command::SetAddress(at) => address_command(0x21, at),
@@ -139,18 +139,18 @@ impl<'f> Plan<'f> {
         }
     }
 
-    /// UPLOAD of the bytes that are to be read back.
+    /// Returns the UPLOAD of the bytes that `work` reads back next, at `place`.
     fn upload(&self, work: Work, place: Place) -> Action<'f>
-        ensures { DfuseSpells (deeds.upload self.now work place) result }
+        ensures { DfuseSpells (deeds.upload_deed self.now work place) result }
     {
         let block = self.upload_block(place, stands_at(work));
         let length = self.read_bytes(work).len() as u16;
         ask(Request::Upload { block, length })
     }
 
-    /// The action of a step.
+    /// Returns the action of `step`, in `work` at `place`.
     fn action_of(&self, work: Work, place: Place, step: Step) -> Action<'f>
-        ensures { DfuseSpells (deeds.deed_of self.now work place step) result }
+        ensures { DfuseSpells (deeds.deed_of_step self.now work place step) result }
     {
         match step {
             Step::Abort | Step::BeginReading | Step::EndReading => ask(Request::Abort),
@@ -166,7 +166,7 @@ impl<'f> Plan<'f> {
         }
     }
 
-    /// The action of a phase.
+    /// Returns the action of `phase`.
     pub(crate) fn action(&self, phase: Phase) -> Action<'f>
         ensures { DfuseSpells (deeds.dfuse_deed self.now phase) result }
     {

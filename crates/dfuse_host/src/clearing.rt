@@ -1,4 +1,4 @@
-//! Clearing: what an earlier session left is dropped, and waited for, but never started.
+//! Clearing: orders of an earlier session are dropped, and waited for, but never started.
 
 ghost use Rattle.std.specs.Prelude.{◌≡◌};
 ghost use Rattle.dfuse_host.specs.Table.{state_found, ends_comparing, fault_found, status_found, on_abort, on_ask_state, on_ask_status, on_clear_wait};
@@ -17,7 +17,7 @@ use dfu_wire::{Code, State, Status};
 /// Milliseconds to wait for a status that was asked for too early.
 pub(crate) const TOO_EARLY_MS: u32 = 100;
 
-/// The device is in dfuERROR while bytes are read back.
+/// Returns the phase if the device is in dfuERROR with `code` while `work` reads bytes back.
 fn ends_comparing(work: Work, code: Code) -> Phase
     ensures { result ≡ ends_comparing work code }
 {
@@ -27,7 +27,7 @@ fn ends_comparing(work: Work, code: Code) -> Phase
     }
 }
 
-/// The device is in dfuERROR.
+/// Returns the phase if the device is in dfuERROR with `code`.
 fn fault_found(work: Work, code: Code) -> Phase
     ensures { result ≡ fault_found work code }
 {
@@ -39,7 +39,7 @@ fn fault_found(work: Work, code: Code) -> Phase
     }
 }
 
-/// The status while the device is cleared.
+/// Returns the phase after `status` while the device is cleared.
 fn status_found(work: Work, status: &Status) -> Phase
     ensures { result ≡ status_found work status.now.code status.now.poll_ms status.now.state }
 {
@@ -52,7 +52,7 @@ fn status_found(work: Work, status: &Status) -> Phase
     }
 }
 
-/// ABORT.
+/// Returns the phase after ABORT, to which `heard` is the result.
 pub(crate) fn on_abort(work: Work, heard: &Heard) -> Phase
     ensures { result ≡ on_abort work heard.now }
 {
@@ -62,7 +62,7 @@ pub(crate) fn on_abort(work: Work, heard: &Heard) -> Phase
     }
 }
 
-/// GETSTATUS, while the device is cleared.
+/// Returns the phase after GETSTATUS, to which `heard` is the result, while the device is cleared.
 pub(crate) fn on_ask_status(work: Work, heard: &Heard) -> Phase
     ensures { result ≡ on_ask_status work heard.now }
 {
@@ -73,7 +73,7 @@ pub(crate) fn on_ask_status(work: Work, heard: &Heard) -> Phase
     }
 }
 
-/// A wait, while the device is cleared.
+/// Returns the phase after a wait of `ms` milliseconds, while the device is cleared.
 pub(crate) fn on_clear_wait(work: Work, ms: u32, heard: &Heard) -> Phase
     ensures { result ≡ on_clear_wait work ms heard.now }
 {
@@ -84,7 +84,7 @@ pub(crate) fn on_clear_wait(work: Work, ms: u32, heard: &Heard) -> Phase
 }
 
 impl Plan<'_> {
-    /// The state once ABORT was sent.
+    /// Returns the phase after `state`, the answer to the GETSTATE that follows ABORT.
     fn state_found(&self, work: Work, state: State) -> Phase
         ensures { result ≡ state_found self.now work state }
     {
@@ -99,7 +99,7 @@ impl Plan<'_> {
         }
     }
 
-    /// GETSTATE, while the device is cleared.
+    /// Returns the phase after GETSTATE, to which `heard` is the result, while the device is cleared.
     pub(crate) fn on_ask_state(&self, work: Work, heard: &Heard) -> Phase
         ensures { result ≡ on_ask_state self.now work heard.now }
     {

@@ -1,4 +1,4 @@
-//! Leaving.
+//! Leaving: the device is asked to start its application.
 
 ghost use Rattle.std.specs.Prelude.{◌≡◌};
 ghost use Rattle.dfuse_host.specs.Table.{on_close, close_probed, on_close_probe, close_polled, on_close_poll};
@@ -13,7 +13,7 @@ use crate::step::Step;
 use crate::work::Work;
 use dfu_wire::{Code, State};
 
-/// DNLOAD of no bytes, by which the device is asked to leave.
+/// Returns the phase after a DNLOAD of no bytes, by which the device is asked to leave.
 pub(crate) fn on_close(work: Work, place: Place, heard: &Heard) -> Phase
     ensures { result ≡ on_close work place heard.now }
 {
@@ -23,7 +23,7 @@ pub(crate) fn on_close(work: Work, place: Place, heard: &Heard) -> Phase
     }
 }
 
-/// The state of a device whose answer to that was lost.
+/// Returns the phase after `state`, that of a device whose answer to the DNLOAD of no bytes was lost.
 fn close_probed(work: Work, place: Place, state: State) -> Phase
     ensures { result ≡ close_probed work place state }
 {
@@ -34,7 +34,7 @@ fn close_probed(work: Work, place: Place, state: State) -> Phase
     }
 }
 
-/// GETSTATE, to learn whether it came.
+/// Returns the phase after GETSTATE, which asks if the DNLOAD of no bytes came.
 pub(crate) fn on_close_probe(work: Work, place: Place, heard: &Heard) -> Phase
     ensures { result ≡ on_close_probe work place heard.now }
 {
@@ -45,7 +45,7 @@ pub(crate) fn on_close_probe(work: Work, place: Place, heard: &Heard) -> Phase
     }
 }
 
-/// The status of a device that was asked to leave.
+/// Returns the phase after the status, `code` and `state`, of a device that was asked to leave.
 fn close_polled(work: Work, place: Place, code: Code, state: State) -> Phase
     ensures { result ≡ close_polled work place code state }
 {
@@ -59,7 +59,7 @@ fn close_polled(work: Work, place: Place, code: Code, state: State) -> Phase
     }
 }
 
-/// GETSTATUS, to learn whether the device leaves.
+/// Returns the phase after GETSTATUS, which asks if the device leaves.
 pub(crate) fn on_close_poll(work: Work, place: Place, heard: &Heard) -> Phase
     ensures { result ≡ on_close_poll work place heard.now }
 {

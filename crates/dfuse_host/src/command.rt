@@ -1,7 +1,7 @@
-//! Commands of DfuSe, and what follows once one is done.
+//! Commands of DfuSe, and the phases after them.
 
 ghost use Rattle.std.specs.Prelude.{◌≡◌};
-ghost use Rattle.dfuse_host.specs.Commands.{writing, command_of, end_of_work, erased, after_write, done, cleared, again, unsure};
+ghost use Rattle.dfuse_host.specs.Commands.{write_command, command_of, end_of_work, phase_after_erase, phase_after_write, phase_after_command, phase_to_clear, work_after_unsure_write, phase_if_unsure};
 
 use crate::image::image_end;
 use crate::phase::Phase;
@@ -16,16 +16,17 @@ use crate::work::Work;
 pub(crate) enum Command {
     /// Set the address pointer.
     SetAddress(u64),
-    /// Erase the page that has this address.
+    /// Erase the page that has the address.
     ErasePage(u64),
-    /// Write the bytes of the image from this address on, to which the address pointer was set.
+    /// Write the bytes of the image from this address on, to which the pointer was set.
     Write(u64),
 }
 
-/// Bytes are written once the pointer is set to them.
+/// Returns the command that comes next for the bytes at `at`: their write, if the pointer is at `at`, and else the setting of the pointer
+/// to `at`.
 #[tactic(auto, using(std::proofs::lemmas::Bool::Decides::nat_tests))]
 fn writing(place: Place, at: u64) -> Command
-    ensures { result ≡ writing place at }
+    ensures { result ≡ write_command place at }
 {
     match place {
         Place::At(pointer) if pointer == at => Command::Write(at),
@@ -33,9 +34,9 @@ fn writing(place: Place, at: u64) -> Command
     }
 }
 
-/// The device is to be cleared, and then a work goes on.
+/// Returns the phase that clears the device, and then goes on with `work`.
 pub(crate) fn cleared(work: Work) -> Phase
-    ensures { result ≡ cleared work }
+    ensures { result ≡ phase_to_clear work }
 {
     stand(work, Place::Lost, Step::Abort)
 }
@@ -43,7 +44,7 @@ pub(crate) fn cleared(work: Work) -> Phase
 impl Plan<'_> {
     ghost use Rattle.dfuse_host.specs.declared.work.Work.{Work};
 
-    /// The command of a work.
+    /// Returns the command of `work` at `place`.
     pub(crate) fn command_of(&self, work: Work, place: Place) -> Command
         ensures { result ≡ command_of self.now work place }
     {
@@ -56,7 +57,7 @@ impl Plan<'_> {
         }
     }
 
-    /// The address up to which a work goes.
+    /// Returns the address up to which `work` goes.
     pub(crate) fn end_of_work(&self, work: Work) -> u64
         ensures { result ≡ end_of_work self.now work }
     {
@@ -68,9 +69,9 @@ impl Plan<'_> {
         }
     }
 
-    /// A page was erased.
+    /// Returns the phase after the page of `at` was erased for `work`.
     fn erased(&self, work: Work, at: u64) -> Phase
-        ensures { result ≡ erased self.now work at }
+        ensures { result ≡ phase_after_erase self.now work at }
     {
         match work {
             Work::EraseAgain { page, end } => {
@@ -80,9 +81,9 @@ impl Plan<'_> {
         }
     }
 
-    /// Bytes were written.
+    /// Returns the phase after the bytes at `at` were written for `work`.
     fn written(&self, work: Work, at: u64) -> Phase
-        ensures { result ≡ after_write self.now work at }
+        ensures { result ≡ phase_after_write self.now work at }
     {
         match work {
             Work::Write { at: from, end } => {
@@ -92,9 +93,9 @@ impl Plan<'_> {
         }
     }
 
-    /// A command is done.
+    /// Returns the phase after `command` of `work` is done.
     pub(crate) fn done(&self, work: Work, command: Command) -> Phase
-        ensures { result ≡ done self.now work command }
+        ensures { result ≡ phase_after_command self.now work command }
     {
         match command {
             Command::SetAddress(at) => self.settle(work, Place::At(at)),
@@ -103,9 +104,9 @@ impl Plan<'_> {
         }
     }
 
-    /// The work that follows a write which may have stopped halfway.
+    /// Returns the work that follows `work` if a write of it may have stopped halfway.
     fn again(&self, work: Work) -> Work
-        ensures { result ≡ again self.now work }
+        ensures { result ≡ work_after_unsure_write self.now work }
     {
         match work {
             Work::Write { at, end } => Work::EraseAgain {
@@ -120,9 +121,9 @@ impl Plan<'_> {
         }
     }
 
-    /// A command may have been started, and its end isn't known.
+    /// Returns the phase if `command` may have been started, and its end isn't known.
     pub(crate) fn unsure(&self, work: Work, command: Command) -> Phase
-        ensures { result ≡ unsure self.now work command }
+        ensures { result ≡ phase_if_unsure self.now work command }
     {
         match command {
             Command::SetAddress(_) | Command::ErasePage(_) => cleared(work),

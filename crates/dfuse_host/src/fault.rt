@@ -3,7 +3,7 @@
 use std::fmt;
 use thiserror::Error;
 
-/// Faults for which a plan is refused before anything is sent: the first of these that holds.
+/// A fault for which a plan is refused before anything is sent: the first of these that holds.
 #[derive(Clone, Copy, Debug, Error)]
 pub enum PlanFault {
     /// The transfer size is 0.

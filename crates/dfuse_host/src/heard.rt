@@ -1,7 +1,7 @@
-//! Meaning of what is seen.
+//! Meaning of results.
 
 ghost use Rattle.std.specs.Prelude.{◌≡◌};
-ghost use Rattle.dfuse_host.specs.Wire.{DfuseSeenMeaning, DfuseBytesMeaning, DfuseReadsState, DfuseReadsStatus, compared};
+ghost use Rattle.dfuse_host.specs.Wire.{DfuseSeenMeaning, DfuseBytesMeaning, DfuseReadsState, DfuseReadsStatus, heard_of_compare};
 
 use crate::plan::Plan;
 use crate::seen::Seen;
@@ -9,13 +9,13 @@ use crate::step::Step;
 use crate::work::Work;
 use dfu_wire::{State, Status};
 
-/// Meaning of what is seen of an action.
+/// Meaning of the result of an action.
 #[derive(Clone, Copy)]
 pub(crate) enum Heard {
     Acked,
     Told(Status),
     StateIs(State),
-    /// Bytes were read back, as many as were asked for, and whether they are the image's.
+    /// Bytes were read back, as many as were asked for; true if they are those of the image.
     Compared(bool),
     Stalled,
     Nothing,
@@ -23,7 +23,7 @@ pub(crate) enum Heard {
     Restarted,
 }
 
-/// The answer to GETSTATUS.
+/// Reads `bytes` as the answer to GETSTATUS; Nothing if they are none.
 fn status_in(bytes: &[u8]) -> Heard
     ensures { DfuseReadsStatus bytes.now result }
 {
@@ -33,7 +33,7 @@ fn status_in(bytes: &[u8]) -> Heard
     }
 }
 
-/// The answer to GETSTATE, one byte.
+/// Reads `bytes` as the answer to GETSTATE, of one byte; Nothing if they are none.
 fn state_in(bytes: &[u8]) -> Heard
     ensures { DfuseReadsState bytes.now result }
 {
@@ -46,10 +46,10 @@ fn state_in(bytes: &[u8]) -> Heard
     }
 }
 
-/// Bytes that were read back.
+/// Compares `bytes`, which UPLOAD answered, with `wanted`; Nothing if their number differs.
 #[tactic(auto, using(std::proofs::lemmas::Bool::Decides::nat_tests))]
 fn compared(wanted: &[u8], bytes: &[u8]) -> Heard
-    ensures { result ≡ compared wanted.now bytes.now }
+    ensures { result ≡ heard_of_compare wanted.now bytes.now }
 {
     if bytes.len() == wanted.len() {
         Heard::Compared(bytes == wanted)
@@ -59,7 +59,7 @@ fn compared(wanted: &[u8], bytes: &[u8]) -> Heard
 }
 
 impl Plan<'_> {
-    /// Returns the meaning of bytes that come at a step.
+    /// Returns the meaning of `bytes` that come at `step` of `work`.
     fn answered(&self, work: Work, step: Step, bytes: &[u8]) -> Heard
         ensures { DfuseBytesMeaning self.now work step bytes.now result }
     {
@@ -71,7 +71,7 @@ impl Plan<'_> {
         }
     }
 
-    /// Returns the meaning of what is seen at a step.
+    /// Returns the meaning of `seen` at `step` of `work`.
     pub(crate) fn hear(&self, work: Work, step: Step, seen: Seen<'_>) -> Heard
         ensures { DfuseSeenMeaning self.now work step seen.entry result }
     {

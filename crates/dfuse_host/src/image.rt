@@ -1,11 +1,11 @@
 //! Bytes of an image, by their addresses.
 
 ghost use Rattle.std.specs.Prelude.{◌≡◌, ◌≤◌, ◌<◌, ◌+◌, ◌^◌, length, IfSome};
-ghost use Rattle.dfuse_host.specs.Images.{end_of, holds, element_at, next_byte, image_start, image_end};
+ghost use Rattle.dfuse_host.specs.Images.{end_of, element_holds, element_at, next_byte, image_start, image_end};
 
 use dfu_formats::dfuse::Element;
 
-/// The address after the last byte of an element.
+/// Returns the address after the last byte of `element`.
 pub(crate) fn end_of(element: &Element<'_>) -> u64
     ensures value { result ≡ end_of element.now }
     ensures fits { result < 2 ^ 63 + 2 ^ 32 }
@@ -13,14 +13,14 @@ pub(crate) fn end_of(element: &Element<'_>) -> u64
     element.address as u64 + element.bytes.len() as u64
 }
 
-/// Returns whether an element has a byte for this address.
+/// Returns true if `element` has a byte at address `at`.
 fn holds(at: u64, element: &Element<'_>) -> bool
-    ensures { result ≡ holds at element.now }
+    ensures { result ≡ element_holds at element.now }
 {
     element.address as u64 <= at && at < end_of(element)
 }
 
-/// The element that has a byte for this address.
+/// Returns the first element of `image` that has a byte at address `at`; None if none has.
 #[tactic(auto, unfolding(crate::specs::Images::element_at))]
 pub(crate) fn element_at<'f>(at: u64, image: &[Element<'f>]) -> Option<Element<'f>>
     ensures value { result ≡ element_at at image.now }
@@ -34,7 +34,7 @@ pub(crate) fn element_at<'f>(at: u64, image: &[Element<'f>]) -> Option<Element<'
     None
 }
 
-/// The first address from this one on for which the image has a byte.
+/// Returns the first address from `at` on for which `image` has a byte; None if there is none.
 #[tactic(auto, unfolding(crate::specs::Images::next_byte))]
 pub(crate) fn next_byte(at: u64, image: &[Element<'_>]) -> Option<u64>
     ensures { result ≡ next_byte at image.now }
@@ -47,7 +47,7 @@ pub(crate) fn next_byte(at: u64, image: &[Element<'_>]) -> Option<u64>
     None
 }
 
-/// The address of the first byte.
+/// Returns the address of the first byte of `image`; 0 if it has no element.
 #[tactic(auto, unfolding(crate::specs::Images::image_start))]
 pub(crate) fn image_start(image: &[Element<'_>]) -> u64
     ensures value { result ≡ image_start image.now }
@@ -59,7 +59,7 @@ pub(crate) fn image_start(image: &[Element<'_>]) -> u64
     image[0].address as u64
 }
 
-/// The address after the last byte.
+/// Returns the address after the last byte of `image`; 0 if it has no element.
 #[tactic(auto, unfolding(crate::specs::Images::image_end))]
 pub(crate) fn image_end(image: &[Element<'_>]) -> u64
     ensures { result ≡ image_end image.now }

@@ -1,7 +1,7 @@
-//! The host of DfuSe: a machine that says which request or wait comes next until the bytes of an image are stored in a device's memory
-//! and were read back.
+//! The host of DfuSe: a machine that says which request or wait comes next, until the bytes of an image are stored in a device's memory and
+//! were read back.
 //!
-//! It sends nothing itself, and takes no memory.
+//! The machine sends nothing itself, and takes no memory.
 #![tactic(auto)]
 
 mod action;

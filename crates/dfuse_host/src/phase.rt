@@ -16,8 +16,8 @@ pub struct Standing {
 /// A phase of a session.
 #[derive(Clone, Copy)]
 pub enum Phase {
-    /// It goes on.
+    /// The session goes on.
     On(Standing),
-    /// It is over.
+    /// The session is over.
     Over(Report),
 }

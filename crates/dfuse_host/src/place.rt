@@ -3,10 +3,10 @@
 /// Knowledge of the device's address pointer, once the device is ready for a command.
 #[derive(Clone, Copy)]
 pub enum Place {
-    /// Nothing.
+    /// Nothing is known of the pointer.
     Lost,
-    /// It was set to this address.
+    /// The pointer was set to this address.
     At(u64),
-    /// It was set to this address, and the device is ready for UPLOAD, or in the middle of it.
+    /// The pointer was set to this address, and the device is ready for UPLOAD, or in the middle of it.
     Reading(u64),
 }

@@ -10,22 +10,22 @@ use dfu_formats::memory::{Map, Page};
 /// Plan of a session.
 #[derive(Clone, Copy)]
 pub struct Plan<'f> {
-    /// The memory.
+    /// Map of the memory.
     pub map: &'f Map<'f>,
-    /// The image.
+    /// Image that is to be written.
     pub image: &'f [Element<'f>],
-    /// The most bytes of a block.
+    /// Largest number of bytes of a block.
     pub transfer: u16,
-    /// Bytes of the image that are written last of all, if its first element and its first page have that many.
+    /// Number of bytes of the image that are written last of all, as far as its first element and its first page have them.
     pub front: u16,
-    /// Tells whether the device is to leave once all was compared.
+    /// True if the device is to leave once all was compared.
     pub leaves: bool,
-    /// The address at which it is to start its application.
+    /// The address at which the device is to start its application.
     pub start: u32,
 }
 
 impl Plan<'_> {
-    /// The page that has an address.
+    /// Returns the page of the map that has address `at`; None if none has.
     #[tactic(auto, using(std::proofs::lemmas::Bool::Decides::nat_tests), unfolding(crate::specs::Plans::page_of))]
     fn page_of(&self, at: u64) -> Option<Page>
         ensures value { result ≡ page_of self.now at }
@@ -37,7 +37,7 @@ impl Plan<'_> {
         self.map.page_at(at as u32)
     }
 
-    /// The address at which the page of an address begins.
+    /// Returns the address at which the page of `at` begins; `at` if no page has it.
     pub(crate) fn page_start(&self, at: u64) -> u64
         ensures { result ≡ page_start self.now at }
     {
@@ -47,7 +47,7 @@ impl Plan<'_> {
         }
     }
 
-    /// The address at which the page of an address ends.
+    /// Returns the address after the last byte of the page of `at`; `at` if no page has it.
     pub(crate) fn page_end(&self, at: u64) -> u64
         ensures { result ≡ page_end self.now at }
     {
@@ -57,7 +57,7 @@ impl Plan<'_> {
         }
     }
 
-    /// The address at which the element of an address ends.
+    /// Returns the address after the last byte of the element of `at`; `at` if no element has it.
     fn element_end(&self, at: u64) -> u64
         ensures { result ≡ element_end self.now at }
     {
@@ -67,7 +67,7 @@ impl Plan<'_> {
         }
     }
 
-    /// The address after the front.
+    /// Returns the address after the front.
     #[tactic(auto, unfolding(crate::specs::Plans::front_end))]
     pub(crate) fn front_end(&self) -> u64
         ensures { result ≡ front_end self.now }
@@ -76,7 +76,7 @@ impl Plan<'_> {
         (at + self.front as u64).min(self.element_end(at).min(self.page_end(at)))
     }
 
-    /// The most bytes of a block, at least one.
+    /// Returns the largest number of bytes of a block, at least 1.
     pub(crate) fn block_size(&self) -> u64
         ensures value { result ≡ block_size self.now }
         ensures some { 1 ≤ result }
@@ -85,7 +85,7 @@ impl Plan<'_> {
         (self.transfer as u64).max(1)
     }
 
-    /// The address after the bytes that are written at once from this one on.
+    /// Returns the address, at most `end`, after the bytes from `at` on that are written at once.
     #[tactic(auto, unfolding(crate::specs::Plans::write_end))]
     pub(crate) fn write_end(&self, at: u64, end: u64) -> u64
         ensures value { result ≡ write_end self.now at end }
@@ -95,7 +95,7 @@ impl Plan<'_> {
             .min(self.element_end(at).min(self.page_end(at)).min(end))
     }
 
-    /// The address after the bytes that are read at once from this one on.
+    /// Returns the address, at most `end`, after the bytes from `at` on that are read at once.
     #[tactic(auto, unfolding(crate::specs::Plans::read_end))]
     pub(crate) fn read_end(&self, at: u64, end: u64) -> u64
         ensures value { result ≡ read_end self.now at end }

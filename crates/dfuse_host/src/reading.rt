@@ -1,7 +1,7 @@
 //! Reading back.
 
 ghost use Rattle.std.specs.Prelude.{◌≡◌};
-ghost use Rattle.dfuse_host.specs.Table.{reading_begun, reading_ended, turned, on_turn, read_on, on_read};
+ghost use Rattle.dfuse_host.specs.Table.{place_with_reading_begun, place_with_reading_ended, place_after_turn, on_turn, read_on, on_read};
 
 use crate::command::cleared;
 use crate::heard::Heard;
@@ -13,9 +13,9 @@ use crate::settling::stand;
 use crate::step::Step;
 use crate::work::Work;
 
-/// The device went to dfuIDLE, from which bytes can be read.
+/// Returns the place that follows `place` once the device went to dfuIDLE, from which bytes can be read.
 fn begun(place: Place) -> Place
-    ensures { result ≡ reading_begun place }
+    ensures { result ≡ place_with_reading_begun place }
 {
     match place {
         Place::At(pointer) => Place::Reading(pointer),
@@ -23,9 +23,9 @@ fn begun(place: Place) -> Place
     }
 }
 
-/// The device left dfuUPLOAD-IDLE.
+/// Returns the place that follows `place` once the device left dfuUPLOAD-IDLE.
 fn ended(place: Place) -> Place
-    ensures { result ≡ reading_ended place }
+    ensures { result ≡ place_with_reading_ended place }
 {
     match place {
         Place::Reading(pointer) => Place::At(pointer),
@@ -33,9 +33,9 @@ fn ended(place: Place) -> Place
     }
 }
 
-/// Returns the place of the pointer after this step, if the step is an ABORT that begins or ends reading.
+/// Returns the place of the pointer after a step, if the step is an ABORT that begins or ends reading.
 fn turned(step: Step, place: Place) -> Place
-    ensures { result ≡ turned step place }
+    ensures { result ≡ place_after_turn step place }
 {
     match step {
         Step::BeginReading => begun(place),
@@ -47,9 +47,9 @@ fn turned(step: Step, place: Place) -> Place
 impl Plan<'_> {
     ghost use Rattle.dfuse_host.specs.declared.work.Work.{Work};
 
-    /// ABORT, to begin to read or to read no more.
+    /// Returns the phase after an ABORT that begins reading, or ends it, as `step` says.
     pub(crate) fn on_turn(&self, work: Work, place: Place, step: Step, heard: &Heard) -> Phase
-        ensures { result ≡ on_turn self.now work place (turned step place) step heard.now }
+        ensures { result ≡ on_turn self.now work place (place_after_turn step place) step heard.now }
     {
         match heard {
             Heard::Acked => self.settle(work, turned(step, place)),
@@ -58,7 +58,7 @@ impl Plan<'_> {
         }
     }
 
-    /// The work after the bytes that were read back.
+    /// Returns the work that follows `work` after its bytes were read back.
     fn read_on(&self, work: Work) -> Work
         ensures { result ≡ read_on self.now work }
     {
@@ -74,7 +74,7 @@ impl Plan<'_> {
         }
     }
 
-    /// UPLOAD.
+    /// Returns the phase after UPLOAD, to which `heard` is the result.
     pub(crate) fn on_read(&self, work: Work, place: Place, heard: &Heard) -> Phase
         ensures { result ≡ on_read self.now work place heard.now }
     {

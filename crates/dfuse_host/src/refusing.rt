@@ -2,7 +2,7 @@
 
 ghost use Rattle.std.specs.Prelude.{◌≡◌, ◌↔◌, IsTrue, IfErr, OnOk};
 ghost use Rattle.dfu_formats.specs.dfuse.Images.{ascends_from};
-ghost use Rattle.dfuse_host.specs.Refusing.{has_empty, is_empty, apart_from, Grants, wants, IsSoundPlan, FirstPlanFault};
+ghost use Rattle.dfuse_host.specs.Refusing.{has_empty, is_empty, apart_from, PlanGrants, wanted_access, IsSoundPlan, FirstPlanFault};
 
 use crate::fault::PlanFault;
 use crate::image::end_of;
@@ -10,7 +10,7 @@ use crate::plan::Plan;
 use dfu_formats::dfuse::Element;
 use dfu_formats::memory::Access;
 
-/// Returns whether there is no element, or one without bytes.
+/// Returns true if `image` has no element, or one without bytes.
 #[tactic(auto, using(std::proofs::lemmas::Bool::Decides::nat_tests))]
 fn is_empty(image: &[Element<'_>]) -> bool
     ensures { result ≡ is_empty image.now }
@@ -18,7 +18,7 @@ fn is_empty(image: &[Element<'_>]) -> bool
     image.len() == 0 || has_empty(image)
 }
 
-/// Returns whether an element has no bytes.
+/// Returns true if an element of `image` has no bytes.
 #[tactic(auto, using(std::proofs::lemmas::Bool::Decides::nat_tests))]
 fn has_empty(image: &[Element<'_>]) -> bool
     ensures { result ≡ has_empty image.now }
@@ -31,7 +31,7 @@ fn has_empty(image: &[Element<'_>]) -> bool
     false
 }
 
-/// Returns whether no element begins before the one before it does.
+/// Returns true if no element of `image` begins before the one in front of it begins.
 #[tactic(auto, using(std::proofs::lemmas::Bool::Decides::nat_tests))]
 fn ascends(image: &[Element<'_>]) -> bool
     ensures { result ≡ ascends_from 0 image.now }
@@ -46,7 +46,7 @@ fn ascends(image: &[Element<'_>]) -> bool
     true
 }
 
-/// Returns whether no element begins before the one before it ends.
+/// Returns true if no element of `image` begins before the one in front of it ends.
 #[tactic(auto, using(std::proofs::lemmas::Bool::Decides::nat_tests))]
 fn are_apart(image: &[Element<'_>]) -> bool
     ensures { result ≡ apart_from 0 image.now }
@@ -62,9 +62,9 @@ fn are_apart(image: &[Element<'_>]) -> bool
 }
 
 impl Plan<'_> {
-    /// Returns whether the pages of the image grant what is wanted.
+    /// Returns true if the pages of the image grant `wanted`.
     fn grants(&self, wanted: Access) -> bool
-        ensures { IsTrue result ↔ Grants self.now wanted }
+        ensures { IsTrue result ↔ PlanGrants self.now wanted }
     {
         for element in self.image {
             if !self
@@ -77,7 +77,7 @@ impl Plan<'_> {
         true
     }
 
-    /// Checks the plan.
+    /// Checks the plan, and returns its first fault.
     pub(crate) fn check(&self) -> Result<(), PlanFault>
         ensures sound { OnOk result (IsSoundPlan self.now) }
         ensures fault { IfErr result (FirstPlanFault self.now) }

@@ -1,4 +1,4 @@
-//! The table.
+//! The table of a session.
 
 ghost use Rattle.std.specs.Prelude.{◌≡◌};
 ghost use Rattle.dfuse_host.specs.Table.{row};
@@ -15,7 +15,7 @@ use crate::step::Step;
 use crate::work::Work;
 
 impl Plan<'_> {
-    /// The phase that follows, by what a session works at, knows and does, and what was heard of that.
+    /// Returns the phase that follows, by `work`, `place` and `step` of a session, and by `heard`.
     pub(crate) fn row(&self, work: Work, place: Place, step: Step, heard: &Heard) -> Phase
         ensures { result ≡ row self.now work place step heard.now }
     {

@@ -1,6 +1,6 @@
 //! Results that a session is given.
 
-/// Result of an action. One that doesn't fit the action is taken as [`Seen::Nothing`].
+/// Result of an action. A result that doesn't fit the action is taken as [`Seen::Nothing`].
 #[derive(Clone, Copy)]
 pub enum Seen<'s> {
     /// A request that has no answer of bytes was acknowledged.
@@ -11,8 +11,8 @@ pub enum Seen<'s> {
     Stall,
     /// A request, or its answer, was lost.
     Nothing,
-    /// The wait is over.
+    /// The wait that was asked for is over.
     Waited,
-    /// The device was restarted. The session is given this before any later answer.
+    /// The device was restarted. This result must come before any later answer.
     Restarted,
 }

@@ -1,8 +1,8 @@
 //! A command: DNLOAD brings it, and the GETSTATUS after it starts it.
 
 ghost use Rattle.std.specs.Prelude.{◌≡◌};
-ghost use Rattle.dfuse_host.specs.Commands.{command_of, unsure};
-ghost use Rattle.dfuse_host.specs.Table.{on_send, probed, on_probe, refused, polled, stalled_ms, on_poll, on_poll_wait};
+ghost use Rattle.dfuse_host.specs.Commands.{command_of, phase_if_unsure};
+ghost use Rattle.dfuse_host.specs.Table.{on_send, probed, on_probe, phase_if_refused, phase_after_poll, stalled_ms, on_poll, on_poll_wait};
 
 use crate::clearing::TOO_EARLY_MS;
 use crate::command::cleared;
@@ -16,7 +16,7 @@ use crate::step::Step;
 use crate::work::Work;
 use dfu_wire::{Code, State, Status};
 
-/// DNLOAD of a command.
+/// Returns the phase after the DNLOAD of a command, to which `heard` is the result.
 pub(crate) fn on_send(work: Work, place: Place, heard: &Heard) -> Phase
     ensures { result ≡ on_send work place heard.now }
 {
@@ -26,7 +26,7 @@ pub(crate) fn on_send(work: Work, place: Place, heard: &Heard) -> Phase
     }
 }
 
-/// A wait until a command should be done.
+/// Returns the phase after a wait of `ms` milliseconds, until a command should be done.
 pub(crate) fn on_poll_wait(work: Work, place: Place, ms: u32, heard: &Heard) -> Phase
     ensures { result ≡ on_poll_wait work place ms heard.now }
 {
@@ -45,14 +45,14 @@ fn stalled_ms(last: u32) -> u32
 }
 
 impl Plan<'_> {
-    /// The command of a work may have been started, and its end isn't known.
+    /// Returns the phase if the command of `work` at `place` may have been started, and its end isn't known.
     fn unsure_of(&self, work: Work, place: Place) -> Phase
-        ensures { result ≡ unsure self.now work (command_of self.now work place) }
+        ensures { result ≡ phase_if_unsure self.now work (command_of self.now work place) }
     {
         self.unsure(work, self.command_of(work, place))
     }
 
-    /// The state in which a device is whose answer to a command was lost.
+    /// Returns the phase after `state`, that of a device whose answer to a command was lost.
     fn probed(&self, work: Work, place: Place, state: State) -> Phase
         ensures { result ≡ probed self.now work place state }
     {
@@ -64,7 +64,7 @@ impl Plan<'_> {
         }
     }
 
-    /// GETSTATE, to learn whether a command came.
+    /// Returns the phase after GETSTATE, which asks if a command came.
     pub(crate) fn on_probe(&self, work: Work, place: Place, heard: &Heard) -> Phase
         ensures { result ≡ on_probe self.now work place heard.now }
     {
@@ -75,9 +75,9 @@ impl Plan<'_> {
         }
     }
 
-    /// A command ended in dfuERROR.
+    /// Returns the phase after a command that ended in dfuERROR with `code`.
     fn refused(&self, work: Work, place: Place, code: Code) -> Phase
-        ensures { result ≡ refused self.now work place code }
+        ensures { result ≡ phase_if_refused self.now work place code }
     {
         match code {
             Code::StalledPkt => self.unsure_of(work, place),
@@ -86,9 +86,9 @@ impl Plan<'_> {
         }
     }
 
-    /// The status after a command.
+    /// Returns the phase after `status`, which follows a command.
     fn polled(&self, work: Work, place: Place, status: &Status) -> Phase
-        ensures { result ≡ polled self.now work place status.now.code status.now.poll_ms status.now.state }
+        ensures { result ≡ phase_after_poll self.now work place status.now.code status.now.poll_ms status.now.state }
     {
         match status.state() {
             State::DownloadSync | State::DownloadBusy => {
@@ -100,7 +100,7 @@ impl Plan<'_> {
         }
     }
 
-    /// GETSTATUS, to start a command, or to learn whether it is done.
+    /// Returns the phase after GETSTATUS, which starts a command, or asks if it is done.
     pub(crate) fn on_poll(&self, work: Work, place: Place, last: u32, heard: &Heard) -> Phase
         ensures { result ≡ on_poll self.now work place last heard.now }
     {

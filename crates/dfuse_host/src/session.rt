@@ -1,8 +1,8 @@
-//! A session.
+//! The session of a host with a DfuSe device.
 
 ghost use Rattle.std.specs.Prelude.{◌≡◌, ◌≤◌, ◌-◌, pred, IfOk, IfErr, OnOk};
 ghost use Rattle.dfuse_host.specs.Refusing.{IsSoundPlan, FirstPlanFault};
-ghost use Rattle.dfuse_host.specs.Sessions.{DfuseAct, SessionRow, DfuseIsOver, remaining_dfuse_inputs, initial_dfuse, dfuse_budgeted, dfuse_spent, spent_at, left_at, resumed, dfuse_restarted, restarted_leaving, restarted_in, dfuse_step_after, dfuse_after, dfuse_after_phase};
+ghost use Rattle.dfuse_host.specs.Sessions.{DfuseAct, SessionRow, DfuseIsOver, remaining_dfuse_inputs, initial_dfuse_session, phase_within_budget, session_after_action, spent_at, left_at, phase_resumed, session_with_restart_taken, restarted_leaving, session_after_restart, session_after_step_heard, session_after_heard, session_after_phase_heard};
 
 use crate::action::Action;
 use crate::command::cleared;
@@ -18,18 +18,18 @@ use crate::seen::Seen;
 use crate::step::Step;
 use crate::work::Work;
 
-/// A session: what it is to do, its phase, and what is left of its limits. It is plain data, which can be kept between two calls.
+/// A session: its plan, its phase, and what is left of its limits. A session is plain data, which can be kept between two calls.
 #[derive(Clone, Copy)]
 pub struct Session<'f> {
     pub plan: Plan<'f>,
     pub phase: Phase,
-    /// The actions that are left.
+    /// Number of actions that are left.
     pub actions: u32,
-    /// The restarts of the device that are still taken.
+    /// Number of restarts of the device that are still taken.
     pub restarts: u16,
 }
 
-/// Returns whether the device was asked to leave by now and may have left.
+/// Returns the way in which the device left, if it was asked to leave by `step`.
 fn left_at(step: Step) -> Leaving
     ensures { result ≡ left_at step }
 {
@@ -39,7 +39,7 @@ fn left_at(step: Step) -> Leaving
     }
 }
 
-/// No action is left.
+/// Returns the phase once no action is left, in `work` at `step`.
 fn spent_at(work: Work, step: Step) -> Phase
     ensures { result ≡ spent_at work step }
 {
@@ -49,9 +49,9 @@ fn spent_at(work: Work, step: Step) -> Phase
     }
 }
 
-/// The phase of a session with this many actions left.
+/// Returns `phase` if a session with `left` actions left can be in it, and else the phase in which the session is over.
 fn budgeted(left: u32, phase: Phase) -> Phase
-    ensures { result ≡ dfuse_budgeted left phase }
+    ensures { result ≡ phase_within_budget left phase }
 {
     match phase {
         Phase::Over(_) => phase,
@@ -63,9 +63,9 @@ fn budgeted(left: u32, phase: Phase) -> Phase
 impl<'f> Session<'f> {
     ghost use Rattle.dfuse_host.specs.declared.session.Session.{Session};
 
-    /// The session after one action that leads to a phase.
+    /// Returns the session after one action that leads to `phase`, with `restarts` restarts left.
     fn spent(self, phase: Phase, restarts: u16) -> Session<'f>
-        ensures { result ≡ dfuse_spent self.entry phase restarts }
+        ensures { result ≡ session_after_action self.entry phase restarts }
     {
         let actions = self.actions.saturating_sub(1);
         Session {
@@ -76,9 +76,9 @@ impl<'f> Session<'f> {
         }
     }
 
-    /// The work that goes on after a restart.
+    /// Returns the phase in which the session goes on after a restart at `at`.
     fn resumed(self, at: Standing) -> Phase
-        ensures { result ≡ resumed self.entry.plan at.work at.place at.step }
+        ensures { result ≡ phase_resumed self.entry.plan at.work at.place at.step }
     {
         match at.step {
             Step::Poll(_) | Step::PollWait(_) => {
@@ -89,9 +89,9 @@ impl<'f> Session<'f> {
         }
     }
 
-    /// After a restart that may be one too many.
+    /// Returns the session after a restart at `at`; over as RestartsSpent if no restart is left.
     fn restarted_once(self, at: Standing) -> Session<'f>
-        ensures { result ≡ dfuse_restarted self.entry (resumed self.entry.plan at.work at.place at.step) self.entry.restarts }
+        ensures { result ≡ session_with_restart_taken self.entry (phase_resumed self.entry.plan at.work at.place at.step) self.entry.restarts }
     {
         if self.restarts == 0 {
             return self.spent(Phase::Over(Report::RestartsSpent), 0);
@@ -100,7 +100,7 @@ impl<'f> Session<'f> {
         self.spent(phase, self.restarts - 1)
     }
 
-    /// After a restart once all was compared.
+    /// Returns the session after a restart at `at`, once all was compared.
     fn restarted_leaving(self, at: Standing) -> Session<'f>
         requires { at.work ≡ Work.Leave }
         ensures { result ≡ restarted_leaving self.entry at.place at.step }
@@ -116,9 +116,9 @@ impl<'f> Session<'f> {
         }
     }
 
-    /// After a restart of the device.
+    /// Returns the session after a restart of the device at `at`.
     fn restarted(self, at: Standing) -> Session<'f>
-        ensures { result ≡ restarted_in self.entry at.work at.place at.step }
+        ensures { result ≡ session_after_restart self.entry at.work at.place at.step }
     {
         match at.work {
             Work::Leave => self.restarted_leaving(at),
@@ -126,9 +126,9 @@ impl<'f> Session<'f> {
         }
     }
 
-    /// After something was heard.
+    /// Returns the session after `heard` at `at`.
     fn after(self, at: Standing, heard: Heard) -> Session<'f>
-        ensures { result ≡ dfuse_step_after self.entry at.work at.place at.step heard }
+        ensures { result ≡ session_after_step_heard self.entry at.work at.place at.step heard }
     {
         match heard {
             Heard::Restarted => self.restarted(at),
@@ -139,13 +139,14 @@ impl<'f> Session<'f> {
         }
     }
 
-    /// A session that is to write an image, and to read it back. Its front is written last: before that no image starts that is partly old.
+    /// Begins a session that is to write an image, and to read it back. The front is written last, so that no image starts that is partly
+    /// old.
     ///
     /// # Errors
     ///
     /// The first fault of the plan, in the order of [`PlanFault`].
     pub fn begin(plan: Plan<'f>, limits: Limits) -> Result<Session<'f>, PlanFault>
-        ensures begun { IfOk result (λ s. s ≡ initial_dfuse plan.entry limits) }
+        ensures begun { IfOk result (λ s. s ≡ initial_dfuse_session plan.entry limits) }
         ensures sound { OnOk result (IsSoundPlan plan.entry) }
         ensures fault { IfErr result (FirstPlanFault plan.entry) }
     {
@@ -162,15 +163,15 @@ impl<'f> Session<'f> {
         }
     }
 
-    /// Returns the action that the session wants next. It changes nothing, so it may be asked again.
+    /// Returns the next action. Nothing changes, so that a caller may ask again.
     pub fn next(&self) -> Action<'f>
         ensures { DfuseAct self.now result }
     {
         self.plan.action(self.phase)
     }
 
-    /// Gives the session what came of its action. Whatever came, it is over after at most `actions` calls, or after one if the limits
-    /// have 0. Then nothing changes any more.
+    /// Gives the session the result of its action. Whatever came, the session is over after at most `actions` calls, or after one if the
+    /// limits have 0. From then on nothing changes.
     pub fn take(&mut self, seen: Seen<'_>)
         ensures row { SessionRow self.old seen.entry self.new }
         ensures plan { self.new.plan ≡ self.old.plan }

@@ -1,7 +1,7 @@
-//! The order of work: what is done next, once the device is ready for a command.
+//! Order of works: the next one once the device is ready for a command.
 
 ghost use Rattle.std.specs.Prelude.{◌≡◌};
-ghost use Rattle.dfuse_host.specs.Settling.{if_before, byte_in, can_read, comparing, sending, settle, staying, leaving_by, to_leave, to_compare_front, to_write_front, to_compare, to_write, to_erase};
+ghost use Rattle.dfuse_host.specs.Settling.{address_if_before, byte_in, can_read, comparing_step, sending_step, settled_phase, phase_when_compared, phase_to_set_start, to_leave, to_compare_front, to_write_front, to_compare, to_write, to_erase};
 
 use crate::image::{element_at, image_end, image_start, next_byte};
 use crate::phase::{Phase, Standing};
@@ -11,16 +11,16 @@ use crate::report::{Leaving, Report};
 use crate::step::Step;
 use crate::work::Work;
 
-/// A session that goes on like this.
+/// Returns the phase that goes on with `work`, `place` and `step`.
 pub(crate) fn stand(work: Work, place: Place, step: Step) -> Phase
     ensures { result ≡ Phase.On (record { work = work; place = place; step = step }) }
 {
     Phase::On(Standing { work, place, step })
 }
 
-/// The step that leads to a command.
+/// Returns the step that leads to a command from `place`.
 fn sending(place: Place) -> Step
-    ensures { result ≡ sending place }
+    ensures { result ≡ sending_step place }
 {
     match place {
         Place::Lost | Place::At(_) => Step::Send,
@@ -29,7 +29,7 @@ fn sending(place: Place) -> Step
 }
 
 impl Plan<'_> {
-    /// The first byte of the image from an address to before another.
+    /// Returns the address of the first byte of the image from `at` to before `end`; None if there is none.
     #[tactic(auto, using(std::proofs::lemmas::Bool::Decides::nat_tests), unfolding(crate::specs::Settling::byte_in))]
     fn byte_in(&self, at: u64, end: u64) -> Option<u64>
         ensures { result ≡ byte_in self.now at end }
@@ -40,7 +40,7 @@ impl Plan<'_> {
         }
     }
 
-    /// Returns whether the bytes of an address can be asked for from the address to which the pointer was set.
+    /// Returns true if the bytes from `at` on can be asked for, from `base`, the address to which the pointer was set.
     #[tactic(auto, using(std::proofs::lemmas::Bool::Decides::nat_tests), unfolding(crate::specs::Settling::can_read))]
     fn can_read(&self, base: u64, at: u64) -> bool
         ensures { result ≡ can_read self.now base at }
@@ -59,10 +59,10 @@ impl Plan<'_> {
         }
     }
 
-    /// The step that leads to bytes that are read back.
+    /// Returns the step from `place` that leads to reading back the bytes at `at`.
     #[tactic(auto, using(std::proofs::lemmas::Bool::Decides::nat_tests))]
     fn comparing(&self, at: u64, place: Place) -> Step
-        ensures { result ≡ comparing self.now at place }
+        ensures { result ≡ comparing_step self.now at place }
     {
         match place {
             Place::Lost => Step::Send,
@@ -73,7 +73,7 @@ impl Plan<'_> {
         }
     }
 
-    /// At the end: all was compared.
+    /// Returns the phase at the end, when all was compared.
     #[tactic(auto, using(std::proofs::lemmas::Bool::Decides::nat_tests), unfolding(crate::specs::Settling::to_leave))]
     fn to_leave(&self, place: Place) -> Phase
         ensures { result ≡ to_leave self.now place }
@@ -90,7 +90,7 @@ impl Plan<'_> {
         }
     }
 
-    /// The front is compared from an address on.
+    /// Returns the phase that compares the front from `at` on.
     #[tactic(auto, unfolding(crate::specs::Settling::to_compare_front))]
     fn to_compare_front(&self, place: Place, at: u64) -> Phase
         ensures { result ≡ to_compare_front self.now place at }
@@ -101,7 +101,7 @@ impl Plan<'_> {
         }
     }
 
-    /// The front is written from an address on.
+    /// Returns the phase that writes the front from `at` on.
     #[tactic(auto, unfolding(crate::specs::Settling::to_write_front))]
     pub(crate) fn to_write_front(&self, place: Place, at: u64) -> Phase
         ensures { result ≡ to_write_front self.now place at }
@@ -112,7 +112,7 @@ impl Plan<'_> {
         }
     }
 
-    /// All but the front is compared from an address on.
+    /// Returns the phase that compares all but the front from `at` on.
     #[tactic(auto, unfolding(crate::specs::Settling::to_compare))]
     fn to_compare(&self, place: Place, at: u64) -> Phase
         ensures { result ≡ to_compare self.now place at }
@@ -123,7 +123,7 @@ impl Plan<'_> {
         }
     }
 
-    /// The image is written from an address on.
+    /// Returns the phase that writes the image from `at` to before `end`.
     #[tactic(auto, unfolding(crate::specs::Settling::to_write))]
     pub(crate) fn to_write(&self, place: Place, at: u64, end: u64) -> Phase
         ensures { result ≡ to_write self.now place at end }
@@ -134,7 +134,7 @@ impl Plan<'_> {
         }
     }
 
-    /// Pages are erased from an address on.
+    /// Returns the phase that erases pages from `at` on.
     #[tactic(auto, unfolding(crate::specs::Settling::to_erase))]
     pub(crate) fn to_erase(&self, place: Place, at: u64) -> Phase
         ensures { result ≡ to_erase self.now place at }
@@ -145,10 +145,10 @@ impl Plan<'_> {
         }
     }
 
-    /// The device is ready for a command: what is worked at goes on.
-    #[tactic(auto, unfolding(crate::specs::Settling::settle))]
+    /// Returns the phase of `work` once the device is ready for a command.
+    #[tactic(auto, unfolding(crate::specs::Settling::settled_phase))]
     pub(crate) fn settle(&self, work: Work, place: Place) -> Phase
-        ensures { result ≡ settle self.now work place }
+        ensures { result ≡ settled_phase self.now work place }
     {
         match work {
             Work::Erase { at } => self.to_erase(place, at),

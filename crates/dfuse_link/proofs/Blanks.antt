@@ -1,4 +1,4 @@
--- A blank byte stays blank, unless bytes are written there.
+-- A blank byte stays blank, unless bytes are written at its address.
 use Rattle.std.proofs.Common.{◌≡◌, ℕ, ◌⊎◌, inl, inr, true, List, Option, sym, subst}
 use Rattle.dfu_wire.specs.declared.states.State.{State}
 use Rattle.dfu_wire.specs.declared.states.State.TheVariants as state
@@ -11,153 +11,194 @@ use Rattle.dfuse_host.specs.declared.place.Place.{Place}
 use Rattle.dfuse_host.specs.declared.step.Step.{Step}
 use Rattle.dfuse_host.specs.declared.seen.Seen.{Seen}
 use Rattle.dfuse_host.specs.declared.session.Session.{Session}
-use Rattle.dfuse_host.specs.Deeds.{DfuseDeed, Send, Wait, Done, dfuse_deed, deed_of}
-use Rattle.dfuse_link.specs.Chips.{Chip, Order, Erases, Doing, Rests, Pending, Busy, Device, ChangedBy, Advances, goes_on, ends, fails}
-use Rattle.dfuse_link.specs.Reactions.{Reaction, order_of, set_off, doing_after_status, Reacts, stalls, takes, closes, gives, lists, tells, shows, aborts, clears}
-use Rattle.dfuse_link.specs.Histories.{Arrives, never, again, UnderWay, none, request, sent, waited, restarted}
-use Rattle.dfuse_link.proofs.Changes.{MayChange, changed_stays, behind_stall, off_keeps, told_keeps}
-use Rattle.dfuse_link.proofs.Claims.{IsQuiet, Stands, StandsIn}
-use Rattle.dfuse_link.proofs.SentClaims.{ArrivesBy}
-use Rattle.dfuse_link.proofs.Staying.{InPhase}
-use Rattle.dfuse_link.proofs.Pairs.{Paired, Turned}
+use Rattle.dfuse_host.specs.Deeds.{DfuseDeed, Send, Wait, Done, dfuse_deed, deed_of_step}
+use Rattle.dfuse_link.specs.Chips.{Chip, Order, ErasesPage, DeviceWork, RestsInState, Pending, CarriesOut, Device, ChangedBy, DeviceAdvances, goes_on, ends, fails}
+use Rattle.dfuse_link.specs.Reactions.{Reaction, order_of, work_with_order_started, work_after_status, Reacts, stalls, takes, closes, gives, gives_other_bytes, tells, shows, aborts, clears_error}
+use Rattle.dfuse_link.specs.Histories.{RequestArrives, never, again, RequestUnderWay, none, request, sent, waited, restarted}
+use Rattle.dfuse_link.proofs.Changes.{OrderMayChange, byte_stays_if_safe, fact_after_stall, started_order_keeps_fact, told_status_keeps_fact}
+use Rattle.dfuse_link.proofs.Claims.{IsQuiet, DeviceFitsStep, DeviceFitsPhase}
+use Rattle.dfuse_link.proofs.SentClaims.{DeedArrives}
+use Rattle.dfuse_link.proofs.Staying.{HoldsInPhase}
+use Rattle.dfuse_link.proofs.Pairs.{DeviceAndSession, IsTurnOfBoth}
 
--- An order writes nothing at an address: it erases, or may not change the byte.
-abbrev pub Spares : Chip → (a : ℕ) → Order → Type 0
-Spares chip a (Erases at) = Unit {0}
-Spares chip a order = MayChange chip order a → ⊥
+-- The order writes nothing at the address `a`: it erases, or may not change the byte.
+abbrev pub OrderWritesNothingAt : Chip → (a : ℕ) → Order → Type 0
+OrderWritesNothingAt chip a (ErasesPage at) = Unit {0}
+OrderWritesNothingAt chip a order = OrderMayChange chip order a → ⊥
 
--- The work of a device writes nothing there.
-abbrev pub SparesIn : Chip → (a : ℕ) → Doing → Type 0
-SparesIn chip a (Rests s) = Unit {0}
-SparesIn chip a (Pending order) = Spares chip a order
-SparesIn chip a (Busy order) = Spares chip a order
+-- The work of a device writes nothing at the address `a`.
+abbrev pub WorkWritesNothingAt : Chip → (a : ℕ) → DeviceWork → Type 0
+WorkWritesNothingAt chip a (RestsInState s) = Unit {0}
+WorkWritesNothingAt chip a (Pending order) = OrderWritesNothingAt chip a order
+WorkWritesNothingAt chip a (CarriesOut order) = OrderWritesNothingAt chip a order
 
--- A request brings no order to write there.
-abbrev pub BringsSparing : Chip → (a : ℕ) → Request → List ℕ → (pointer : ℕ) → Type 0
-BringsSparing chip a (request.Dnload block n) body pointer = Spares chip a (order_of chip pointer block body)
-BringsSparing chip a q body pointer = Unit {0}
+-- The request brings no order that writes at the address `a`.
+abbrev pub RequestWritesNothingAt : Chip → (a : ℕ) → Request → List ℕ → (pointer : ℕ) → Type 0
+RequestWritesNothingAt chip a (request.Dnload block n) body pointer = OrderWritesNothingAt chip a (order_of chip pointer block body)
+RequestWritesNothingAt chip a q body pointer = Unit {0}
 
--- The byte is blank, and stays so.
-pub record IsBlankAt (chip : Chip) (a : ℕ) (d : Device) : Type 0 where
+-- The byte at `a` is blank, and the work of the device writes nothing there.
+pub record StaysBlankAt (chip : Chip) (a : ℕ) (d : Device) : Type 0 where
   pub blank : chip.blank (d.memory a) ≡ true
-  pub spares : SparesIn chip a d.doing
+  pub work_writes_nothing : WorkWritesNothingAt chip a d.device_work
 
-pub quiet_spares : (chip : Chip) (a : ℕ) (doing : Doing) → IsQuiet doing → SparesIn chip a doing
-quiet_spares chip a (Rests s) quiet = tt
-quiet_spares chip a (Pending order) quiet = absurd quiet
-quiet_spares chip a (Busy order) quiet = absurd quiet
+pub quiet_work_writes_nothing : (chip : Chip) (a : ℕ) (device_work : DeviceWork) → IsQuiet device_work →
+    WorkWritesNothingAt chip a device_work
+quiet_work_writes_nothing chip a (RestsInState s) quiet = tt
+quiet_work_writes_nothing chip a (Pending order) quiet = absurd quiet
+quiet_work_writes_nothing chip a (CarriesOut order) quiet = absurd quiet
 
 module _ (chip : Chip) (a : ℕ) where
-  still : (memory memory' : ℕ → ℕ) → memory' a ≡ memory a → chip.blank (memory a) ≡ true → chip.blank (memory' a) ≡ true
-  still memory memory' e h = subst (λ (n : ℕ). chip.blank n ≡ true) (sym e) h
+  unchanged_blank_stays_blank : (memory memory' : ℕ → ℕ) → memory' a ≡ memory a → chip.blank (memory a) ≡ true → chip.blank (memory' a)
+      ≡ true
+  unchanged_blank_stays_blank memory memory' e h = subst (λ (n : ℕ). chip.blank n ≡ true) (sym e) h
 
-  changed_blank : (doing : Doing) (memory memory' : ℕ → ℕ) → SparesIn chip a doing → ChangedBy chip doing memory memory' →
+  changed_byte_stays_blank : (device_work : DeviceWork) (memory memory' : ℕ → ℕ) → WorkWritesNothingAt chip a device_work →
+      ChangedBy chip device_work memory memory' →
       chip.blank (memory a) ≡ true → chip.blank (memory' a) ≡ true
-  changed_blank (Rests s) memory memory' k changed h = still memory memory' (changed a) h
-  changed_blank (Pending order) memory memory' k changed h = still memory memory' (changed a) h
-  changed_blank (Busy (Erases at)) memory memory' k changed h = (changed a).1 h
-  changed_blank (Busy order) memory memory' k changed h =
-      still memory memory' (changed_stays chip a (Busy order) memory memory' changed k) h
+  changed_byte_stays_blank (RestsInState s) memory memory' k changed h = unchanged_blank_stays_blank memory memory' (changed a) h
+  changed_byte_stays_blank (Pending order) memory memory' k changed h = unchanged_blank_stays_blank memory memory' (changed a) h
+  changed_byte_stays_blank (CarriesOut (ErasesPage at)) memory memory' k changed h = (changed a).1 h
+  changed_byte_stays_blank (CarriesOut order) memory memory' k changed h =
+      unchanged_blank_stays_blank memory memory' (byte_stays_if_safe chip a (CarriesOut order) memory memory' changed k) h
 
-  order_spares : (doing : Doing) (order : Order) → doing ≡ Busy order → SparesIn chip a doing → Spares chip a order
-  order_spares doing order e s = subst (SparesIn chip a) e s
+  busy_order_writes_nothing : (device_work : DeviceWork) (order : Order) → device_work ≡ CarriesOut order →
+      WorkWritesNothingAt chip a device_work → OrderWritesNothingAt chip a order
+  busy_order_writes_nothing device_work order e s = subst (WorkWritesNothingAt chip a) e s
 
-  pub advances_blank : (d d' : Device) → Advances chip d d' → IsBlankAt chip a d → IsBlankAt chip a d'
-  advances_blank d d' (goes_on order e e' changed) k = record {
-    blank = changed_blank (Busy order) d.memory d'.memory (order_spares d.doing order e k.spares) changed k.blank;
-    spares = subst (SparesIn chip a) (sym e') (order_spares d.doing order e k.spares);
+  pub blank_as_device_advances : (d d' : Device) → DeviceAdvances chip d d' → StaysBlankAt chip a d → StaysBlankAt chip a d'
+  blank_as_device_advances d d' (goes_on order e e' changed) k = record {
+    blank = changed_byte_stays_blank (CarriesOut order) d.memory d'.memory (busy_order_writes_nothing d.device_work order e
+        k.work_writes_nothing) changed k.blank;
+    work_writes_nothing = subst (WorkWritesNothingAt chip a) (sym e') (busy_order_writes_nothing d.device_work order e
+        k.work_writes_nothing);
   }
-  advances_blank d d' (ends order s e e' end changed out) k = record {
-    blank = changed_blank (Busy order) d.memory d'.memory (order_spares d.doing order e k.spares) changed k.blank;
-    spares = subst (SparesIn chip a) (sym e') tt;
+  blank_as_device_advances d d' (ends order s e e' end changed out) k = record {
+    blank = changed_byte_stays_blank (CarriesOut order) d.memory d'.memory (busy_order_writes_nothing d.device_work order e
+        k.work_writes_nothing) changed k.blank;
+    work_writes_nothing = subst (WorkWritesNothingAt chip a) (sym e') tt;
   }
-  advances_blank d d' (fails order e e' changed) k = record {
-    blank = changed_blank (Busy order) d.memory d'.memory (order_spares d.doing order e k.spares) changed k.blank;
-    spares = subst (SparesIn chip a) (sym e') tt;
+  blank_as_device_advances d d' (fails order e e' changed) k = record {
+    blank = changed_byte_stays_blank (CarriesOut order) d.memory d'.memory (busy_order_writes_nothing d.device_work order e
+        k.work_writes_nothing) changed k.blank;
+    work_writes_nothing = subst (WorkWritesNothingAt chip a) (sym e') tt;
   }
 
-  -- A device restarts.
-  pub restarts_blank : (d d' : Device) (s : State) → d'.doing ≡ Rests s → ChangedBy chip d.doing d.memory d'.memory →
-      IsBlankAt chip a d → IsBlankAt chip a d'
-  restarts_blank d d' s rests changed k = record {
-    blank = changed_blank d.doing d.memory d'.memory k.spares changed k.blank;
-    spares = subst (SparesIn chip a) (sym rests) tt;
+  -- A restart of the device leaves a blank byte blank.
+  pub blank_after_restart : (d d' : Device) (s : State) → d'.device_work ≡ RestsInState s →
+      ChangedBy chip d.device_work d.memory d'.memory →
+      StaysBlankAt chip a d → StaysBlankAt chip a d'
+  blank_after_restart d d' s rests changed k = record {
+    blank = changed_byte_stays_blank d.device_work d.memory d'.memory k.work_writes_nothing changed k.blank;
+    work_writes_nothing = subst (WorkWritesNothingAt chip a) (sym rests) tt;
   }
 
   -- ---- requests
 
-  off_spares : (doing : Doing) → SparesIn chip a doing → SparesIn chip a (set_off doing)
-  off_spares doing k = off_keeps (SparesIn chip a) (λ order h. h) doing k
+  started_order_writes_nothing : (device_work : DeviceWork) → WorkWritesNothingAt chip a device_work →
+      WorkWritesNothingAt chip a (work_with_order_started device_work)
+  started_order_writes_nothing device_work k = started_order_keeps_fact (WorkWritesNothingAt chip a) (λ order h. h) device_work k
 
-  told_spares : (doing : Doing) → SparesIn chip a doing → SparesIn chip a (doing_after_status doing)
-  told_spares doing k = told_keeps (SparesIn chip a) (λ s t h. h) doing k
+  work_after_status_writes_nothing : (device_work : DeviceWork) → WorkWritesNothingAt chip a device_work →
+      WorkWritesNothingAt chip a (work_after_status device_work)
+  work_after_status_writes_nothing device_work k = told_status_keeps_fact (WorkWritesNothingAt chip a) (λ s t h. h) device_work k
 
-  mid_blank : (d mid : Device) → (mid ≡ record d { doing = set_off d.doing }) ⊎ Advances chip (record d { doing = set_off d.doing }) mid →
-      IsBlankAt chip a d → IsBlankAt chip a mid
-  mid_blank d mid (inl e) k =
-      subst (λ (x : Device). IsBlankAt chip a x) (sym e) (record { blank = k.blank; spares = off_spares d.doing k.spares })
-  mid_blank d mid (inr w) k =
-      advances_blank (record d { doing = set_off d.doing }) mid w (record { blank = k.blank; spares = off_spares d.doing k.spares })
+  blank_at_status : (d mid : Device) → (mid ≡ record d { device_work = work_with_order_started d.device_work })
+      ⊎ DeviceAdvances chip (record d { device_work = work_with_order_started d.device_work }) mid →
+      StaysBlankAt chip a d → StaysBlankAt chip a mid
+  blank_at_status d mid (inl e) k =
+      subst (λ (x : Device). StaysBlankAt chip a x) (sym e) (record {
+        blank = k.blank;
+        work_writes_nothing = started_order_writes_nothing
+            d.device_work k.work_writes_nothing;
+      })
+  blank_at_status d mid (inr w) k =
+      blank_as_device_advances (record d { device_work = work_with_order_started d.device_work }) mid w (record {
+        blank = k.blank;
+        work_writes_nothing = started_order_writes_nothing d.device_work k.work_writes_nothing;
+      })
 
-  reacts_blank : (d : Device) (q : Request) (body : List ℕ) (r : Reaction) (d' : Device) → Reacts chip d q body r d' →
-      BringsSparing chip a q body d.pointer → IsBlankAt chip a d → IsBlankAt chip a d' × BringsSparing chip a q body d'.pointer
-  reacts_blank d _ _ _ _ (stalls q body doing may is) new k = (
-    behind_stall (λ (t : Doing). IsBlankAt chip a (record d { doing = t })) d.doing doing is k (record { blank = k.blank; spares = tt }),
+  blank_after_reaction : (d : Device) (q : Request) (body : List ℕ) (r : Reaction) (d' : Device) → Reacts chip d q body r d' →
+      RequestWritesNothingAt chip a q body d.pointer → StaysBlankAt chip a d → StaysBlankAt chip a d'
+      × RequestWritesNothingAt chip a q body d'.pointer
+  blank_after_reaction d _ _ _ _ (stalls q body device_work may is) new k = (
+    fact_after_stall (λ (t : DeviceWork). StaysBlankAt chip a (record d { device_work = t })) d.device_work device_work is k
+        (record { blank = k.blank; work_writes_nothing = tt }),
     new,
   )
-  reacts_blank d _ _ _ _ (takes block n body may some) new k = (record { blank = k.blank; spares = new }, new)
-  reacts_blank d _ _ _ _ (closes block n may) new k = (record { blank = k.blank; spares = tt }, new)
-  reacts_blank d _ _ _ _ (gives block n body bytes s may from most stands is) new k = (record { blank = k.blank; spares = tt }, tt)
-  reacts_blank d _ _ _ _ (lists block n body bytes may low) new k = (record { blank = k.blank; spares = tt }, tt)
-  reacts_blank d _ _ _ _ (tells n body bytes status mid way is same) new k =
-      let m = mid_blank d mid way k in
-      (record { blank = m.blank; spares = told_spares mid.doing m.spares }, tt)
-  reacts_blank d _ _ _ _ (shows n body) new k = (k, new)
-  reacts_blank d _ _ _ _ (aborts body may) new k = (record { blank = k.blank; spares = tt }, new)
-  reacts_blank d _ _ _ _ (clears body e) new k = (record { blank = k.blank; spares = tt }, new)
+  blank_after_reaction d _ _ _ _ (takes block n body may some) new k = (record { blank = k.blank; work_writes_nothing = new }, new)
+  blank_after_reaction d _ _ _ _ (closes block n may) new k = (record { blank = k.blank; work_writes_nothing = tt }, new)
+  blank_after_reaction d _ _ _ _ (gives block n body bytes s may from most stands is) new k = (
+    record {
+      blank = k.blank;
+      work_writes_nothing = tt;
+    },
+    tt,
+  )
+  blank_after_reaction d _ _ _ _ (gives_other_bytes block n body bytes may low) new k = (
+    record {
+      blank = k.blank;
+      work_writes_nothing = tt;
+    },
+    tt,
+  )
+  blank_after_reaction d _ _ _ _ (tells n body bytes status mid way is same) new k =
+      let m = blank_at_status d mid way k in
+      (record { blank = m.blank; work_writes_nothing = work_after_status_writes_nothing mid.device_work m.work_writes_nothing }, tt)
+  blank_after_reaction d _ _ _ _ (shows n body) new k = (k, new)
+  blank_after_reaction d _ _ _ _ (aborts body may) new k = (record { blank = k.blank; work_writes_nothing = tt }, new)
+  blank_after_reaction d _ _ _ _ (clears_error body e) new k = (record { blank = k.blank; work_writes_nothing = tt }, new)
 
-  arrives_both : (q : Request) (body : List ℕ) (d : Device) (r : Option Reaction) (d' : Device) → Arrives chip q body d r d' →
-      BringsSparing chip a q body d.pointer → IsBlankAt chip a d → IsBlankAt chip a d' × BringsSparing chip a q body d'.pointer
-  arrives_both q body d _ _ never new k = (k, new)
-  arrives_both q body d _ d' (again {before = before} {mid = mid} {reaction = reaction} first last) new k =
-      let m = arrives_both q body d before mid first new k in
-      reacts_blank mid q body reaction d' last m.1 m.0
+  arriving_request_keeps_blank : (q : Request) (body : List ℕ) (d : Device) (r : Option Reaction) (d' : Device) →
+      RequestArrives chip q body d r d' →
+      RequestWritesNothingAt chip a q body d.pointer → StaysBlankAt chip a d → StaysBlankAt chip a d'
+      × RequestWritesNothingAt chip a q body d'.pointer
+  arriving_request_keeps_blank q body d _ _ never new k = (k, new)
+  arriving_request_keeps_blank q body d _ d' (again {before = before} {mid = mid} {reaction = reaction} first last) new k =
+      let m = arriving_request_keeps_blank q body d before mid first new k in
+      blank_after_reaction mid q body reaction d' last m.1 m.0
 
   -- ---- turns
 
-  abbrev pub DeedSpares : DfuseDeed → (pointer : ℕ) → Type 0
-  DeedSpares (Send q body) pointer = BringsSparing chip a q body pointer
-  DeedSpares (Wait ms) pointer = Unit {0}
-  DeedSpares (Done report) pointer = Unit {0}
+  abbrev pub DeedWritesNothingAt : DfuseDeed → (pointer : ℕ) → Type 0
+  DeedWritesNothingAt (Send q body) pointer = RequestWritesNothingAt chip a q body pointer
+  DeedWritesNothingAt (Wait ms) pointer = Unit {0}
+  DeedWritesNothingAt (Done report) pointer = Unit {0}
 
-  by_deed : (x : DfuseDeed) (d : Device) (r : Option Reaction) (d' : Device) → ArrivesBy chip x d r d' → DeedSpares x d.pointer →
-      IsBlankAt chip a d → IsBlankAt chip a d'
-  by_deed (Send q body) d r d' comes new k = (arrives_both q body d r d' comes new k).0
-  by_deed (Wait ms) d r d' comes new k = absurd comes
-  by_deed (Done report) d r d' comes new k = absurd comes
+  deed_keeps_blank : (x : DfuseDeed) (d : Device) (r : Option Reaction) (d' : Device) → DeedArrives chip x d r d' →
+      DeedWritesNothingAt x d.pointer →
+      StaysBlankAt chip a d → StaysBlankAt chip a d'
+  deed_keeps_blank (Send q body) d r d' comes new k = (arriving_request_keeps_blank q body d r d' comes new k).0
+  deed_keeps_blank (Wait ms) d r d' comes new k = absurd comes
+  deed_keeps_blank (Done report) d r d' comes new k = absurd comes
 
-  module _ (s : Session) (Q : Work → Type 0) (spares : (w : Work) (p : Place) (at : Step) (d : Device) → Q w →
-      Stands chip s.plan w p at d → DeedSpares (deed_of s.plan w p at) d.pointer) where
-    phase_blank : (p : Phase) (d : Device) (r : Option Reaction) (d' : Device) → InPhase Q p → StandsIn chip s.plan p d →
-        ArrivesBy chip (dfuse_deed s.plan p) d r d' → IsBlankAt chip a d → IsBlankAt chip a d'
-    phase_blank (On at) d r d' q k comes h =
-        by_deed (deed_of s.plan at.work at.place at.step) d r d' comes (spares at.work at.place at.step d q k) h
-    phase_blank (Over rep) d r d' q k comes h = absurd comes
+  module _ (s : Session) (Q : Work → Type 0) (work_writes_nothing : (w : Work) (p : Place) (at : Step) (d : Device) → Q w →
+      DeviceFitsStep chip s.plan w p at d → DeedWritesNothingAt (deed_of_step s.plan w p at) d.pointer) where
+    blank_after_phase_request : (p : Phase) (d : Device) (r : Option Reaction) (d' : Device) → HoldsInPhase Q p →
+        DeviceFitsPhase chip s.plan p d →
+        DeedArrives chip (dfuse_deed s.plan p) d r d' → StaysBlankAt chip a d → StaysBlankAt chip a d'
+    blank_after_phase_request (On at) d r d' q k comes h =
+        deed_keeps_blank (deed_of_step s.plan at.work at.place at.step) d r d' comes (work_writes_nothing at.work at.place at.step d q k) h
+    blank_after_phase_request (Over rep) d r d' q k comes h = absurd comes
 
-    under_way : (d mid : Device) → UnderWay chip s d mid → InPhase Q s.phase → StandsIn chip s.plan s.phase d → IsBlankAt chip a d →
-        IsBlankAt chip a mid
-    under_way d _ none q k h = h
-    under_way d mid (request {reaction = reaction} asked body is comes) q k h =
-        phase_blank s.phase d reaction mid q k (subst (λ (x : DfuseDeed). ArrivesBy chip x d reaction mid) (sym is) comes) h
+    blank_while_request_under_way : (d mid : Device) → RequestUnderWay chip s d mid → HoldsInPhase Q s.phase →
+        DeviceFitsPhase chip s.plan s.phase d → StaysBlankAt chip a d →
+        StaysBlankAt chip a mid
+    blank_while_request_under_way d _ none q k h = h
+    blank_while_request_under_way d mid (request {reaction = reaction} asked body is comes) q k h =
+        blank_after_phase_request s.phase d reaction mid q k (subst (λ (x : DfuseDeed). DeedArrives chip x d reaction mid) (sym is) comes) h
 
   -- A blank byte stays blank in a turn.
-  pub turn_blank : (Q : Work → Type 0) (l l' : Paired) → ((w : Work) (p : Place) (at : Step) (d : Device) → Q w →
-      Stands chip l.session.plan w p at d → DeedSpares (deed_of l.session.plan w p at) d.pointer) → (x : Seen) → Turned chip l x l' →
-      InPhase Q l.session.phase → StandsIn chip l.session.plan l.session.phase l.device → IsBlankAt chip a l.device →
-      IsBlankAt chip a l'.device
-  turn_blank Q l l' spares x (sent asked body reaction is comes seen row) q k h =
-      phase_blank l.session Q spares l.session.phase l.device reaction l'.device q k
-      (subst (λ (y : DfuseDeed). ArrivesBy chip y l.device reaction l'.device) (sym is) comes) h
-  turn_blank Q l l' spares x (waited ms is same seen row) q k h = subst (λ (d : Device). IsBlankAt chip a d) (sym same) h
-  turn_blank Q l l' spares x (restarted mid any way rests changed seen row) q k h =
-      restarts_blank mid l'.device any rests changed (under_way l.session Q spares l.device mid way q k h)
+  pub blank_after_turn : (Q : Work → Type 0) (l l' : DeviceAndSession) → ((w : Work) (p : Place) (at : Step) (d : Device) → Q w →
+      DeviceFitsStep chip l.session.plan w p at d → DeedWritesNothingAt (deed_of_step l.session.plan w p at) d.pointer) → (x : Seen) →
+      IsTurnOfBoth chip l x l' →
+      HoldsInPhase Q l.session.phase → DeviceFitsPhase chip l.session.plan l.session.phase l.device → StaysBlankAt chip a l.device →
+      StaysBlankAt chip a l'.device
+  blank_after_turn Q l l' work_writes_nothing x (sent asked body reaction is comes seen row) q k h =
+      blank_after_phase_request l.session Q work_writes_nothing l.session.phase l.device reaction l'.device q k
+      (subst (λ (y : DfuseDeed). DeedArrives chip y l.device reaction l'.device) (sym is) comes) h
+  blank_after_turn Q l l' work_writes_nothing x (waited ms is same seen row) q k h = subst (λ (d : Device). StaysBlankAt chip a d) (sym
+      same) h
+  blank_after_turn Q l l' work_writes_nothing x (restarted mid any way rests changed seen row) q k h =
+      blank_after_restart mid l'.device any rests changed (blank_while_request_under_way l.session Q work_writes_nothing l.device mid way q
+      k h)

@@ -10,75 +10,76 @@ use Rattle.dfuse_host.specs.declared.place.Place.{Place}
 use Rattle.dfuse_host.specs.declared.place.Place.TheVariants as place
 use Rattle.dfuse_host.specs.declared.step.Step.{Step}
 use Rattle.dfuse_host.specs.declared.step.Step.TheVariants as step
-use Rattle.dfuse_host.proofs.ForCallers.{AnyCommand, by_command, AnyHeard, by_heard}
+use Rattle.dfuse_host.proofs.ForCallers.{AnyCommand, fact_of_each_command, AnyHeard, fact_of_each_heard}
 use Rattle.dfuse_host.specs.Settling.{can_read}
 use Rattle.dfuse_host.specs.Commands.{command_of}
 use Rattle.dfuse_host.specs.Deeds.{stands_at}
-use Rattle.dfuse_link.specs.Chips.{Chip, Order, Points, Erases, Doing, Rests, Pending, Busy, Device}
+use Rattle.dfuse_link.specs.Chips.{Chip, Order, SetsPointer, ErasesPage, DeviceWork, RestsInState, Pending, CarriesOut, Device}
 
--- A device has no order, and isn't in dfuDNLOAD-SYNC.
-abbrev pub IsQuiet : Doing → Type 0
-IsQuiet (Rests state.DownloadSync) = ⊥
-IsQuiet (Rests s) = Unit {0}
+-- The device has no order, and isn't in dfuDNLOAD-SYNC.
+abbrev pub IsQuiet : DeviceWork → Type 0
+IsQuiet (RestsInState state.DownloadSync) = ⊥
+IsQuiet (RestsInState s) = Unit {0}
 IsQuiet (Pending order) = ⊥
-IsQuiet (Busy order) = ⊥
+IsQuiet (CarriesOut order) = ⊥
 
--- The session's knowledge of the pointer is true.
-abbrev pub Knows : Place → (pointer : ℕ) → Type 0
-Knows place.Lost pointer = Unit {0}
-Knows (place.At p) pointer = pointer ≡ p % 2 ^ 32
-Knows (place.Reading p) pointer = pointer ≡ p % 2 ^ 32
+-- The pointer is where the session knows it to be.
+abbrev pub KnowsPointer : Place → (pointer : ℕ) → Type 0
+KnowsPointer place.Lost pointer = Unit {0}
+KnowsPointer (place.At p) pointer = pointer ≡ p % 2 ^ 32
+KnowsPointer (place.Reading p) pointer = pointer ≡ p % 2 ^ 32
 
--- An order that sets the pointer, or erases, is the command's.
-abbrev pub IsOrderOf : AnyCommand → Order → Type 0
-IsOrderOf c order =
-    by_command (λ _. Type 0) (λ at. order ≡ Points (at % 2 ^ 32)) (λ at. order ≡ Erases (at % 2 ^ 32)) (λ at. Unit {0}) c
+-- An order to set the pointer, or to erase, is the order of the command.
+abbrev pub IsOrderOfCommand : AnyCommand → Order → Type 0
+IsOrderOfCommand c order =
+    fact_of_each_command (λ _. Type 0) (λ at. order ≡ SetsPointer (at % 2 ^ 32)) (λ at. order ≡ ErasesPage (at % 2 ^ 32)) (λ at. Unit {0}) c
 
--- The bytes that an order to erase reaches are blank.
-abbrev pub IsBlanked : Chip → (at : ℕ) → (memory : ℕ → ℕ) → Type 0
-IsBlanked chip at memory = (a : ℕ) → chip.erases at a ≡ true → chip.blank (memory a) ≡ true
+-- Each byte that an erase at `at` reaches is blank.
+abbrev pub ErasedBytesBlank : Chip → (at : ℕ) → (memory : ℕ → ℕ) → Type 0
+ErasedBytesBlank chip at memory = (a : ℕ) → chip.erases at a ≡ true → chip.blank (memory a) ≡ true
 
 -- A command to set the pointer, or to erase, is done.
-abbrev pub IsDone : Chip → AnyCommand → (pointer : ℕ) → (memory : ℕ → ℕ) → Type 0
-IsDone chip c pointer memory =
-    by_command (λ _. Type 0) (λ at. pointer ≡ at % 2 ^ 32) (λ at. IsBlanked chip (at % 2 ^ 32) memory) (λ at. Unit {0}) c
+abbrev pub IsCommandDone : Chip → AnyCommand → (pointer : ℕ) → (memory : ℕ → ℕ) → Type 0
+IsCommandDone chip c pointer memory =
+    fact_of_each_command (λ _. Type 0) (λ at. pointer ≡ at % 2 ^ 32) (λ at. ErasedBytesBlank chip (at % 2 ^ 32) memory) (λ at. Unit {0}) c
 
--- A command has come to a device, or not.
-abbrev pub MayHave : AnyCommand → Doing → Type 0
-MayHave c (Rests s) = IsQuiet (Rests s)
-MayHave c (Pending order) = IsOrderOf c order
-MayHave c (Busy order) = ⊥
+-- The device may have the command or not: it is quiet, or the order isn't started.
+abbrev pub MayHaveCommand : AnyCommand → DeviceWork → Type 0
+MayHaveCommand c (RestsInState s) = IsQuiet (RestsInState s)
+MayHaveCommand c (Pending order) = IsOrderOfCommand c order
+MayHaveCommand c (CarriesOut order) = ⊥
 
--- A command has come to a device: it isn't started, or is carried out, or done, or failed.
-abbrev pub Has : Chip → AnyCommand → Doing → (pointer : ℕ) → (memory : ℕ → ℕ) → Type 0
-Has chip c (Rests state.Error) pointer memory = Unit {0}
-Has chip c (Rests s) pointer memory = IsDone chip c pointer memory
-Has chip c (Pending order) pointer memory = IsOrderOf c order
-Has chip c (Busy order) pointer memory = IsOrderOf c order
+-- The device has the command: its order isn't started, or is carried out, or done, or failed.
+abbrev pub HasCommand : Chip → AnyCommand → DeviceWork → (pointer : ℕ) → (memory : ℕ → ℕ) → Type 0
+HasCommand chip c (RestsInState state.Error) pointer memory = Unit {0}
+HasCommand chip c (RestsInState s) pointer memory = IsCommandDone chip c pointer memory
+HasCommand chip c (Pending order) pointer memory = IsOrderOfCommand c order
+HasCommand chip c (CarriesOut order) pointer memory = IsOrderOfCommand c order
 
 -- From where the pointer was set, the bytes of the work can be read.
-abbrev pub CanRead : Plan → Work → Place → Type 0
-CanRead plan w place.Lost = ⊥
-CanRead plan w (place.At p) = ⊥
-CanRead plan w (place.Reading base) = can_read plan base (stands_at w) ≡ true
+abbrev pub CanReadWork : Plan → Work → Place → Type 0
+CanReadWork plan w place.Lost = ⊥
+CanReadWork plan w (place.At p) = ⊥
+CanReadWork plan w (place.Reading base) = can_read plan base (stands_at w) ≡ true
 
--- The device has the order of the step, and its pointer is as the session knows it.
-abbrev pub Stands : Chip → Plan → Work → Place → Step → Device → Type 0
-Stands chip plan w p step.Send d = MayHave (command_of plan w p) d.doing × Knows p d.pointer
-Stands chip plan w p step.Probe d = MayHave (command_of plan w p) d.doing × Knows p d.pointer
-Stands chip plan w p (step.Poll last) d = Has chip (command_of plan w p) d.doing d.pointer d.memory
-Stands chip plan w p (step.PollWait ms) d = Has chip (command_of plan w p) d.doing d.pointer d.memory
-Stands chip plan w p step.BeginReading d = IsQuiet d.doing × Knows p d.pointer
-Stands chip plan w p step.EndReading d = IsQuiet d.doing × Knows p d.pointer
-Stands chip plan w p step.Read d = IsQuiet d.doing × Knows p d.pointer × CanRead plan w p
-Stands chip plan w p s d = Unit {0}
+-- At the step, the device has the order of the session's command, and its pointer is where the session knows it to be.
+abbrev pub DeviceFitsStep : Chip → Plan → Work → Place → Step → Device → Type 0
+DeviceFitsStep chip plan w p step.Send d = MayHaveCommand (command_of plan w p) d.device_work × KnowsPointer p d.pointer
+DeviceFitsStep chip plan w p step.Probe d = MayHaveCommand (command_of plan w p) d.device_work × KnowsPointer p d.pointer
+DeviceFitsStep chip plan w p (step.Poll last) d = HasCommand chip (command_of plan w p) d.device_work d.pointer d.memory
+DeviceFitsStep chip plan w p (step.PollWait ms) d = HasCommand chip (command_of plan w p) d.device_work d.pointer d.memory
+DeviceFitsStep chip plan w p step.BeginReading d = IsQuiet d.device_work × KnowsPointer p d.pointer
+DeviceFitsStep chip plan w p step.EndReading d = IsQuiet d.device_work × KnowsPointer p d.pointer
+DeviceFitsStep chip plan w p step.Read d = IsQuiet d.device_work × KnowsPointer p d.pointer × CanReadWork plan w p
+DeviceFitsStep chip plan w p s d = Unit {0}
 
--- The device stands so in a phase; once the session is over nothing is claimed.
-abbrev pub StandsIn : Chip → Plan → Phase → Device → Type 0
-StandsIn chip plan (On s) d = Stands chip plan s.work s.place s.step d
-StandsIn chip plan (Over r) d = Unit {0}
+-- In a phase, the device fits the step of the phase; of a session that is over nothing is claimed.
+abbrev pub DeviceFitsPhase : Chip → Plan → Phase → Device → Type 0
+DeviceFitsPhase chip plan (On s) d = DeviceFitsStep chip plan s.work s.place s.step d
+DeviceFitsPhase chip plan (Over r) d = Unit {0}
 
--- If a state is heard, or a status, it is this one, or of this state.
-abbrev pub SaysState : AnyHeard → State → Type 0
-SaysState h t =
-    by_heard (λ _. Type 0) (Unit {0}) (λ s. t ≡ s.state) (λ s. t ≡ s) (λ same. Unit {0}) (Unit {0}) (Unit {0}) (Unit {0}) (Unit {0}) h
+-- A state or a status that is heard says the state `t`.
+abbrev pub HeardSaysState : AnyHeard → State → Type 0
+HeardSaysState h t =
+    fact_of_each_heard (λ _. Type 0) (Unit {0}) (λ s. t ≡ s.state) (λ s. t
+    ≡ s) (λ same. Unit {0}) (Unit {0}) (Unit {0}) (Unit {0}) (Unit {0}) h

@@ -9,7 +9,7 @@ use Rattle.dfu_wire.specs.declared.states.State.{State}
 use Rattle.dfu_wire.specs.declared.states.State.TheVariants as state
 use Rattle.dfu_wire.specs.State.{state_byte}
 use Rattle.dfu_wire.specs.Status.{StatusFields}
-use Rattle.dfu_wire.specs.OneValue.{IsStatus-one}
+use Rattle.dfu_wire.specs.OneValue.{status_bytes_one_value}
 use Rattle.dfuse_host.specs.declared.plan.Plan.{Plan}
 use Rattle.dfuse_host.specs.declared.phase.Phase.{Phase}
 use Rattle.dfuse_host.specs.declared.phase.Phase.TheVariants.{Over}
@@ -21,172 +21,203 @@ use Rattle.dfuse_host.specs.declared.report.Report.TheVariants.{Verified}
 use Rattle.dfuse_host.specs.declared.report.Leaving.TheVariants as leaving
 use Rattle.dfuse_host.specs.declared.seen.Seen.{Seen}
 use Rattle.dfuse_host.specs.declared.seen.Seen.TheVariants as seen
-use Rattle.dfuse_host.specs.Commands.{command_of, done}
+use Rattle.dfuse_host.specs.Commands.{command_of, phase_after_command}
 use Rattle.dfuse_host.specs.Deeds.{read_bytes}
-use Rattle.dfuse_host.specs.Settling.{stand, settle}
-use Rattle.dfuse_host.specs.Sessions.{dfuse_spent, dfuse_step_after}
-use Rattle.dfuse_host.specs.Table.{state_found, polled, reading_begun, reading_ended, read_on, close_polled}
-use Rattle.dfuse_host.specs.Wire.{DfuseReadsStatus, DfuseReadsState, DfuseSeenMeaning, compared}
-use Rattle.dfuse_host.proofs.ForCallers.{AnyHeard, by_heard, compared_as, heard_nothing}
+use Rattle.dfuse_host.specs.Settling.{phase_with_step, settled_phase}
+use Rattle.dfuse_host.specs.Sessions.{session_after_action, session_after_step_heard}
+use Rattle.dfuse_host.specs.Table.{state_found, phase_after_poll, place_with_reading_begun, place_with_reading_ended, read_on, close_polled}
+use Rattle.dfuse_host.specs.Wire.{DfuseReadsStatus, DfuseReadsState, DfuseSeenMeaning, heard_of_compare}
+use Rattle.dfuse_host.proofs.ForCallers.{AnyHeard, fact_of_each_heard, heard_comparison, heard_nothing}
 use Rattle.dfuse_link.specs.CleanRuns.{BytesAnswered, StatusAnswered, BusyReported, StateAnswered}
-use Rattle.dfu_wire.specs.OneValue.{one_state}
-use Rattle.dfuse_link.proofs.Lasting.{one_wait, session_at, Lasts, count_as, Onward, lasts_on, asked, acked}
+use Rattle.dfu_wire.specs.OneValue.{equal_state_bytes_equal_states}
+use Rattle.dfuse_link.proofs.Lasting.{wait_count_of, session_in_phase, CleanRunLasts, lasts_by_equal_counts, LeadsToLastingPhase, step_lasts_one_more, request_lasts_one_more, acked_request_lasts_one_more}
 
--- Bytes that are the image's are found to be so.
-compared_same : (xs : List ℕ) → compared xs xs ≡ compared_as true
-compared_same xs =
-    ap (λ (t : Bool). cond t (compared_as (bytes_eq xs xs)) heard_nothing) (eq-eqb (length xs) (length xs) refl)
-    ∙ ap compared_as ((bytes_eq-Decides xs xs).1 refl)
+-- Bytes that are compared with themselves are found to be the same.
+equal_bytes_compare_equal : (xs : List ℕ) → heard_of_compare xs xs ≡ heard_comparison true
+equal_bytes_compare_equal xs =
+    ap (λ (t : Bool). cond t (heard_comparison (bytes_eq xs xs)) heard_nothing) (eq-eqb (length xs) (length xs) refl)
+    ∙ ap heard_comparison ((bytes_eq-Decides xs xs).1 refl)
 
 module _ (plan : Plan) (w : Work) (p : Place) where
   -- ---- bytes that are answered
 
-  bytes_ask : (bytes : List ℕ) (x : Seen) → BytesAnswered bytes x → one_wait x ≡ 0
-  bytes_ask bytes (seen.Bytes b) is = refl
-  bytes_ask bytes x is = absurd is
+  bytes_answered_are_no_wait : (bytes : List ℕ) (x : Seen) → BytesAnswered bytes x → wait_count_of x ≡ 0
+  bytes_answered_are_no_wait bytes (seen.Bytes b) is = refl
+  bytes_answered_are_no_wait bytes x is = absurd is
 
-  told_asks : (status : StatusFields) (x : Seen) → StatusAnswered status x → one_wait x ≡ 0
-  told_asks status (seen.Bytes b) is = refl
-  told_asks status x is = absurd is
+  status_answered_is_no_wait : (status : StatusFields) (x : Seen) → StatusAnswered status x → wait_count_of x ≡ 0
+  status_answered_is_no_wait status (seen.Bytes b) is = refl
+  status_answered_is_no_wait status x is = absurd is
 
-  state_on : (n u : ℕ) → Lasts plan (settle plan w place.Lost) n u → (x : Seen) (h : AnyHeard) →
-      BytesAnswered (state_byte state.DfuIdle ∷ []) x → DfuseSeenMeaning plan w step.AskState x h → Onward plan w p step.AskState h n u
-  state_on n u l (seen.Bytes bytes) h is hears =
-      by_heard (λ y. DfuseReadsState bytes.now y → Onward plan w p step.AskState y n u) (λ r. absurd r) (λ t r. absurd r)
+  idle_state_goes_on : (n u : ℕ) → CleanRunLasts plan (settled_phase plan w place.Lost) n u → (x : Seen) (h : AnyHeard) →
+      BytesAnswered (state_byte state.DfuIdle ∷ []) x → DfuseSeenMeaning plan w step.AskState x h →
+      LeadsToLastingPhase plan w p step.AskState h n u
+  idle_state_goes_on n u l (seen.Bytes bytes) h is hears =
+      fact_of_each_heard (λ y. DfuseReadsState bytes.now y → LeadsToLastingPhase plan w p step.AskState y n u) (λ r. absurd r) (λ t r.
+      absurd r)
       (λ t r.
-      let idle : t ≡ state.DfuIdle = one_state t state.DfuIdle (ap (λ (xs : List ℕ). slice_index_or xs 0 0) (sym r ∙ is)) in
+      let idle : t ≡ state.DfuIdle = equal_state_bytes_equal_states t state.DfuIdle (ap (λ (xs : List ℕ). slice_index_or xs 0 0) (sym r
+      ∙ is)) in
       record {
-        next = settle plan w place.Lost;
-        lasts = l;
+        next = settled_phase plan w place.Lost;
+        next_phase_lasts = l;
         comes = λ actions restarts.
-            ap (λ (q : State). dfuse_spent (session_at plan (stand w p step.AskState) actions restarts) (state_found plan w q)
+            ap (λ (q : State). session_after_action (session_in_phase plan (phase_with_step w p step.AskState) actions restarts)
+            (state_found plan w q)
             restarts) idle;
       })
       (λ b r. absurd r) (λ r. absurd r) (λ r. absurd (r state.DfuIdle is)) (λ r. absurd r) (λ r. absurd r) h hears
-  state_on n u l x h is hears = absurd is
+  idle_state_goes_on n u l x h is hears = absurd is
 
-  busy_on : (n u : ℕ) → ((ms : ℕ) → 0 < ms → Lasts plan (stand w p (step.PollWait ms)) n u) → (x : Seen) (h : AnyHeard) → BusyReported x →
-      DfuseSeenMeaning plan w (step.Poll zero) x h → Onward plan w p (step.Poll zero) h n u
-  busy_on n u l (seen.Bytes bytes) h is hears =
-      by_heard (λ y. DfuseReadsStatus bytes.now y → Onward plan w p (step.Poll zero) y n u) (λ r. absurd r)
+  busy_status_goes_to_wait : (n u : ℕ) → ((ms : ℕ) → 0 < ms → CleanRunLasts plan (phase_with_step w p (step.PollWait ms)) n u) →
+      (x : Seen) (h : AnyHeard)
+      → BusyReported x →
+      DfuseSeenMeaning plan w (step.Poll zero) x h → LeadsToLastingPhase plan w p (step.Poll zero) h n u
+  busy_status_goes_to_wait n u l (seen.Bytes bytes) h is hears =
+      fact_of_each_heard (λ y. DfuseReadsStatus bytes.now y → LeadsToLastingPhase plan w p (step.Poll zero) y n u) (λ r. absurd r)
       (λ t r.
-      let same : is.status ≡ t = IsStatus-one is.status t bytes.now is.told r in
+      let same : is.status ≡ t = status_bytes_one_value is.status t bytes.now is.told r in
       let busy : t.state ≡ state.DownloadBusy = ap (λ (z : StatusFields). z.state) (sym same) ∙ is.is_busy in
       record {
-        next = stand w p (step.PollWait t.poll_ms);
-        lasts = l t.poll_ms (subst (λ (z : StatusFields). 0 < z.poll_ms) same is.time);
+        next = phase_with_step w p (step.PollWait t.poll_ms);
+        next_phase_lasts = l t.poll_ms (subst (λ (z : StatusFields). 0 < z.poll_ms) same is.time);
         comes = λ actions restarts.
-            ap (λ (q : State). dfuse_spent (session_at plan (stand w p (step.Poll zero)) actions restarts)
-            (polled plan w p t.code t.poll_ms q) restarts) busy;
+            ap (λ (q : State). session_after_action (session_in_phase plan (phase_with_step w p (step.Poll zero)) actions restarts)
+            (phase_after_poll plan w p t.code t.poll_ms q) restarts) busy;
       })
       (λ t r. absurd r) (λ b r. absurd r) (λ r. absurd r) (λ r. absurd (r is.status is.told)) (λ r. absurd r) (λ r. absurd r) h hears
-  busy_on n u l x h is hears = absurd is.told
+  busy_status_goes_to_wait n u l x h is hears = absurd is.told
 
-  idle_on : (last n u : ℕ) → Lasts plan (done plan w (command_of plan w p)) n u → (x : Seen) (h : AnyHeard) →
-      StateAnswered state.DownloadIdle x → DfuseSeenMeaning plan w (step.Poll (suc last)) x h → Onward plan w p (step.Poll (suc last)) h n u
-  idle_on last n u l (seen.Bytes bytes) h is hears =
-      by_heard (λ y. DfuseReadsStatus bytes.now y → Onward plan w p (step.Poll (suc last)) y n u) (λ r. absurd r)
+  idle_status_ends_command : (last n u : ℕ) → CleanRunLasts plan (phase_after_command plan w (command_of plan w p)) n u →
+      (x : Seen) (h : AnyHeard) →
+      StateAnswered state.DownloadIdle x → DfuseSeenMeaning plan w (step.Poll (suc last)) x h →
+      LeadsToLastingPhase plan w p (step.Poll (suc last)) h n u
+  idle_status_ends_command last n u l (seen.Bytes bytes) h is hears =
+      fact_of_each_heard (λ y. DfuseReadsStatus bytes.now y → LeadsToLastingPhase plan w p (step.Poll (suc last)) y n u) (λ r. absurd r)
       (λ t r.
-      let same : is.status ≡ t = IsStatus-one is.status t bytes.now is.told r in
+      let same : is.status ≡ t = status_bytes_one_value is.status t bytes.now is.told r in
       let idle : t.state ≡ state.DownloadIdle = ap (λ (z : StatusFields). z.state) (sym same) ∙ is.is_there in
       record {
-        next = done plan w (command_of plan w p);
-        lasts = l;
+        next = phase_after_command plan w (command_of plan w p);
+        next_phase_lasts = l;
         comes = λ actions restarts.
-            ap (λ (q : State). dfuse_spent (session_at plan (stand w p (step.Poll (suc last))) actions restarts)
-            (polled plan w p t.code t.poll_ms q) restarts) idle;
+            ap (λ (q : State). session_after_action (session_in_phase plan (phase_with_step w p (step.Poll (suc last))) actions restarts)
+            (phase_after_poll plan w p t.code t.poll_ms q) restarts) idle;
       })
       (λ t r. absurd r) (λ b r. absurd r) (λ r. absurd r) (λ r. absurd (r is.status is.told)) (λ r. absurd r) (λ r. absurd r) h hears
-  idle_on last n u l x h is hears = absurd is.told
+  idle_status_ends_command last n u l x h is hears = absurd is.told
 
-  leaves_on : (n u : ℕ) → Lasts plan (Over (Verified leaving.Left)) n u → (x : Seen) (h : AnyHeard) → StateAnswered state.Manifest x →
-      DfuseSeenMeaning plan w step.ClosePoll x h → Onward plan w p step.ClosePoll h n u
-  leaves_on n u l (seen.Bytes bytes) h is hears =
-      by_heard (λ y. DfuseReadsStatus bytes.now y → Onward plan w p step.ClosePoll y n u) (λ r. absurd r)
+  manifest_status_ends_session : (n u : ℕ) → CleanRunLasts plan (Over (Verified leaving.Left)) n u → (x : Seen) (h : AnyHeard) →
+      StateAnswered state.Manifest x →
+      DfuseSeenMeaning plan w step.ClosePoll x h → LeadsToLastingPhase plan w p step.ClosePoll h n u
+  manifest_status_ends_session n u l (seen.Bytes bytes) h is hears =
+      fact_of_each_heard (λ y. DfuseReadsStatus bytes.now y → LeadsToLastingPhase plan w p step.ClosePoll y n u) (λ r. absurd r)
       (λ t r.
-      let same : is.status ≡ t = IsStatus-one is.status t bytes.now is.told r in
+      let same : is.status ≡ t = status_bytes_one_value is.status t bytes.now is.told r in
       let there : t.state ≡ state.Manifest = ap (λ (z : StatusFields). z.state) (sym same) ∙ is.is_there in
       let ok : t.code ≡ code.Ok = ap (λ (z : StatusFields). z.code) (sym same) ∙ is.no_fault in
       let left : close_polled w p t.code t.state ≡ Over (Verified leaving.Left) =
       ap (λ (q : State). close_polled w p t.code q) there ∙ ap (λ (c : Code). close_polled w p c state.Manifest) ok in
       record {
         next = Over (Verified leaving.Left);
-        lasts = l;
+        next_phase_lasts = l;
         comes = λ actions restarts.
-            ap (λ (q : Phase). dfuse_spent (session_at plan (stand w p step.ClosePoll) actions restarts) q restarts) left;
+            ap (λ (q : Phase). session_after_action (session_in_phase plan (phase_with_step w p step.ClosePoll) actions restarts) q
+            restarts) left;
       })
       (λ t r. absurd r) (λ b r. absurd r) (λ r. absurd r) (λ r. absurd (r is.status is.told)) (λ r. absurd r) (λ r. absurd r) h hears
-  leaves_on n u l x h is hears = absurd is.told
+  manifest_status_ends_session n u l x h is hears = absurd is.told
 
-  read_on_by : (n u : ℕ) → Lasts plan (settle plan (read_on plan w) p) n u → (x : Seen) (h : AnyHeard)
+  block_read_goes_on : (n u : ℕ) → CleanRunLasts plan (settled_phase plan (read_on plan w) p) n u → (x : Seen) (h : AnyHeard)
       → BytesAnswered (read_bytes plan w) x →
-      DfuseSeenMeaning plan w step.Read x h → Onward plan w p step.Read h n u
-  read_on_by n u l (seen.Bytes bytes) h is hears =
-      let same : h ≡ compared_as true =
-      hears ∙ ap (λ (xs : List ℕ). compared (read_bytes plan w) xs) is ∙ compared_same (read_bytes plan w) in
+      DfuseSeenMeaning plan w step.Read x h → LeadsToLastingPhase plan w p step.Read h n u
+  block_read_goes_on n u l (seen.Bytes bytes) h is hears =
+      let same : h ≡ heard_comparison true =
+      hears ∙ ap (λ (xs : List ℕ). heard_of_compare (read_bytes plan w) xs) is ∙ equal_bytes_compare_equal (read_bytes plan w) in
       record {
-        next = settle plan (read_on plan w) p;
-        lasts = l;
+        next = settled_phase plan (read_on plan w) p;
+        next_phase_lasts = l;
         comes = λ actions restarts.
-            ap (λ y. dfuse_step_after (session_at plan (stand w p step.Read) actions restarts) w p step.Read y) same;
+            ap (λ y. session_after_step_heard (session_in_phase plan (phase_with_step w p step.Read) actions restarts) w p step.Read y)
+            same;
       }
-  read_on_by n u l x h is hears = absurd is
+  block_read_goes_on n u l x h is hears = absurd is
 
   -- ---- requests
 
-  pub lasts_abort : (n u : ℕ) → Lasts plan (stand w place.Lost step.AskState) n u → Lasts plan (stand w p step.Abort) (suc n) u
-  lasts_abort n u l = acked plan w p step.Abort (stand w place.Lost step.AskState) n u (λ x c. c)
+  pub abort_lasts_one_more : (n u : ℕ) → CleanRunLasts plan (phase_with_step w place.Lost step.AskState) n u
+      → CleanRunLasts plan (phase_with_step w p step.Abort) (suc n) u
+  abort_lasts_one_more n u l = acked_request_lasts_one_more plan w p step.Abort (phase_with_step w place.Lost step.AskState) n u (λ x c. c)
       (λ h e actions restarts.
-      ap (λ y. dfuse_step_after (session_at plan (stand w p step.Abort) actions restarts) w p step.Abort y) e) l
+      ap (λ y. session_after_step_heard (session_in_phase plan (phase_with_step w p step.Abort) actions restarts) w p step.Abort y) e) l
 
-  pub lasts_ask_state : (n u : ℕ) → Lasts plan (settle plan w place.Lost) n u → Lasts plan (stand w p step.AskState) (suc n) u
-  lasts_ask_state n u l =
-      asked plan w p step.AskState n u (λ x c. bytes_ask (state_byte state.DfuIdle ∷ []) x c) (λ x h c e. state_on n u l x h c e)
+  pub ask_state_lasts_one_more : (n u : ℕ) → CleanRunLasts plan (settled_phase plan w place.Lost) n u
+      → CleanRunLasts plan (phase_with_step w p step.AskState) (suc n) u
+  ask_state_lasts_one_more n u l =
+      request_lasts_one_more plan w p step.AskState n u (λ x c. bytes_answered_are_no_wait (state_byte state.DfuIdle ∷ []) x c) (λ x h c e.
+      idle_state_goes_on n u l x h c e)
 
-  pub lasts_begin : (n u : ℕ) → Lasts plan (settle plan w (reading_begun p)) n u → Lasts plan (stand w p step.BeginReading) (suc n) u
-  lasts_begin n u l = acked plan w p step.BeginReading (settle plan w (reading_begun p)) n u (λ x c. c)
+  pub begin_reading_lasts_one_more : (n u : ℕ) → CleanRunLasts plan (settled_phase plan w (place_with_reading_begun p)) n u
+      → CleanRunLasts plan (phase_with_step w p step.BeginReading) (suc n) u
+  begin_reading_lasts_one_more n u l = acked_request_lasts_one_more plan w p step.BeginReading (settled_phase plan w
+      (place_with_reading_begun p)) n u (λ x c. c)
       (λ h e actions restarts.
-      ap (λ y. dfuse_step_after (session_at plan (stand w p step.BeginReading) actions restarts) w p step.BeginReading y) e) l
+      ap (λ y. session_after_step_heard (session_in_phase plan (phase_with_step w p step.BeginReading) actions restarts) w p
+      step.BeginReading y) e) l
 
-  pub lasts_end : (n u : ℕ) → Lasts plan (settle plan w (reading_ended p)) n u → Lasts plan (stand w p step.EndReading) (suc n) u
-  lasts_end n u l = acked plan w p step.EndReading (settle plan w (reading_ended p)) n u (λ x c. c)
+  pub end_reading_lasts_one_more : (n u : ℕ) → CleanRunLasts plan (settled_phase plan w (place_with_reading_ended p)) n u
+      → CleanRunLasts plan (phase_with_step w p step.EndReading) (suc n) u
+  end_reading_lasts_one_more n u l = acked_request_lasts_one_more plan w p step.EndReading (settled_phase plan w (place_with_reading_ended
+      p)) n u (λ x c. c)
       (λ h e actions restarts.
-      ap (λ y. dfuse_step_after (session_at plan (stand w p step.EndReading) actions restarts) w p step.EndReading y) e) l
+      ap (λ y. session_after_step_heard (session_in_phase plan (phase_with_step w p step.EndReading) actions restarts) w p step.EndReading
+      y) e) l
 
-  pub lasts_read : (n u : ℕ) → Lasts plan (settle plan (read_on plan w) p) n u → Lasts plan (stand w p step.Read) (suc n) u
-  lasts_read n u l = asked plan w p step.Read n u (λ x c. bytes_ask (read_bytes plan w) x c) (λ x h c e. read_on_by n u l x h c e)
+  pub read_lasts_one_more : (n u : ℕ) → CleanRunLasts plan (settled_phase plan (read_on plan w) p) n u →
+      CleanRunLasts plan (phase_with_step w p step.Read) (suc n) u
+  read_lasts_one_more n u l = request_lasts_one_more plan w p step.Read n u (λ x c. bytes_answered_are_no_wait (read_bytes plan w) x c) (λ
+      x h c e. block_read_goes_on n u l x h c e)
 
   -- To leave.
-  pub lasts_close : (n u : ℕ) → Lasts plan (Over (Verified leaving.Left)) n u → Lasts plan (stand w p step.Close) (suc (suc n)) u
-  lasts_close n u l = acked plan w p step.Close (stand w p step.ClosePoll) (suc n) u (λ x c. c)
+  pub close_lasts_two_more : (n u : ℕ) → CleanRunLasts plan (Over (Verified leaving.Left)) n u →
+      CleanRunLasts plan (phase_with_step w p step.Close) (suc (suc n)) u
+  close_lasts_two_more n u l = acked_request_lasts_one_more plan w p step.Close (phase_with_step w p step.ClosePoll) (suc n) u (λ x c. c)
       (λ h e actions restarts.
-      ap (λ y. dfuse_step_after (session_at plan (stand w p step.Close) actions restarts) w p step.Close y) e)
-      (asked plan w p step.ClosePoll n u (λ x c. told_asks c.status x c.told) (λ x h c e. leaves_on n u l x h c e))
+      ap (λ y. session_after_step_heard (session_in_phase plan (phase_with_step w p step.Close) actions restarts) w p step.Close y) e)
+      (request_lasts_one_more plan w p step.ClosePoll n u (λ x c. status_answered_is_no_wait c.status x c.told) (λ x h c e.
+      manifest_status_ends_session n u l x h c e))
 
   -- ---- a command
 
-  -- It is sent, started, waited for, and done.
-  lasts_poll : (ms n u : ℕ) → 0 < ms → Lasts plan (done plan w (command_of plan w p)) n u → Lasts plan (stand w p (step.Poll ms)) (suc n) u
-  lasts_poll zero n u some l = absurd (omega (arith, some))
-  lasts_poll (suc last) n u some l =
-      asked plan w p (step.Poll (suc last)) n u (λ x c. told_asks c.status x c.told) (λ x h c e. idle_on last n u l x h c e)
+  -- A command is sent, started, waited for, and done.
+  poll_lasts_one_more : (ms n u : ℕ) → 0 < ms → CleanRunLasts plan (phase_after_command plan w (command_of plan w p)) n u
+      → CleanRunLasts plan (phase_with_step w p (step.Poll ms)) (suc n) u
+  poll_lasts_one_more zero n u some l = absurd (omega (arith, some))
+  poll_lasts_one_more (suc last) n u some l =
+      request_lasts_one_more plan w p (step.Poll (suc last)) n u (λ x c. status_answered_is_no_wait c.status x c.told) (λ x h c e.
+      idle_status_ends_command last n u l x h c e)
 
-  lasts_wait : (ms n u : ℕ) → Lasts plan (stand w p (step.Poll ms)) n u → Lasts plan (stand w p (step.PollWait ms)) (suc n) (1 + u)
-  lasts_wait ms n u l = lasts_on plan w p (step.PollWait ms) n u 1 (λ x c. ap one_wait c)
+  poll_wait_lasts_one_more : (ms n u : ℕ) → CleanRunLasts plan (phase_with_step w p (step.Poll ms)) n u
+      → CleanRunLasts plan (phase_with_step w p (step.PollWait ms)) (suc n) (1 + u)
+  poll_wait_lasts_one_more ms n u l = step_lasts_one_more plan w p (step.PollWait ms) n u 1 (λ x c. ap wait_count_of c)
       (λ x h c hears. record {
-        next = stand w p (step.Poll ms);
-        lasts = l;
+        next = phase_with_step w p (step.Poll ms);
+        next_phase_lasts = l;
         comes = λ actions restarts.
-            ap (λ y. dfuse_step_after (session_at plan (stand w p (step.PollWait ms)) actions restarts) w p (step.PollWait ms) y)
+            ap (λ y. session_after_step_heard (session_in_phase plan (phase_with_step w p (step.PollWait ms)) actions restarts) w p
+            (step.PollWait ms) y)
             (subst (λ (y : Seen). DfuseSeenMeaning plan w (step.PollWait ms) y h) c hears);
       })
 
-  pub lasts_command : (n u : ℕ) → Lasts plan (done plan w (command_of plan w p)) n u → Lasts plan (stand w p step.Send) (4 + n) (1 + u)
-  lasts_command n u l =
-      let busy : Lasts plan (stand w p (step.Poll zero)) (suc (suc (suc n))) (1 + u) =
-      asked plan w p (step.Poll zero) (suc (suc n)) (1 + u) (λ x c. told_asks c.status x c.told)
-      (λ x h c e. busy_on (suc (suc n)) (1 + u) (λ ms some. lasts_wait ms (suc n) u (lasts_poll ms n u some l)) x h c e) in
-      let all : Lasts plan (stand w p step.Send) (suc (suc (suc (suc n)))) (1 + u) =
-      acked plan w p step.Send (stand w p (step.Poll zero)) (suc (suc (suc n))) (1 + u) (λ x c. c)
-      (λ h e actions restarts. ap (λ y. dfuse_step_after (session_at plan (stand w p step.Send) actions restarts) w p step.Send y) e) busy in
-      count_as plan (stand w p step.Send) (suc (suc (suc (suc n)))) (4 + n) (1 + u) (1 + u) (omega arith) refl all
+  pub command_lasts_four_more : (n u : ℕ) → CleanRunLasts plan (phase_after_command plan w (command_of plan w p)) n u
+      → CleanRunLasts plan (phase_with_step w p step.Send) (4 + n) (1 + u)
+  command_lasts_four_more n u l =
+      let busy : CleanRunLasts plan (phase_with_step w p (step.Poll zero)) (suc (suc (suc n))) (1 + u) =
+      request_lasts_one_more plan w p (step.Poll zero) (suc (suc n)) (1 + u) (λ x c. status_answered_is_no_wait c.status x c.told)
+      (λ x h c e. busy_status_goes_to_wait (suc (suc n)) (1 + u) (λ ms some. poll_wait_lasts_one_more ms (suc n) u (poll_lasts_one_more ms
+      n u some l)) x h c e) in
+      let all : CleanRunLasts plan (phase_with_step w p step.Send) (suc (suc (suc (suc n)))) (1 + u) =
+      acked_request_lasts_one_more plan w p step.Send (phase_with_step w p (step.Poll zero)) (suc (suc (suc n))) (1 + u) (λ x c. c)
+      (λ h e actions restarts. ap (λ y. session_after_step_heard
+      (session_in_phase plan (phase_with_step w p step.Send) actions restarts) w p step.Send y) e) busy in
+      lasts_by_equal_counts plan (phase_with_step w p step.Send) (suc (suc (suc (suc n)))) (4 + n) (1 + u) (1 + u) (omega arith) refl all

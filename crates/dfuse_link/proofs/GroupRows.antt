@@ -1,4 +1,4 @@
--- Rows that stay with some works, or go on after a command that is done.
+-- Rows of the table stay with the works of a group, or go on after a command that is done.
 use Rattle.std.proofs.Common.{◌≡◌, ℕ, ◌⊎◌, inl, Bool, true, false}
 use Rattle.dfu_wire.specs.declared.codes.Code.{Code}
 use Rattle.dfu_wire.specs.declared.codes.Code.TheVariants as code
@@ -13,184 +13,200 @@ use Rattle.dfuse_host.specs.declared.place.Place.{Place}
 use Rattle.dfuse_host.specs.declared.place.Place.TheVariants as place
 use Rattle.dfuse_host.specs.declared.step.Step.{Step}
 use Rattle.dfuse_host.specs.declared.step.Step.TheVariants as step
-use Rattle.dfuse_host.specs.Commands.{command_of, done, unsure}
-use Rattle.dfuse_host.specs.Settling.{settle}
-use Rattle.dfuse_host.specs.Table.{state_found, ends_comparing, fault_found, status_found, on_abort, on_ask_state, on_ask_status, on_clear_wait, on_send, probed, on_probe, refused, polled, on_poll, on_poll_wait, reading_begun, reading_ended, on_begin_reading, on_end_reading, read_on, on_read, on_close, close_probed, on_close_probe, close_polled, on_close_poll, row}
-use Rattle.dfuse_host.proofs.ForCallers.{AnyCommand, AnyHeard, by_heard, compared_as}
-use Rattle.dfuse_link.proofs.Claims.{SaysState}
+use Rattle.dfuse_host.specs.Commands.{command_of, phase_after_command, phase_if_unsure}
+use Rattle.dfuse_host.specs.Settling.{settled_phase}
+use Rattle.dfuse_host.specs.Table.{state_found, ends_comparing, fault_found, status_found, on_abort, on_ask_state, on_ask_status, on_clear_wait, on_send, probed, on_probe, phase_if_refused, phase_after_poll, on_poll, on_poll_wait, place_with_reading_begun, place_with_reading_ended, on_begin_reading, on_end_reading, read_on, on_read, on_close, close_probed, on_close_probe, close_polled, on_close_poll, row}
+use Rattle.dfuse_host.proofs.ForCallers.{AnyCommand, AnyHeard, fact_of_each_heard, heard_comparison}
+use Rattle.dfuse_link.proofs.Claims.{HeardSaysState}
 
--- A session goes on with one of the works, or something is so; or it is over.
-abbrev pub GoesIn : (G : Work → Type 0) (B : Type 0) → Phase → Type 0
-GoesIn G B (On s) = G s.work ⊎ B
-GoesIn G B (Over r) = Unit {0}
+-- The phase has a work of the group `G`, or the fact `B` holds, or the session is over.
+abbrev pub StaysInGroup : (G : Work → Type 0) (B : Type 0) → Phase → Type 0
+StaysInGroup G B (On s) = G s.work ⊎ B
+StaysInGroup G B (Over r) = Unit {0}
 
--- The works lead to each other as long as no command is done.
-pub record IsGroup (plan : Plan) (G : Work → Type 0) (B : Type 0) : Type 0 where
-  pub settles : (w : Work) (p : Place) → G w → GoesIn G B (settle plan w p)
+-- Works of a group lead to works of the group, or to the fact `B`, as long as no command is done.
+pub record IsWorkGroup (plan : Plan) (G : Work → Type 0) (B : Type 0) : Type 0 where
+  pub settles : (w : Work) (p : Place) → G w → StaysInGroup G B (settled_phase plan w p)
   pub reads : (w : Work) → G w → G (read_on plan w)
-  pub doubts : (w : Work) (c : AnyCommand) → G w → GoesIn G B (unsure plan w c)
+  pub doubts : (w : Work) (c : AnyCommand) → G w → StaysInGroup G B (phase_if_unsure plan w c)
 
-module _ (plan : Plan) (G : Work → Type 0) (B : Type 0) (r : IsGroup plan G B) (w : Work) (p : Place) (g : G w) where
+module _ (plan : Plan) (G : Work → Type 0) (B : Type 0) (r : IsWorkGroup plan G B) (w : Work) (p : Place) (g : G w) where
   -- ---- clearing
 
-  abort_goes : (h : AnyHeard) → GoesIn G B (on_abort w h)
-  abort_goes h =
-      by_heard (λ x. GoesIn G B (on_abort w x)) (inl g) (λ s. inl g) (λ s. inl g) (λ b. inl g) (inl g) (inl g) (inl g) (inl g) h
+  abort_stays_in_group : (h : AnyHeard) → StaysInGroup G B (on_abort w h)
+  abort_stays_in_group h =
+      fact_of_each_heard (λ x. StaysInGroup G B (on_abort w x)) (inl g) (λ s. inl g) (λ s. inl g) (λ b. inl g) (inl g) (inl g) (inl g) (inl
+      g) h
 
-  found_goes : (t : State) → GoesIn G B (state_found plan w t)
-  found_goes state.AppIdle = tt
-  found_goes state.AppDetach = tt
-  found_goes state.DfuIdle = r.settles w place.Lost g
-  found_goes t = inl g
+  found_state_stays_in_group : (t : State) → StaysInGroup G B (state_found plan w t)
+  found_state_stays_in_group state.AppIdle = tt
+  found_state_stays_in_group state.AppDetach = tt
+  found_state_stays_in_group state.DfuIdle = r.settles w place.Lost g
+  found_state_stays_in_group t = inl g
 
-  ask_state_goes : (h : AnyHeard) → GoesIn G B (on_ask_state plan w h)
-  ask_state_goes h =
-      by_heard (λ x. GoesIn G B (on_ask_state plan w x)) (inl g) (λ s. inl g) (λ s. found_goes s) (λ b. inl g) (inl g) (inl g) (inl g)
+  ask_state_stays_in_group : (h : AnyHeard) → StaysInGroup G B (on_ask_state plan w h)
+  ask_state_stays_in_group h =
+      fact_of_each_heard (λ x. StaysInGroup G B (on_ask_state plan w x)) (inl g) (λ s. inl g) (λ s. found_state_stays_in_group s) (λ b. inl
+      g) (inl g) (inl g) (inl g)
       (inl g) h
 
-  ends_goes : (v : Work) → G v → (c : Code) → GoesIn G B (ends_comparing v c)
-  ends_goes v k code.StalledPkt = inl k
-  ends_goes v k c = tt
+  ended_comparison_stays_in_group : (v : Work) → G v → (c : Code) → StaysInGroup G B (ends_comparing v c)
+  ended_comparison_stays_in_group v k code.StalledPkt = inl k
+  ended_comparison_stays_in_group v k c = tt
 
-  fault_goes : (v : Work) → G v → (c : Code) → GoesIn G B (fault_found v c)
-  fault_goes (work.Erase at) k c = inl k
-  fault_goes v k code.Vendor = tt
-  fault_goes (work.Compare at) k c = ends_goes (work.Compare at) k c
-  fault_goes (work.CompareFront at) k c = ends_goes (work.CompareFront at) k c
-  fault_goes v k c = inl k
+  fault_found_stays_in_group : (v : Work) → G v → (c : Code) → StaysInGroup G B (fault_found v c)
+  fault_found_stays_in_group (work.Erase at) k c = inl k
+  fault_found_stays_in_group v k code.Vendor = tt
+  fault_found_stays_in_group (work.Compare at) k c = ended_comparison_stays_in_group (work.Compare at) k c
+  fault_found_stays_in_group (work.CompareFront at) k c = ended_comparison_stays_in_group (work.CompareFront at) k c
+  fault_found_stays_in_group v k c = inl k
 
-  status_goes : (c : Code) (poll : ℕ) (t : State) → GoesIn G B (status_found w c poll t)
-  status_goes c poll state.AppIdle = tt
-  status_goes c poll state.AppDetach = tt
-  status_goes c poll state.Error = fault_goes w g c
-  status_goes c poll t = inl g
+  found_status_stays_in_group : (c : Code) (poll : ℕ) (t : State) → StaysInGroup G B (status_found w c poll t)
+  found_status_stays_in_group c poll state.AppIdle = tt
+  found_status_stays_in_group c poll state.AppDetach = tt
+  found_status_stays_in_group c poll state.Error = fault_found_stays_in_group w g c
+  found_status_stays_in_group c poll t = inl g
 
-  ask_status_goes : (h : AnyHeard) → GoesIn G B (on_ask_status w h)
-  ask_status_goes h =
-      by_heard (λ x. GoesIn G B (on_ask_status w x)) (inl g) (λ s. status_goes s.code s.poll_ms s.state) (λ s. inl g) (λ b. inl g) (inl g)
+  ask_status_stays_in_group : (h : AnyHeard) → StaysInGroup G B (on_ask_status w h)
+  ask_status_stays_in_group h =
+      fact_of_each_heard (λ x. StaysInGroup G B (on_ask_status w x)) (inl g) (λ s. found_status_stays_in_group s.code s.poll_ms s.state) (λ
+      s. inl g) (λ b. inl g) (inl g)
       (inl g) (inl g) (inl g) h
 
-  clear_wait_goes : (ms : ℕ) (h : AnyHeard) → GoesIn G B (on_clear_wait w ms h)
-  clear_wait_goes ms h =
-      by_heard (λ x. GoesIn G B (on_clear_wait w ms x)) (inl g) (λ s. inl g) (λ s. inl g) (λ b. inl g) (inl g) (inl g) (inl g) (inl g) h
+  clear_wait_stays_in_group : (ms : ℕ) (h : AnyHeard) → StaysInGroup G B (on_clear_wait w ms h)
+  clear_wait_stays_in_group ms h =
+      fact_of_each_heard (λ x. StaysInGroup G B (on_clear_wait w ms x)) (inl g) (λ s. inl g) (λ s. inl g) (λ b. inl g) (inl g) (inl g) (inl
+      g) (inl g) h
 
   -- ---- a command
 
-  send_goes : (h : AnyHeard) → GoesIn G B (on_send w p h)
-  send_goes h =
-      by_heard (λ x. GoesIn G B (on_send w p x)) (inl g) (λ s. inl g) (λ s. inl g) (λ b. inl g) (inl g) (inl g) (inl g) (inl g) h
+  send_stays_in_group : (h : AnyHeard) → StaysInGroup G B (on_send w p h)
+  send_stays_in_group h =
+      fact_of_each_heard (λ x. StaysInGroup G B (on_send w p x)) (inl g) (λ s. inl g) (λ s. inl g) (λ b. inl g) (inl g) (inl g) (inl g)
+      (inl g) h
 
-  probed_goes : (t : State) → GoesIn G B (probed plan w p t)
-  probed_goes state.DownloadSync = inl g
-  probed_goes state.DfuIdle = inl g
-  probed_goes state.DownloadIdle = inl g
-  probed_goes state.Error = inl g
-  probed_goes t = r.doubts w (command_of plan w p) g
+  probed_state_stays_in_group : (t : State) → StaysInGroup G B (probed plan w p t)
+  probed_state_stays_in_group state.DownloadSync = inl g
+  probed_state_stays_in_group state.DfuIdle = inl g
+  probed_state_stays_in_group state.DownloadIdle = inl g
+  probed_state_stays_in_group state.Error = inl g
+  probed_state_stays_in_group t = r.doubts w (command_of plan w p) g
 
-  probe_goes : (h : AnyHeard) → GoesIn G B (on_probe plan w p h)
-  probe_goes h =
-      by_heard (λ x. GoesIn G B (on_probe plan w p x)) (inl g) (λ s. inl g) (λ s. probed_goes s) (λ b. inl g)
+  probe_stays_in_group : (h : AnyHeard) → StaysInGroup G B (on_probe plan w p h)
+  probe_stays_in_group h =
+      fact_of_each_heard (λ x. StaysInGroup G B (on_probe plan w p x)) (inl g) (λ s. inl g) (λ s. probed_state_stays_in_group s) (λ b. inl
+      g)
       (r.doubts w (command_of plan w p) g) (inl g) (inl g) (inl g) h
 
-  refused_goes : (c : Code) → GoesIn G B (refused plan w p c)
-  refused_goes code.StalledPkt = r.doubts w (command_of plan w p) g
-  refused_goes code.Vendor = tt
-  refused_goes c = tt
+  refusal_stays_in_group : (c : Code) → StaysInGroup G B (phase_if_refused plan w p c)
+  refusal_stays_in_group code.StalledPkt = r.doubts w (command_of plan w p) g
+  refusal_stays_in_group code.Vendor = tt
+  refusal_stays_in_group c = tt
 
-  -- A command is done if the device reports dfuDNLOAD-IDLE.
-  polled_goes : (u : State) → (u ≡ state.DownloadIdle → GoesIn G B (done plan w (command_of plan w p))) →
+  -- After a status the phase stays in the group, if the phase after a command that is done does.
+  polled_status_stays_in_group : (u : State) → (u ≡ state.DownloadIdle →
+      StaysInGroup G B (phase_after_command plan w (command_of plan w p))) →
       (c : Code) (poll : ℕ) (t : State) →
-      u ≡ t → GoesIn G B (polled plan w p c poll t)
-  polled_goes u ok c poll state.DownloadSync e = inl g
-  polled_goes u ok c poll state.DownloadBusy e = inl g
-  polled_goes u ok c poll state.DownloadIdle e = ok e
-  polled_goes u ok c poll state.Error e = refused_goes c
-  polled_goes u ok c poll t e = r.doubts w (command_of plan w p) g
+      u ≡ t → StaysInGroup G B (phase_after_poll plan w p c poll t)
+  polled_status_stays_in_group u ok c poll state.DownloadSync e = inl g
+  polled_status_stays_in_group u ok c poll state.DownloadBusy e = inl g
+  polled_status_stays_in_group u ok c poll state.DownloadIdle e = ok e
+  polled_status_stays_in_group u ok c poll state.Error e = refusal_stays_in_group c
+  polled_status_stays_in_group u ok c poll t e = r.doubts w (command_of plan w p) g
 
-  pub poll_goes : (u : State) → (u ≡ state.DownloadIdle → GoesIn G B (done plan w (command_of plan w p))) → (last : ℕ) (h : AnyHeard) →
-      SaysState h u → GoesIn G B (on_poll plan w p last h)
-  poll_goes u ok last h f =
-      by_heard (λ x. SaysState x u → GoesIn G B (on_poll plan w p last x)) (λ k. inl g)
-      (λ s k. polled_goes u ok s.code s.poll_ms s.state k) (λ s k. inl g) (λ b k. inl g) (λ k. inl g) (λ k. inl g) (λ k. inl g)
+  pub poll_stays_in_group : (u : State) → (u ≡ state.DownloadIdle → StaysInGroup G B (phase_after_command plan w (command_of plan w p)))
+      → (last : ℕ) (h : AnyHeard) →
+      HeardSaysState h u → StaysInGroup G B (on_poll plan w p last h)
+  poll_stays_in_group u ok last h f =
+      fact_of_each_heard (λ x. HeardSaysState x u → StaysInGroup G B (on_poll plan w p last x)) (λ k. inl g)
+      (λ s k. polled_status_stays_in_group u ok s.code s.poll_ms s.state k) (λ s k. inl g) (λ b k. inl g) (λ k. inl g) (λ k. inl g) (λ k.
+      inl g)
       (λ k. inl g) h f
 
-  poll_wait_goes : (ms : ℕ) (h : AnyHeard) → GoesIn G B (on_poll_wait w p ms h)
-  poll_wait_goes ms h =
-      by_heard (λ x. GoesIn G B (on_poll_wait w p ms x)) (inl g) (λ s. inl g) (λ s. inl g) (λ b. inl g) (inl g) (inl g) (inl g) (inl g) h
+  poll_wait_stays_in_group : (ms : ℕ) (h : AnyHeard) → StaysInGroup G B (on_poll_wait w p ms h)
+  poll_wait_stays_in_group ms h =
+      fact_of_each_heard (λ x. StaysInGroup G B (on_poll_wait w p ms x)) (inl g) (λ s. inl g) (λ s. inl g) (λ b. inl g) (inl g) (inl g)
+      (inl g) (inl g) h
 
   -- ---- reading
 
-  begin_goes : (h : AnyHeard) → GoesIn G B (on_begin_reading plan w p h)
-  begin_goes h =
-      by_heard (λ x. GoesIn G B (on_begin_reading plan w p x)) (r.settles w (reading_begun p) g) (λ s. inl g) (λ s. inl g)
+  begin_reading_stays_in_group : (h : AnyHeard) → StaysInGroup G B (on_begin_reading plan w p h)
+  begin_reading_stays_in_group h =
+      fact_of_each_heard (λ x. StaysInGroup G B (on_begin_reading plan w p x)) (r.settles w (place_with_reading_begun p) g) (λ s. inl g) (λ
+      s. inl g)
       (λ b. inl g) (inl g)
       (inl g) (inl g) (inl g) h
 
-  end_goes : (h : AnyHeard) → GoesIn G B (on_end_reading plan w p h)
-  end_goes h =
-      by_heard (λ x. GoesIn G B (on_end_reading plan w p x)) (r.settles w (reading_ended p) g) (λ s. inl g) (λ s. inl g)
+  end_reading_stays_in_group : (h : AnyHeard) → StaysInGroup G B (on_end_reading plan w p h)
+  end_reading_stays_in_group h =
+      fact_of_each_heard (λ x. StaysInGroup G B (on_end_reading plan w p x)) (r.settles w (place_with_reading_ended p) g) (λ s. inl g) (λ
+      s. inl g)
       (λ b. inl g) (inl g)
       (inl g) (inl g) (inl g) h
 
-  compared_goes : (b : Bool) → GoesIn G B (on_read plan w p (compared_as b))
-  compared_goes true = r.settles (read_on plan w) p (r.reads w g)
-  compared_goes false = tt
+  comparison_stays_in_group : (b : Bool) → StaysInGroup G B (on_read plan w p (heard_comparison b))
+  comparison_stays_in_group true = r.settles (read_on plan w) p (r.reads w g)
+  comparison_stays_in_group false = tt
 
-  read_goes : (h : AnyHeard) → GoesIn G B (on_read plan w p h)
-  read_goes h =
-      by_heard (λ x. GoesIn G B (on_read plan w p x)) (inl g) (λ s. inl g) (λ s. inl g) (λ b. compared_goes b) (inl g) (inl g) (inl g)
+  read_stays_in_group : (h : AnyHeard) → StaysInGroup G B (on_read plan w p h)
+  read_stays_in_group h =
+      fact_of_each_heard (λ x. StaysInGroup G B (on_read plan w p x)) (inl g) (λ s. inl g) (λ s. inl g) (λ b. comparison_stays_in_group b)
+      (inl g) (inl g) (inl g)
       (inl g) h
 
   -- ---- leaving
 
-  close_goes : (h : AnyHeard) → GoesIn G B (on_close w p h)
-  close_goes h =
-      by_heard (λ x. GoesIn G B (on_close w p x)) (inl g) (λ s. inl g) (λ s. inl g) (λ b. inl g) (inl g) (inl g) (inl g) (inl g) h
-
-  close_probed_goes : (t : State) → GoesIn G B (close_probed w p t)
-  close_probed_goes state.DfuIdle = inl g
-  close_probed_goes state.DownloadIdle = inl g
-  close_probed_goes state.Error = inl g
-  close_probed_goes t = inl g
-
-  close_probe_goes : (h : AnyHeard) → GoesIn G B (on_close_probe w p h)
-  close_probe_goes h =
-      by_heard (λ x. GoesIn G B (on_close_probe w p x)) (inl g) (λ s. inl g) (λ s. close_probed_goes s) (λ b. inl g) (inl g) (inl g) (inl g)
+  close_stays_in_group : (h : AnyHeard) → StaysInGroup G B (on_close w p h)
+  close_stays_in_group h =
+      fact_of_each_heard (λ x. StaysInGroup G B (on_close w p x)) (inl g) (λ s. inl g) (λ s. inl g) (λ b. inl g) (inl g) (inl g) (inl g)
       (inl g) h
 
-  close_polled_goes : (c : Code) (t : State) → GoesIn G B (close_polled w p c t)
-  close_polled_goes c state.DfuIdle = inl g
-  close_polled_goes c state.DownloadIdle = inl g
-  close_polled_goes c state.Error = inl g
-  close_polled_goes code.Ok state.Manifest = tt
-  close_polled_goes code.Ok state.ManifestWaitReset = tt
-  close_polled_goes c t = inl g
+  close_probed_stays_in_group : (t : State) → StaysInGroup G B (close_probed w p t)
+  close_probed_stays_in_group state.DfuIdle = inl g
+  close_probed_stays_in_group state.DownloadIdle = inl g
+  close_probed_stays_in_group state.Error = inl g
+  close_probed_stays_in_group t = inl g
 
-  close_poll_goes : (h : AnyHeard) → GoesIn G B (on_close_poll w p h)
-  close_poll_goes h =
-      by_heard (λ x. GoesIn G B (on_close_poll w p x)) (inl g) (λ s. close_polled_goes s.code s.state) (λ s. inl g) (λ b. inl g) (inl g)
+  close_probe_stays_in_group : (h : AnyHeard) → StaysInGroup G B (on_close_probe w p h)
+  close_probe_stays_in_group h =
+      fact_of_each_heard (λ x. StaysInGroup G B (on_close_probe w p x)) (inl g) (λ s. inl g) (λ s. close_probed_stays_in_group s) (λ b. inl
+      g) (inl g) (inl g) (inl g)
+      (inl g) h
+
+  close_polled_stays_in_group : (c : Code) (t : State) → StaysInGroup G B (close_polled w p c t)
+  close_polled_stays_in_group c state.DfuIdle = inl g
+  close_polled_stays_in_group c state.DownloadIdle = inl g
+  close_polled_stays_in_group c state.Error = inl g
+  close_polled_stays_in_group code.Ok state.Manifest = tt
+  close_polled_stays_in_group code.Ok state.ManifestWaitReset = tt
+  close_polled_stays_in_group c t = inl g
+
+  close_poll_stays_in_group : (h : AnyHeard) → StaysInGroup G B (on_close_poll w p h)
+  close_poll_stays_in_group h =
+      fact_of_each_heard (λ x. StaysInGroup G B (on_close_poll w p x)) (inl g) (λ s. close_polled_stays_in_group s.code s.state) (λ s. inl
+      g) (λ b. inl g) (inl g)
       (inl g) (inl g) (inl g) h
 
   -- ---- a row
 
-  -- Fact of the row if the step asks whether a command is done.
-  abbrev pub Asks : Step → AnyHeard → Type 0
-  Asks (step.Poll last) h = GoesIn G B (on_poll plan w p last h)
-  Asks s h = Unit {0}
+  -- For a step that asks if a command is done: if it is, the next phase stays in the group.
+  abbrev pub AsksIfDone : Step → AnyHeard → Type 0
+  AsksIfDone (step.Poll last) h = StaysInGroup G B (on_poll plan w p last h)
+  AsksIfDone s h = Unit {0}
 
-  pub row_goes : (s : Step) (h : AnyHeard) → Asks s h → GoesIn G B (row plan w p s h)
-  row_goes step.Abort h a = abort_goes h
-  row_goes step.AskState h a = ask_state_goes h
-  row_goes step.AskStatus h a = ask_status_goes h
-  row_goes (step.ClearWait ms) h a = clear_wait_goes ms h
-  row_goes step.ClearStatus h a = inl g
-  row_goes step.Send h a = send_goes h
-  row_goes step.Probe h a = probe_goes h
-  row_goes (step.Poll last) h a = a
-  row_goes (step.PollWait ms) h a = poll_wait_goes ms h
-  row_goes step.BeginReading h a = begin_goes h
-  row_goes step.EndReading h a = end_goes h
-  row_goes step.Read h a = read_goes h
-  row_goes step.Close h a = close_goes h
-  row_goes step.CloseProbe h a = close_probe_goes h
-  row_goes step.ClosePoll h a = close_poll_goes h
+  pub row_stays_in_group : (s : Step) (h : AnyHeard) → AsksIfDone s h → StaysInGroup G B (row plan w p s h)
+  row_stays_in_group step.Abort h a = abort_stays_in_group h
+  row_stays_in_group step.AskState h a = ask_state_stays_in_group h
+  row_stays_in_group step.AskStatus h a = ask_status_stays_in_group h
+  row_stays_in_group (step.ClearWait ms) h a = clear_wait_stays_in_group ms h
+  row_stays_in_group step.ClearStatus h a = inl g
+  row_stays_in_group step.Send h a = send_stays_in_group h
+  row_stays_in_group step.Probe h a = probe_stays_in_group h
+  row_stays_in_group (step.Poll last) h a = a
+  row_stays_in_group (step.PollWait ms) h a = poll_wait_stays_in_group ms h
+  row_stays_in_group step.BeginReading h a = begin_reading_stays_in_group h
+  row_stays_in_group step.EndReading h a = end_reading_stays_in_group h
+  row_stays_in_group step.Read h a = read_stays_in_group h
+  row_stays_in_group step.Close h a = close_stays_in_group h
+  row_stays_in_group step.CloseProbe h a = close_probe_stays_in_group h
+  row_stays_in_group step.ClosePoll h a = close_poll_stays_in_group h

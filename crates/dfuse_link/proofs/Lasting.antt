@@ -1,4 +1,4 @@
--- Length of clean runs from a phase on.
+-- Number of results of clean runs from a phase on.
 use Rattle.std.proofs.Common.{◌≡◌, if◌then◌else◌, ℕ, zero, suc, pred, ◌+◌, ◌≤◌, List, [], ◌∷◌, refl, sym, ap, ◌∙◌, subst, arith}
 use Rattle.dfuse_host.specs.declared.plan.Plan.{Plan}
 use Rattle.dfuse_host.specs.declared.phase.Phase.{Phase}
@@ -12,111 +12,118 @@ use Rattle.dfuse_host.specs.declared.report.Report.TheVariants.{Verified}
 use Rattle.dfuse_host.specs.declared.seen.Seen.{Seen}
 use Rattle.dfuse_host.specs.declared.seen.Seen.TheVariants as seen
 use Rattle.dfuse_host.specs.declared.session.Session.{Session}
-use Rattle.dfuse_host.specs.Settling.{stand}
-use Rattle.dfuse_host.specs.Sessions.{dfuse_budgeted, dfuse_spent, dfuse_step_after}
+use Rattle.dfuse_host.specs.Settling.{phase_with_step}
+use Rattle.dfuse_host.specs.Sessions.{phase_within_budget, session_after_action, session_after_step_heard}
 use Rattle.dfuse_host.specs.Wire.{DfuseSeenMeaning}
 use Rattle.dfuse_host.proofs.ForCallers.{AnyHeard}
-use Rattle.dfuse_link.specs.CleanRuns.{IsClean, CleanSession, clean_so_far, clean_on, waits_in}
+use Rattle.dfuse_link.specs.CleanRuns.{IsCleanResult, CleanSession, clean_nothing_seen, clean_result_more, waits_in}
 use Rattle.dfuse_link.specs.Counts.{FinishesAfter}
 
--- One for the end of a wait.
-abbrev pub one_wait : Seen → ℕ
-one_wait seen.Waited = 1
-one_wait s = 0
+-- Number of ends of waits in a result: one or none.
+abbrev pub wait_count_of : Seen → ℕ
+wait_count_of seen.Waited = 1
+wait_count_of s = 0
 
-waits_on : (x : Seen) (xs : List Seen) → waits_in (x ∷ xs) ≡ one_wait x + waits_in xs
-waits_on seen.Waited xs = refl
-waits_on x xs = omega arith
+waits_in_cons : (x : Seen) (xs : List Seen) → waits_in (x ∷ xs) ≡ wait_count_of x + waits_in xs
+waits_in_cons seen.Waited xs = refl
+waits_in_cons x xs = omega arith
 
--- A device that was asked to leave left.
-abbrev pub leaving_of : Plan → Leaving
-leaving_of plan = if plan.leaves then leaving.Left else leaving.Stayed
+-- Leaving of a session that ends as Verified: the device left if it was asked to, and else stayed.
+abbrev pub leaving_of_plan : Plan → Leaving
+leaving_of_plan plan = if plan.leaves then leaving.Left else leaving.Stayed
 
--- Result that is seen in a phase of a clean run.
+-- In the phase, the result is as the work and step of a clean run have it.
 abbrev IsCleanIn : Plan → Seen → Phase → Type 0
-IsCleanIn plan x (On at) = IsClean plan at.work at.step x
+IsCleanIn plan x (On at) = IsCleanResult plan at.work at.step x
 IsCleanIn plan x (Over report) = ⊥
 
--- A session in a phase, with so much left of its limits.
-abbrev pub session_at : Plan → Phase → (actions restarts : ℕ) → Session
-session_at plan phase actions restarts = record { plan = plan; phase = phase; actions = actions; restarts = restarts }
+-- A session in a phase, with the actions and restarts that are left.
+abbrev pub session_in_phase : Plan → Phase → (actions restarts : ℕ) → Session
+session_in_phase plan phase actions restarts = record { plan = plan; phase = phase; actions = actions; restarts = restarts }
 
--- Each clean run from this phase on is over once so much was seen, so many ends of waits among it.
-pub record Lasts (plan : Plan) (phase : Phase) (n u : ℕ) : Type 0 where
+-- From this phase on each clean run is over after `n` results, of which `u` are ends of waits.
+pub record CleanRunLasts (plan : Plan) (phase : Phase) (n u : ℕ) : Type 0 where
   pub runs : (actions restarts : ℕ) (seens : List Seen) (s : Session) → n ≤ actions →
-      CleanSession (session_at plan phase actions restarts) seens s → FinishesAfter plan n u seens s
+      CleanSession (session_in_phase plan phase actions restarts) seens s → FinishesAfter plan n u seens s
 
--- Runs last as long by other words for the numbers.
-pub count_as : (plan : Plan) (phase : Phase) (n m u v : ℕ) → n ≡ m → u ≡ v → Lasts plan phase n u → Lasts plan phase m v
-count_as plan phase n m u v e f l = subst (λ (i : ℕ). Lasts plan phase i v) e (subst (λ (i : ℕ). Lasts plan phase n i) f l)
+-- If the counts are equal to others, a run lasts as long by the other counts.
+pub lasts_by_equal_counts : (plan : Plan) (phase : Phase) (n m u v : ℕ) → n ≡ m → u ≡ v → CleanRunLasts plan phase n u →
+    CleanRunLasts plan phase m v
+lasts_by_equal_counts plan phase n m u v e f l = subst (λ (i : ℕ). CleanRunLasts plan phase i v) e (subst (λ (i : ℕ). CleanRunLasts plan
+    phase n i) f l)
 
--- Runs last as long from an equal phase.
-pub phase_as : (plan : Plan) (p q : Phase) (n u : ℕ) → p ≡ q → Lasts plan q n u → Lasts plan p n u
-phase_as plan p q n u e l = subst (λ (x : Phase). Lasts plan x n u) (sym e) l
+-- A run lasts as long from an equal phase.
+pub lasts_from_equal_phase : (plan : Plan) (p q : Phase) (n u : ℕ) → p ≡ q → CleanRunLasts plan q n u → CleanRunLasts plan p n u
+lasts_from_equal_phase plan p q n u e l = subst (λ (x : Phase). CleanRunLasts plan x n u) (sym e) l
 
--- Meaning that leads a session to a phase from which on it lasts so long.
-pub record Onward (plan : Plan) (w : Work) (p : Place) (s : Step) (h : AnyHeard) (n u : ℕ) : Type 0 where
+-- Leads by what is heard to a phase from which a clean run is over after `n` results, `u` of them ends of waits.
+pub record LeadsToLastingPhase (plan : Plan) (w : Work) (p : Place) (s : Step) (h : AnyHeard) (n u : ℕ) : Type 0 where
   pub next : Phase
-  pub lasts : Lasts plan next n u
-  pub comes : (actions restarts : ℕ) → dfuse_step_after (session_at plan (stand w p s) actions restarts) w p s h ≡
-      dfuse_spent (session_at plan (stand w p s) actions restarts) next restarts
+  pub next_phase_lasts : CleanRunLasts plan next n u
+  pub comes : (actions restarts : ℕ) → session_after_step_heard (session_in_phase plan (phase_with_step w p s) actions restarts) w p s h ≡
+      session_after_action (session_in_phase plan (phase_with_step w p s) actions restarts) next restarts
 
 -- ---- one thing more
 
--- A session that is over in time isn't cut off by its budget.
-fits : (plan : Plan) (next : Phase) (n u left : ℕ) → Lasts plan next n u → n ≤ left → dfuse_budgeted left next ≡ next
-fits plan (Over r) n u left l h = refl
-fits plan (On at) n u zero l h =
-    absurd ((l.runs zero zero [] (session_at plan (On at) zero zero) h clean_so_far).enough (omega (arith, h)))
-fits plan (On at) n u (suc left) l h = refl
+-- The budget doesn't cut off a session that is over in time.
+phase_fits_budget : (plan : Plan) (next : Phase) (n u left : ℕ) → CleanRunLasts plan next n u → n ≤ left →
+    phase_within_budget left next ≡ next
+phase_fits_budget plan (Over r) n u left l h = refl
+phase_fits_budget plan (On at) n u zero l h =
+    absurd ((l.runs zero zero [] (session_in_phase plan (On at) zero zero) h clean_nothing_seen).enough (omega (arith, h)))
+phase_fits_budget plan (On at) n u (suc left) l h = refl
 
-over_runs : (plan : Plan) (actions restarts : ℕ) (seens : List Seen) (s : Session) →
-    CleanSession (session_at plan (Over (Verified (leaving_of plan))) actions restarts) seens s → FinishesAfter plan 0 0 seens s
-over_runs plan actions restarts _ _ clean_so_far = record { over = λ o. (refl, refl, refl); enough = λ h. tt }
-over_runs plan actions restarts (x ∷ xs) s (clean_on at is clean row rest) = absurd (subst (IsCleanIn plan x) (sym is) clean)
+over_session_finishes : (plan : Plan) (actions restarts : ℕ) (seens : List Seen) (s : Session) →
+    CleanSession (session_in_phase plan (Over (Verified (leaving_of_plan plan))) actions restarts) seens s → FinishesAfter plan 0 0 seens s
+over_session_finishes plan actions restarts _ _ clean_nothing_seen = record { over = λ o. (refl, refl, refl); enough = λ h. tt }
+over_session_finishes plan actions restarts (x ∷ xs) s (clean_result_more at is clean row rest) = absurd (subst (IsCleanIn plan x) (sym is)
+    clean)
 
--- A session that is over.
-pub lasts_over : (plan : Plan) → Lasts plan (Over (Verified (leaving_of plan))) 0 0
-lasts_over plan = record { runs = λ actions restarts seens s less run. over_runs plan actions restarts seens s run }
+-- From a phase that is over, nothing more is seen.
+pub over_phase_lasts_none : (plan : Plan) → CleanRunLasts plan (Over (Verified (leaving_of_plan plan))) 0 0
+over_phase_lasts_none plan = record { runs = λ actions restarts seens s less run. over_session_finishes plan actions restarts seens s run }
 
 module _ (plan : Plan) (w : Work) (p : Place) where
-  on_runs : (s : Step) (n u k : ℕ) → ((x : Seen) → IsClean plan w s x → one_wait x ≡ k) →
-      ((x : Seen) (h : AnyHeard) → IsClean plan w s x → DfuseSeenMeaning plan w s x h → Onward plan w p s h n u) →
+  -- If each clean answer at the step leads to a phase from which a run takes `n` results, from the step it takes `n + 1`.
+  step_finishes_after_next : (s : Step) (n u k : ℕ) → ((x : Seen) → IsCleanResult plan w s x → wait_count_of x ≡ k) →
+      ((x : Seen) (h : AnyHeard) → IsCleanResult plan w s x → DfuseSeenMeaning plan w s x h → LeadsToLastingPhase plan w p s h n u) →
       (actions restarts : ℕ) (seens : List Seen) (s' : Session) → suc n ≤ actions →
-      CleanSession (session_at plan (stand w p s) actions restarts) seens s' → FinishesAfter plan (suc n) (k + u) seens s'
-  on_runs s n u k waits on actions restarts _ _ less clean_so_far =
+      CleanSession (session_in_phase plan (phase_with_step w p s) actions restarts) seens s' → FinishesAfter plan (suc n) (k + u) seens s'
+  step_finishes_after_next s n u k waits on actions restarts _ _ less clean_nothing_seen =
       record { over = λ o. absurd o; enough = λ h. absurd (omega (arith, h)) }
-  on_runs s n u k waits on actions restarts (x ∷ xs) s' less (clean_on {mid = mid} at is found row rest) =
+  step_finishes_after_next s n u k waits on actions restarts (x ∷ xs) s' less (clean_result_more {mid = mid} at is found row rest) =
       let clean = subst (IsCleanIn plan x) (sym is) found in
       let o = on x row.heard clean row.hears in
-      let fit = fits plan o.next n u (pred actions) o.lasts (omega (arith, less)) in
-      let same : mid ≡ session_at plan o.next (pred actions) restarts =
-      row.same ∙ o.comes actions restarts ∙ ap (λ (q : Phase). session_at plan q (pred actions) restarts) fit in
-      let e = o.lasts.runs (pred actions) restarts xs s' (omega (arith, less)) (subst (λ (t : Session). CleanSession t xs s') same rest) in
+      let fit = phase_fits_budget plan o.next n u (pred actions) o.next_phase_lasts (omega (arith, less)) in
+      let same : mid ≡ session_in_phase plan o.next (pred actions) restarts =
+      row.same ∙ o.comes actions restarts ∙ ap (λ (q : Phase). session_in_phase plan q (pred actions) restarts) fit in
+      let e = o.next_phase_lasts.runs (pred actions) restarts xs s' (omega (arith, less)) (subst (λ (t : Session). CleanSession t xs s')
+      same rest) in
       record {
-        over = λ v. let b = e.over v in (b.0, omega (arith, b.1), omega (arith, b.2, waits x clean, waits_on x xs));
+        over = λ v. let b = e.over v in (b.0, omega (arith, b.1), omega (arith, b.2, waits x clean, waits_in_cons x xs));
         enough = λ h. e.enough (omega (arith, h));
       }
 
-  pub lasts_on : (s : Step) (n u k : ℕ) → ((x : Seen) → IsClean plan w s x → one_wait x ≡ k) →
-      ((x : Seen) (h : AnyHeard) → IsClean plan w s x → DfuseSeenMeaning plan w s x h → Onward plan w p s h n u) →
-      Lasts plan (stand w p s) (suc n) (k + u)
-  lasts_on s n u k waits on = record { runs = on_runs s n u k waits on }
+  pub step_lasts_one_more : (s : Step) (n u k : ℕ) → ((x : Seen) → IsCleanResult plan w s x → wait_count_of x ≡ k) →
+      ((x : Seen) (h : AnyHeard) → IsCleanResult plan w s x → DfuseSeenMeaning plan w s x h → LeadsToLastingPhase plan w p s h n u) →
+      CleanRunLasts plan (phase_with_step w p s) (suc n) (k + u)
+  step_lasts_one_more s n u k waits on = record { runs = step_finishes_after_next s n u k waits on }
 
-  pub asked : (s : Step) (n u : ℕ) → ((x : Seen) → IsClean plan w s x → one_wait x ≡ 0) →
-      ((x : Seen) (h : AnyHeard) → IsClean plan w s x → DfuseSeenMeaning plan w s x h → Onward plan w p s h n u) →
-      Lasts plan (stand w p s) (suc n) u
-  asked s n u waits on = count_as plan (stand w p s) (suc n) (suc n) (0 + u) u refl (omega arith) (lasts_on s n u 0 waits on)
+  pub request_lasts_one_more : (s : Step) (n u : ℕ) → ((x : Seen) → IsCleanResult plan w s x → wait_count_of x ≡ 0) →
+      ((x : Seen) (h : AnyHeard) → IsCleanResult plan w s x → DfuseSeenMeaning plan w s x h → LeadsToLastingPhase plan w p s h n u) →
+      CleanRunLasts plan (phase_with_step w p s) (suc n) u
+  request_lasts_one_more s n u waits on = lasts_by_equal_counts plan (phase_with_step w p s) (suc n) (suc n) (0 + u) u refl (omega arith)
+      (step_lasts_one_more s n u 0 waits on)
 
-  -- A request that is acknowledged.
-  pub acked : (s : Step) (next : Phase) (n u : ℕ) → ((x : Seen) → IsClean plan w s x → x ≡ seen.Ack) →
+  -- A request that is acknowledged takes one result more than the phase after it.
+  pub acked_request_lasts_one_more : (s : Step) (next : Phase) (n u : ℕ) → ((x : Seen) → IsCleanResult plan w s x → x ≡ seen.Ack) →
       ((h : AnyHeard) → DfuseSeenMeaning plan w s seen.Ack h → (actions restarts : ℕ) →
-      dfuse_step_after (session_at plan (stand w p s) actions restarts) w p s h ≡
-      dfuse_spent (session_at plan (stand w p s) actions restarts) next restarts) →
-      Lasts plan next n u → Lasts plan (stand w p s) (suc n) u
-  acked s next n u is comes l = asked s n u (λ x c. ap one_wait (is x c))
+      session_after_step_heard (session_in_phase plan (phase_with_step w p s) actions restarts) w p s h ≡
+      session_after_action (session_in_phase plan (phase_with_step w p s) actions restarts) next restarts) →
+      CleanRunLasts plan next n u → CleanRunLasts plan (phase_with_step w p s) (suc n) u
+  acked_request_lasts_one_more s next n u is comes l = request_lasts_one_more s n u (λ x c. ap wait_count_of (is x c))
       (λ x h c hears. record {
         next = next;
-        lasts = l;
+        next_phase_lasts = l;
         comes = comes h (subst (λ (y : Seen). DfuseSeenMeaning plan w s y h) (is x c) hears);
       })

@@ -13,180 +13,218 @@ use Rattle.dfuse_host.specs.declared.step.Step.{Step}
 use Rattle.dfuse_host.specs.declared.step.Step.TheVariants as step
 use Rattle.dfuse_host.specs.declared.seen.Seen.{Seen}
 use Rattle.dfuse_host.specs.declared.seen.Seen.TheVariants as seen
-use Rattle.dfuse_host.specs.Settling.{settle}
+use Rattle.dfuse_host.specs.Settling.{settled_phase}
 use Rattle.dfuse_host.specs.Table.{state_found, on_abort, on_ask_state, on_clear_wait}
 use Rattle.dfuse_host.specs.Wire.{DfuseReadsState, DfuseSeenMeaning}
-use Rattle.dfuse_host.proofs.ForCallers.{AnyHeard, by_heard}
-use Rattle.dfuse_link.specs.Chips.{Chip, Order, Doing, Rests, Pending, Busy, state_in, Device}
-use Rattle.dfuse_link.specs.Reactions.{Reaction, Acks, Data, Stalls, Reacts, stalls, shows, aborts, clears}
-use Rattle.dfuse_link.specs.Histories.{Arrives, never, again, SeenOfReaction}
-use Rattle.dfuse_link.proofs.Claims.{SaysState}
-use Rattle.dfuse_link.proofs.Changes.{IsNow, behind_stall}
-use Rattle.dfuse_link.proofs.Safe.{SafeAt}
+use Rattle.dfuse_host.proofs.ForCallers.{AnyHeard, fact_of_each_heard}
+use Rattle.dfuse_link.specs.Chips.{Chip, Order, DeviceWork, RestsInState, Pending, CarriesOut, state_in, Device}
+use Rattle.dfuse_link.specs.Reactions.{Reaction, Acks, Data, Stalls, Reacts, stalls, shows, aborts, clears_error}
+use Rattle.dfuse_link.specs.Histories.{RequestArrives, never, again, SeenOfReaction}
+use Rattle.dfuse_link.proofs.Claims.{HeardSaysState}
+use Rattle.dfuse_link.proofs.Changes.{IsSafeBeforeStart, fact_after_stall}
+use Rattle.dfuse_link.proofs.Safe.{IsSafeAt}
 
-pub safe_now : (chip : Chip) (a : ℕ) (doing : Doing) → SafeAt chip a doing → IsNow chip a doing
-safe_now chip a (Rests s) safe = tt
-safe_now chip a (Pending order) safe = tt
-safe_now chip a (Busy order) safe = safe
+pub safe_byte_is_safe_before_start : (chip : Chip) (a : ℕ) (device_work : DeviceWork) → IsSafeAt chip a device_work →
+    IsSafeBeforeStart chip a device_work
+safe_byte_is_safe_before_start chip a (RestsInState s) safe = tt
+safe_byte_is_safe_before_start chip a (Pending order) safe = tt
+safe_byte_is_safe_before_start chip a (CarriesOut order) safe = safe
 
--- A device that is cleared may have an order that isn't started, as long as GETSTATUS isn't sent.
-abbrev pub OwnAt : Chip → (a : ℕ) → Step → Doing → Type 0
-OwnAt chip a step.Abort doing = IsNow chip a doing
-OwnAt chip a step.AskState doing = IsNow chip a doing
-OwnAt chip a (step.ClearWait ms) doing = IsNow chip a doing
-OwnAt chip a step.ClearStatus doing = IsNow chip a doing
-OwnAt chip a s doing = SafeAt chip a doing
+-- At a step that clears the device, only an order that isn't started may change the byte, because GETSTATUS isn't sent; at any other step
+-- no order may.
+abbrev pub IsOwnByteAtStep : Chip → (a : ℕ) → Step → DeviceWork → Type 0
+IsOwnByteAtStep chip a step.Abort device_work = IsSafeBeforeStart chip a device_work
+IsOwnByteAtStep chip a step.AskState device_work = IsSafeBeforeStart chip a device_work
+IsOwnByteAtStep chip a (step.ClearWait ms) device_work = IsSafeBeforeStart chip a device_work
+IsOwnByteAtStep chip a step.ClearStatus device_work = IsSafeBeforeStart chip a device_work
+IsOwnByteAtStep chip a s device_work = IsSafeAt chip a device_work
 
--- The byte is the session's own in a phase.
-abbrev pub OwnIn : Chip → (a : ℕ) → Phase → Doing → Type 0
-OwnIn chip a (On s) doing = OwnAt chip a s.step doing
-OwnIn chip a (Over r) doing = IsNow chip a doing
+-- In the phase, no order that is carried out may change the byte at `a`, and none that waits may but while the device is cleared.
+abbrev pub IsOwnByteInPhase : Chip → (a : ℕ) → Phase → DeviceWork → Type 0
+IsOwnByteInPhase chip a (On s) device_work = IsOwnByteAtStep chip a s.step device_work
+IsOwnByteInPhase chip a (Over r) device_work = IsSafeBeforeStart chip a device_work
 
-step_own : (chip : Chip) (a : ℕ) (s : Step) (doing : Doing) → SafeAt chip a doing → OwnAt chip a s doing
-step_own chip a step.Abort doing safe = safe_now chip a doing safe
-step_own chip a step.AskState doing safe = safe_now chip a doing safe
-step_own chip a (step.ClearWait ms) doing safe = safe_now chip a doing safe
-step_own chip a step.ClearStatus doing safe = safe_now chip a doing safe
-step_own chip a s doing safe = safe
+safe_byte_is_own_at_step : (chip : Chip) (a : ℕ) (s : Step) (device_work : DeviceWork) → IsSafeAt chip a device_work →
+    IsOwnByteAtStep chip a s device_work
+safe_byte_is_own_at_step chip a step.Abort device_work safe = safe_byte_is_safe_before_start chip a device_work safe
+safe_byte_is_own_at_step chip a step.AskState device_work safe = safe_byte_is_safe_before_start chip a device_work safe
+safe_byte_is_own_at_step chip a (step.ClearWait ms) device_work safe = safe_byte_is_safe_before_start chip a device_work safe
+safe_byte_is_own_at_step chip a step.ClearStatus device_work safe = safe_byte_is_safe_before_start chip a device_work safe
+safe_byte_is_own_at_step chip a s device_work safe = safe
 
-pub phase_own : (chip : Chip) (a : ℕ) (p : Phase) (doing : Doing) → SafeAt chip a doing → OwnIn chip a p doing
-phase_own chip a (On s) doing safe = step_own chip a s.step doing safe
-phase_own chip a (Over r) doing safe = safe_now chip a doing safe
+pub safe_byte_is_own_in_phase : (chip : Chip) (a : ℕ) (p : Phase) (device_work : DeviceWork) → IsSafeAt chip a device_work →
+    IsOwnByteInPhase chip a p device_work
+safe_byte_is_own_in_phase chip a (On s) device_work safe = safe_byte_is_own_at_step chip a s.step device_work safe
+safe_byte_is_own_in_phase chip a (Over r) device_work safe = safe_byte_is_safe_before_start chip a device_work safe
 
-own_step : (chip : Chip) (a : ℕ) (s : Step) (doing : Doing) → OwnAt chip a s doing → IsNow chip a doing
-own_step chip a step.Abort doing own = own
-own_step chip a step.AskState doing own = own
-own_step chip a (step.ClearWait ms) doing own = own
-own_step chip a step.ClearStatus doing own = own
-own_step chip a s doing own = safe_now chip a doing own
+own_byte_at_step_is_safe : (chip : Chip) (a : ℕ) (s : Step) (device_work : DeviceWork) → IsOwnByteAtStep chip a s device_work →
+    IsSafeBeforeStart chip a device_work
+own_byte_at_step_is_safe chip a step.Abort device_work own = own
+own_byte_at_step_is_safe chip a step.AskState device_work own = own
+own_byte_at_step_is_safe chip a (step.ClearWait ms) device_work own = own
+own_byte_at_step_is_safe chip a step.ClearStatus device_work own = own
+own_byte_at_step_is_safe chip a s device_work own = safe_byte_is_safe_before_start chip a device_work own
 
-pub own_now : (chip : Chip) (a : ℕ) (p : Phase) (doing : Doing) → OwnIn chip a p doing → IsNow chip a doing
-own_now chip a (On s) doing own = own_step chip a s.step doing own
-own_now chip a (Over r) doing own = own
+pub own_byte_in_phase_is_safe : (chip : Chip) (a : ℕ) (p : Phase) (device_work : DeviceWork) → IsOwnByteInPhase chip a p device_work →
+    IsSafeBeforeStart chip a device_work
+own_byte_in_phase_is_safe chip a (On s) device_work own = own_byte_at_step_is_safe chip a s.step device_work own
+own_byte_in_phase_is_safe chip a (Over r) device_work own = own
 
 -- ---- requests that start nothing
 
--- The byte stays, and nothing is started.
-pub record KeepsNow (chip : Chip) (a : ℕ) (d d' : Device) : Type 0 where
+-- The byte stays, and no order that may change it is started.
+pub record KeepsByteUnstarted (chip : Chip) (a : ℕ) (d d' : Device) : Type 0 where
   pub byte : d'.memory a ≡ d.memory a
-  pub now : IsNow chip a d.doing → IsNow chip a d'.doing
+  pub now : IsSafeBeforeStart chip a d.device_work → IsSafeBeforeStart chip a d'.device_work
 
 module _ (chip : Chip) (a : ℕ) where
-  abort_now : (d : Device) (body : List ℕ) (r : Reaction) (d' : Device) → Reacts chip d request.Abort body r d' → KeepsNow chip a d d'
-  abort_now d body _ _ (stalls _ _ doing may is) =
-      behind_stall (λ (t : Doing). KeepsNow chip a d (record d { doing = t })) d.doing doing is (record { byte = refl; now = λ x. x })
+  abort_starts_nothing : (d : Device) (body : List ℕ) (r : Reaction) (d' : Device) → Reacts chip d request.Abort body r d' →
+      KeepsByteUnstarted chip a d d'
+  abort_starts_nothing d body _ _ (stalls _ _ device_work may is) =
+      fact_after_stall (λ (t : DeviceWork). KeepsByteUnstarted chip a d (record d { device_work = t })) d.device_work device_work is
+      (record { byte = refl; now = λ x. x })
       (record { byte = refl; now = λ x. tt })
-  abort_now d body _ _ (aborts _ may) = record { byte = refl; now = λ x. tt }
+  abort_starts_nothing d body _ _ (aborts _ may) = record { byte = refl; now = λ x. tt }
 
-  state_now : (d : Device) (n : ℕ) (body : List ℕ) (r : Reaction) (d' : Device) → Reacts chip d (request.GetState n) body r d' →
-      KeepsNow chip a d d'
-  state_now d n body _ _ (stalls _ _ doing may is) =
-      behind_stall (λ (t : Doing). KeepsNow chip a d (record d { doing = t })) d.doing doing is (record { byte = refl; now = λ x. x })
+  get_state_starts_nothing : (d : Device) (n : ℕ) (body : List ℕ) (r : Reaction) (d' : Device) →
+      Reacts chip d (request.GetState n) body r d' →
+      KeepsByteUnstarted chip a d d'
+  get_state_starts_nothing d n body _ _ (stalls _ _ device_work may is) =
+      fact_after_stall (λ (t : DeviceWork). KeepsByteUnstarted chip a d (record d { device_work = t })) d.device_work device_work is
+      (record { byte = refl; now = λ x. x })
       (record { byte = refl; now = λ x. tt })
-  state_now d n body _ _ (shows _ _) = record { byte = refl; now = λ x. x }
+  get_state_starts_nothing d n body _ _ (shows _ _) = record { byte = refl; now = λ x. x }
 
-  clear_now : (d : Device) (body : List ℕ) (r : Reaction) (d' : Device) → Reacts chip d request.ClrStatus body r d' → KeepsNow chip a d d'
-  clear_now d body _ _ (stalls _ _ doing may is) =
-      behind_stall (λ (t : Doing). KeepsNow chip a d (record d { doing = t })) d.doing doing is (record { byte = refl; now = λ x. x })
+  clear_status_starts_nothing : (d : Device) (body : List ℕ) (r : Reaction) (d' : Device) → Reacts chip d request.ClrStatus body r d' →
+      KeepsByteUnstarted chip a d d'
+  clear_status_starts_nothing d body _ _ (stalls _ _ device_work may is) =
+      fact_after_stall (λ (t : DeviceWork). KeepsByteUnstarted chip a d (record d { device_work = t })) d.device_work device_work is
+      (record { byte = refl; now = λ x. x })
       (record { byte = refl; now = λ x. tt })
-  clear_now d body _ _ (clears _ e) = record { byte = refl; now = λ x. tt }
+  clear_status_starts_nothing d body _ _ (clears_error _ e) = record { byte = refl; now = λ x. tt }
 
-  pub all_now : (q : Request) (body : List ℕ) → ((d : Device) (r : Reaction) (d' : Device) → Reacts chip d q body r d' →
-      KeepsNow chip a d d') →
-      (d : Device) (r : Option Reaction) (d' : Device) → Arrives chip q body d r d' → KeepsNow chip a d d'
-  all_now q body each d _ _ never = record { byte = refl; now = λ x. x }
-  all_now q body each d _ d' (again {before = before} {mid = mid} {reaction = reaction} first last) =
-      let k = all_now q body each d before mid first in
+  pub arriving_request_starts_nothing : (q : Request) (body : List ℕ) → ((d : Device) (r : Reaction) (d' : Device) →
+      Reacts chip d q body r d' →
+      KeepsByteUnstarted chip a d d') →
+      (d : Device) (r : Option Reaction) (d' : Device) → RequestArrives chip q body d r d' → KeepsByteUnstarted chip a d d'
+  arriving_request_starts_nothing q body each d _ _ never = record { byte = refl; now = λ x. x }
+  arriving_request_starts_nothing q body each d _ d' (again {before = before} {mid = mid} {reaction = reaction} first last) =
+      let k = arriving_request_starts_nothing q body each d before mid first in
       let l = each mid reaction d' last in
       record { byte = l.byte ∙ k.byte; now = λ x. l.now (k.now x) }
 
-  pub aborts_now : (body : List ℕ) (d : Device) (r : Option Reaction) (d' : Device) → Arrives chip request.Abort body d r d' →
-      KeepsNow chip a d d'
-  aborts_now body d r d' comes = all_now request.Abort body (λ x t y step. abort_now x body t y step) d r d' comes
+  pub arriving_aborts_start_nothing : (body : List ℕ) (d : Device) (r : Option Reaction) (d' : Device) →
+      RequestArrives chip request.Abort body d r d' →
+      KeepsByteUnstarted chip a d d'
+  arriving_aborts_start_nothing body d r d' comes = arriving_request_starts_nothing request.Abort body (λ x t y step. abort_starts_nothing
+      x body t y step) d r d' comes
 
-  pub states_now : (n : ℕ) (body : List ℕ) (d : Device) (r : Option Reaction) (d' : Device) →
-      Arrives chip (request.GetState n) body d r d' → KeepsNow chip a d d'
-  states_now n body d r d' comes = all_now (request.GetState n) body (λ x t y step. state_now x n body t y step) d r d' comes
+  pub arriving_get_states_start_none : (n : ℕ) (body : List ℕ) (d : Device) (r : Option Reaction) (d' : Device) →
+      RequestArrives chip (request.GetState n) body d r d' → KeepsByteUnstarted chip a d d'
+  arriving_get_states_start_none n body d r d' comes = arriving_request_starts_nothing (request.GetState n) body (λ x t y step.
+      get_state_starts_nothing x n body t y step) d r d' comes
 
-  pub clears_now : (body : List ℕ) (d : Device) (r : Option Reaction) (d' : Device) → Arrives chip request.ClrStatus body d r d' →
-      KeepsNow chip a d d'
-  clears_now body d r d' comes = all_now request.ClrStatus body (λ x t y step. clear_now x body t y step) d r d' comes
+  pub arriving_clears_start_nothing : (body : List ℕ) (d : Device) (r : Option Reaction) (d' : Device) →
+      RequestArrives chip request.ClrStatus body d r d' →
+      KeepsByteUnstarted chip a d d'
+  arriving_clears_start_nothing body d r d' comes = arriving_request_starts_nothing request.ClrStatus body (λ x t y step.
+      clear_status_starts_nothing x body t y step) d r d' comes
 
-  not_pending : (doing : Doing) (n : ℕ) →
-      ((order : Order) (m : ℕ) → doing ≡ Pending order → request.GetState n ≡ request.GetState m → ⊥) → IsNow chip a doing →
-      SafeAt chip a doing
-  not_pending (Rests s) n may now = λ x. x
-  not_pending (Pending order) n may now = absurd (may order n refl refl)
-  not_pending (Busy order) n may now = now
+  no_pending_order_is_safe : (device_work : DeviceWork) (n : ℕ) →
+      ((order : Order) (m : ℕ) → device_work ≡ Pending order → request.GetState n ≡ request.GetState m → ⊥) →
+      IsSafeBeforeStart chip a device_work →
+      IsSafeAt chip a device_work
+  no_pending_order_is_safe (RestsInState s) n may now = λ x. x
+  no_pending_order_is_safe (Pending order) n may now = absurd (may order n refl refl)
+  no_pending_order_is_safe (CarriesOut order) n may now = now
 
-  -- A GETSTATE that is stalled shows that nothing waits to be started.
-  stalled_by : (d : Device) (n : ℕ) (body : List ℕ) (r : Reaction) (d' : Device) → r ≡ Stalls →
+  -- A stalled GETSTATE shows that no order waits to be started.
+  stalled_get_state_is_safe : (d : Device) (n : ℕ) (body : List ℕ) (r : Reaction) (d' : Device) → r ≡ Stalls →
       Reacts chip d (request.GetState n) body r d' →
-      IsNow chip a d.doing → SafeAt chip a d'.doing
-  stalled_by d n body _ _ e (stalls _ _ doing may is) now =
-      behind_stall (SafeAt chip a) d.doing doing is (not_pending d.doing n may now) (λ x. x)
-  stalled_by d n body _ _ e (shows _ _) now = cc
+      IsSafeBeforeStart chip a d.device_work → IsSafeAt chip a d'.device_work
+  stalled_get_state_is_safe d n body _ _ e (stalls _ _ device_work may is) now =
+      fact_after_stall (IsSafeAt chip a) d.device_work device_work is (no_pending_order_is_safe d.device_work n may now) (λ x. x)
+  stalled_get_state_is_safe d n body _ _ e (shows _ _) now = cc
 
-  pub stalled_now : (d : Device) (n : ℕ) (body : List ℕ) (d' : Device) → Arrives chip (request.GetState n) body d (Some Stalls) d' →
-      IsNow chip a d.doing → SafeAt chip a d'.doing
-  stalled_now d n body d' (again {before = before} {mid = mid} first last) now =
-      stalled_by mid n body Stalls d' refl last ((states_now n body d before mid first).now now)
+  pub arriving_stall_is_safe : (d : Device) (n : ℕ) (body : List ℕ) (d' : Device) →
+      RequestArrives chip (request.GetState n) body d (Some Stalls) d' →
+      IsSafeBeforeStart chip a d.device_work → IsSafeAt chip a d'.device_work
+  arriving_stall_is_safe d n body d' (again {before = before} {mid = mid} first last) now =
+      stalled_get_state_is_safe mid n body Stalls d' refl last ((arriving_get_states_start_none n body d before mid first).now now)
 
   -- ---- rows of clearing
 
-  -- If a stall is heard, nothing waits to be started.
-  abbrev pub StallSafe : AnyHeard → Doing → Type 0
-  StallSafe h doing =
-      by_heard (λ _. Type 0) (Unit {0}) (λ s. Unit {0}) (λ s. Unit {0}) (λ b. Unit {0}) (SafeAt chip a doing) (Unit {0}) (Unit {0})
+  -- If a stall is heard, no order that waits may change the byte.
+  abbrev pub SafeIfStallHeard : AnyHeard → DeviceWork → Type 0
+  SafeIfStallHeard h device_work =
+      fact_of_each_heard (λ _. Type 0) (Unit {0}) (λ s. Unit {0}) (λ s. Unit {0}) (λ b. Unit {0}) (IsSafeAt chip a device_work) (Unit {0})
+      (Unit {0})
       (Unit {0}) h
 
-  no_stall : (bytes : List ℕ) (h : AnyHeard) (doing : Doing) → DfuseReadsState bytes h → StallSafe h doing
-  no_stall bytes h doing =
-      by_heard (λ x. DfuseReadsState bytes x → StallSafe x doing) (λ e. tt) (λ s e. tt) (λ s e. tt) (λ b e. tt) (λ e. absurd e) (λ e. tt)
+  read_state_is_no_stall : (bytes : List ℕ) (h : AnyHeard) (device_work : DeviceWork) → DfuseReadsState bytes h →
+      SafeIfStallHeard h device_work
+  read_state_is_no_stall bytes h device_work =
+      fact_of_each_heard (λ x. DfuseReadsState bytes x → SafeIfStallHeard x device_work) (λ e. tt) (λ s e. tt) (λ s e. tt) (λ b e. tt) (λ
+      e. absurd e) (λ e. tt)
       (λ e. tt) (λ e. tt) h
 
-  pub stall_heard : (plan : Plan) (w : Work) (h : AnyHeard) (d : Device) (body : List ℕ) (r : Option Reaction) (d' : Device) (x : Seen) →
+  pub heard_stall_is_safe : (plan : Plan) (w : Work) (h : AnyHeard) (d : Device) (body : List ℕ) (r : Option Reaction) (d' : Device) (x :
+      Seen) →
       SeenOfReaction r x →
-      Arrives chip (request.GetState 1) body d r d' → DfuseSeenMeaning plan w step.AskState x h → IsNow chip a d.doing
-      → StallSafe h d'.doing
-  stall_heard plan w h d body (Some Stalls) d' seen.Stall is comes e now =
-      subst (λ y. StallSafe y d'.doing) (sym e) (stalled_now d 1 body d' comes now)
-  stall_heard plan w h d body (Some Acks) d' seen.Stall is comes e now = absurd is
-  stall_heard plan w h d body (Some (Data bytes)) d' seen.Stall is comes e now = absurd is
-  stall_heard plan w h d body None d' seen.Stall is comes e now = absurd is
-  stall_heard plan w h d body r d' (seen.Bytes given) is comes e now = no_stall given.now h d'.doing e
-  stall_heard plan w h d body r d' seen.Ack is comes e now = subst (λ y. StallSafe y d'.doing) (sym e) tt
-  stall_heard plan w h d body r d' seen.Nothing is comes e now = subst (λ y. StallSafe y d'.doing) (sym e) tt
-  stall_heard plan w h d body r d' seen.Waited is comes e now = subst (λ y. StallSafe y d'.doing) (sym e) tt
-  stall_heard plan w h d body r d' seen.Restarted is comes e now = subst (λ y. StallSafe y d'.doing) (sym e) tt
+      RequestArrives chip (request.GetState 1) body d r d' → DfuseSeenMeaning plan w step.AskState x h →
+      IsSafeBeforeStart chip a d.device_work
+      → SafeIfStallHeard h d'.device_work
+  heard_stall_is_safe plan w h d body (Some Stalls) d' seen.Stall is comes e now =
+      subst (λ y. SafeIfStallHeard y d'.device_work) (sym e) (arriving_stall_is_safe d 1 body d' comes now)
+  heard_stall_is_safe plan w h d body (Some Acks) d' seen.Stall is comes e now = absurd is
+  heard_stall_is_safe plan w h d body (Some (Data bytes)) d' seen.Stall is comes e now = absurd is
+  heard_stall_is_safe plan w h d body None d' seen.Stall is comes e now = absurd is
+  heard_stall_is_safe plan w h d body r d' (seen.Bytes given) is comes e now = read_state_is_no_stall given.now h d'.device_work e
+  heard_stall_is_safe plan w h d body r d' seen.Ack is comes e now = subst (λ y. SafeIfStallHeard y d'.device_work) (sym e) tt
+  heard_stall_is_safe plan w h d body r d' seen.Nothing is comes e now = subst (λ y. SafeIfStallHeard y d'.device_work) (sym e) tt
+  heard_stall_is_safe plan w h d body r d' seen.Waited is comes e now = subst (λ y. SafeIfStallHeard y d'.device_work) (sym e) tt
+  heard_stall_is_safe plan w h d body r d' seen.Restarted is comes e now = subst (λ y. SafeIfStallHeard y d'.device_work) (sym e) tt
 
-  pub abort_own : (w : Work) (doing : Doing) (h : AnyHeard) → IsNow chip a doing → OwnIn chip a (on_abort w h) doing
-  abort_own w doing h now =
-      by_heard (λ x. OwnIn chip a (on_abort w x) doing) now (λ s. now) (λ s. now) (λ b. now) now now now now h
+  pub abort_row_keeps_own_byte : (w : Work) (device_work : DeviceWork) (h : AnyHeard) → IsSafeBeforeStart chip a device_work →
+      IsOwnByteInPhase chip a (on_abort w h) device_work
+  abort_row_keeps_own_byte w device_work h now =
+      fact_of_each_heard (λ x. IsOwnByteInPhase chip a (on_abort w x) device_work) now (λ s. now) (λ s. now) (λ b. now) now now now now h
 
-  pub clear_wait_own : (w : Work) (ms : ℕ) (doing : Doing) (h : AnyHeard) → IsNow chip a doing → OwnIn chip a (on_clear_wait w ms h) doing
-  clear_wait_own w ms doing h now =
-      by_heard (λ x. OwnIn chip a (on_clear_wait w ms x) doing) now (λ s. now) (λ s. now) (λ b. now) now now now now h
+  pub clear_wait_row_keeps_own_byte : (w : Work) (ms : ℕ) (device_work : DeviceWork) (h : AnyHeard) → IsSafeBeforeStart chip a device_work
+      → IsOwnByteInPhase chip a (on_clear_wait w ms h) device_work
+  clear_wait_row_keeps_own_byte w ms device_work h now =
+      fact_of_each_heard (λ x. IsOwnByteInPhase chip a (on_clear_wait w ms x) device_work) now (λ s. now) (λ s. now) (λ b. now) now now now
+      now h
 
-  not_synced : (doing : Doing) (t : State) → state_in doing ≡ t → (t ≡ state.DownloadSync → ⊥) → IsNow chip a doing → SafeAt chip a doing
-  not_synced (Rests s) t e other now = λ x. x
-  not_synced (Pending order) t e other now = absurd (other (sym e))
-  not_synced (Busy order) t e other now = now
+  state_other_than_sync_is_safe : (device_work : DeviceWork) (t : State) → state_in device_work ≡ t → (t ≡ state.DownloadSync → ⊥) →
+      IsSafeBeforeStart chip a device_work
+      → IsSafeAt chip a device_work
+  state_other_than_sync_is_safe (RestsInState s) t e other now = λ x. x
+  state_other_than_sync_is_safe (Pending order) t e other now = absurd (other (sym e))
+  state_other_than_sync_is_safe (CarriesOut order) t e other now = now
 
-  found_own : (plan : Plan) (w : Work) (doing : Doing) (t : State) → state_in doing ≡ t → IsNow chip a doing →
-      OwnIn chip a (state_found plan w t) doing
-  found_own plan w doing state.DfuIdle e now = phase_own chip a (settle plan w place.Lost) doing
-      (not_synced doing state.DfuIdle e (λ x. cc) now)
-  found_own plan w doing state.DownloadBusy e now = not_synced doing state.DownloadBusy e (λ x. cc) now
-  found_own plan w doing state.Manifest e now = not_synced doing state.Manifest e (λ x. cc) now
-  found_own plan w doing state.ManifestWaitReset e now = not_synced doing state.ManifestWaitReset e (λ x. cc) now
-  found_own plan w doing state.Error e now = not_synced doing state.Error e (λ x. cc) now
-  found_own plan w doing t e now = now
+  found_state_keeps_own_byte : (plan : Plan) (w : Work) (device_work : DeviceWork) (t : State) → state_in device_work ≡ t →
+      IsSafeBeforeStart chip a device_work →
+      IsOwnByteInPhase chip a (state_found plan w t) device_work
+  found_state_keeps_own_byte plan w device_work state.DfuIdle e now = safe_byte_is_own_in_phase chip a (settled_phase plan w place.Lost)
+      device_work
+      (state_other_than_sync_is_safe device_work state.DfuIdle e (λ x. cc) now)
+  found_state_keeps_own_byte plan w device_work state.DownloadBusy e now = state_other_than_sync_is_safe device_work state.DownloadBusy e
+      (λ x. cc) now
+  found_state_keeps_own_byte plan w device_work state.Manifest e now = state_other_than_sync_is_safe device_work state.Manifest e (λ x. cc)
+      now
+  found_state_keeps_own_byte plan w device_work state.ManifestWaitReset e now = state_other_than_sync_is_safe device_work
+      state.ManifestWaitReset e (λ x. cc) now
+  found_state_keeps_own_byte plan w device_work state.Error e now = state_other_than_sync_is_safe device_work state.Error e (λ x. cc) now
+  found_state_keeps_own_byte plan w device_work t e now = now
 
-  pub ask_state_own : (plan : Plan) (w : Work) (doing : Doing) (h : AnyHeard) → SaysState h (state_in doing) → StallSafe h doing →
-      IsNow chip a doing →
-      OwnIn chip a (on_ask_state plan w h) doing
-  ask_state_own plan w doing h says safe now =
-      by_heard (λ x. SaysState x (state_in doing) → StallSafe x doing → OwnIn chip a (on_ask_state plan w x) doing)
-      (λ f g. now) (λ s f g. now) (λ s f g. found_own plan w doing s f now) (λ b f g. now) (λ f g. g) (λ f g. now) (λ f g. now)
+  pub ask_state_row_keeps_own_byte : (plan : Plan) (w : Work) (device_work : DeviceWork) (h : AnyHeard) →
+      HeardSaysState h (state_in device_work) → SafeIfStallHeard h device_work →
+      IsSafeBeforeStart chip a device_work →
+      IsOwnByteInPhase chip a (on_ask_state plan w h) device_work
+  ask_state_row_keeps_own_byte plan w device_work h says safe now =
+      fact_of_each_heard (λ x. HeardSaysState x (state_in device_work) → SafeIfStallHeard x device_work →
+      IsOwnByteInPhase chip a (on_ask_state plan w x) device_work)
+      (λ f g. now) (λ s f g. now) (λ s f g. found_state_keeps_own_byte plan w device_work s f now) (λ b f g. now) (λ f g. g) (λ f g. now)
+      (λ f g. now)
       (λ f g. now) h says safe

@@ -7,91 +7,97 @@ use Rattle.dfuse_host.specs.declared.phase.Phase.TheVariants.{On, Over}
 use Rattle.dfuse_host.specs.declared.seen.Seen.{Seen}
 use Rattle.dfuse_host.specs.declared.session.Session.{Session}
 use Rattle.dfuse_host.specs.Refusing.{is_empty}
-use Rattle.dfuse_host.specs.ReadBack.{OnlyReadBack, ClosesAlways}
-use Rattle.dfuse_host.specs.Touching.{Touches, TouchesIn, TouchesAlways, OnlyTouched}
-use Rattle.dfuse_host.specs.Sessions.{initial_dfuse, dfuse_after}
-use Rattle.dfuse_link.specs.Chips.{Chip, Order, Doing, Busy, Device, Advances}
+use Rattle.dfuse_host.specs.ReadBack.{OnlyReadBack, AlwaysClosesAfterCompare}
+use Rattle.dfuse_host.specs.Touching.{WorkTouchesImage, PhaseTouchesImage, WorkAlwaysTouchesImage, OnlyTouchedPagesChange}
+use Rattle.dfuse_host.specs.Sessions.{initial_dfuse_session, session_after_heard}
+use Rattle.dfuse_link.specs.Chips.{Chip, Order, DeviceWork, CarriesOut, Device, DeviceAdvances}
 use Rattle.dfuse_link.specs.Histories.{History, so_far, passes, turns}
-use Rattle.dfuse_link.specs.Promises.{IsFor}
-use Rattle.dfuse_link.specs.Touched.{OthersStay}
-use Rattle.dfuse_link.proofs.Rows.{turn_row}
-use Rattle.dfuse_host.proofs.RunLaws.{plan_after}
-use Rattle.dfuse_link.proofs.Staying.{InPhase, turn_stays, passes_stays}
-use Rattle.dfuse_link.proofs.Passing.{passes_so}
-use Rattle.dfuse_link.proofs.Turns.{IsSo, turn_so}
-use Rattle.dfuse_link.proofs.Verified.{begins_so}
-use Rattle.dfuse_link.proofs.Changes.{IsNow}
-use Rattle.dfuse_link.proofs.Own.{OwnIn}
-use Rattle.dfuse_link.proofs.SentOwn.{Apart, step_none}
-use Rattle.dfuse_link.proofs.Pairs.{Paired, Turned, pair}
+use Rattle.dfuse_link.specs.Promises.{IsPlanFor}
+use Rattle.dfuse_link.specs.Touched.{OtherPagesStay}
+use Rattle.dfuse_link.proofs.Rows.{turn_is_session_row}
+use Rattle.dfuse_host.proofs.RunLaws.{phase_after_keeps_plan}
+use Rattle.dfuse_link.proofs.Staying.{HoldsInPhase, turn_keeps_own_byte, advance_keeps_own_byte}
+use Rattle.dfuse_link.proofs.Passing.{session_facts_as_device_advances}
+use Rattle.dfuse_link.proofs.Turns.{SessionFactsHold, session_facts_after_turn}
+use Rattle.dfuse_link.proofs.Verified.{session_facts_at_begin}
+use Rattle.dfuse_link.proofs.Changes.{IsSafeBeforeStart}
+use Rattle.dfuse_link.proofs.Own.{IsOwnByteInPhase}
+use Rattle.dfuse_link.proofs.SentOwn.{IsOnOtherPage, step_leaves_other_page}
+use Rattle.dfuse_link.proofs.Pairs.{DeviceAndSession, IsTurnOfBoth, device_with_session}
 
 -- ---- what is so at each moment
 
--- The byte is as at first, and it stays so.
-record IsKept (chip : Chip) (a : ℕ) (first : Device) (l : Paired) : Type 0 where
-  so : IsSo chip l
-  apart : Apart chip l.session.plan a
-  touches : TouchesIn l.session.plan l.session.phase
-  own : OwnIn chip a l.session.phase l.device.doing
+-- The byte at `a` is as at first, and stays so.
+record IsOtherByteKept (chip : Chip) (a : ℕ) (first : Device) (l : DeviceAndSession) : Type 0 where
+  so : SessionFactsHold chip l
+  apart : IsOnOtherPage chip l.session.plan a
+  touches : PhaseTouchesImage l.session.plan l.session.phase
+  own : IsOwnByteInPhase chip a l.session.phase l.device.device_work
   byte : l.device.memory a ≡ first.memory a
 
-pub is_filled : (chip : Chip) (plan : Plan) → IsFor chip plan → is_empty plan.image.now ≡ false
-is_filled chip plan for = false_from_ne_true (is_empty plan.image.now) for.sound.0.0.0.0.0.0.1
+pub plan_image_is_filled : (chip : Chip) (plan : Plan) → IsPlanFor chip plan → is_empty plan.image.now ≡ false
+plan_image_is_filled chip plan for = false_from_ne_true (is_empty plan.image.now) for.sound.0.0.0.0.0.0.1
 
-in_touches : (plan : Plan) (p : Phase) → TouchesIn plan p → InPhase (Touches plan) p
-in_touches plan (On s) h = h
-in_touches plan (Over r) h = h
+touching_phase_has_touching_work : (plan : Plan) (p : Phase) → PhaseTouchesImage plan p → HoldsInPhase (WorkTouchesImage plan) p
+touching_phase_has_touching_work plan (On s) h = h
+touching_phase_has_touching_work plan (Over r) h = h
 
-module _ (read : OnlyReadBack) (closes : ClosesAlways) (always : TouchesAlways) (only : OnlyTouched) (chip : Chip) (a : ℕ)
+module _ (read : OnlyReadBack) (closes : AlwaysClosesAfterCompare) (always : WorkAlwaysTouchesImage) (only : OnlyTouchedPagesChange) (chip
+    : Chip) (a : ℕ)
     (first : Device) where
-  turn_kept : (l l' : Paired) (x : Seen) → Turned chip l x l' → IsKept chip a first l → IsKept chip a first l'
-  turn_kept l l' x turn k =
-      let row = turn_row chip l l' x turn in
+  turn_keeps_other_byte : (l l' : DeviceAndSession) (x : Seen) → IsTurnOfBoth chip l x l' → IsOtherByteKept chip a first l →
+      IsOtherByteKept chip a first l'
+  turn_keeps_other_byte l l' x turn k =
+      let row = turn_is_session_row chip l l' x turn in
       let plan : l.session.plan ≡ l'.session.plan =
-      sym (ap (λ (t : Session). t.plan) row.same ∙ plan_after l.session l.session.phase row.heard) in
-      let phase : (dfuse_after l.session row.heard).phase ≡ l'.session.phase = sym (ap (λ (t : Session). t.phase) row.same) in
-      let touches = always.1 l.session row.heard (is_filled chip l.session.plan k.so.for) k.so.closes k.touches in
-      let stays = turn_stays chip a (Touches l.session.plan) l l'
-      (λ w p at d t. step_none only chip l.session.plan a k.apart k.so.for w p at d t) x turn
-      (in_touches l.session.plan l.session.phase k.touches) k.so.stands k.own in
+      sym (ap (λ (t : Session). t.plan) row.same ∙ phase_after_keeps_plan l.session l.session.phase row.heard) in
+      let phase : (session_after_heard l.session row.heard).phase ≡ l'.session.phase = sym (ap (λ (t : Session). t.phase) row.same) in
+      let touches = always.1 l.session row.heard (plan_image_is_filled chip l.session.plan k.so.for) k.so.closes k.touches in
+      let stays = turn_keeps_own_byte chip a (WorkTouchesImage l.session.plan) l l'
+      (λ w p at d t. step_leaves_other_page only chip l.session.plan a k.apart k.so.for w p at d t) x turn
+      (touching_phase_has_touching_work l.session.plan l.session.phase k.touches) k.so.stands k.own in
       record {
-        so = turn_so chip read closes l l' x turn k.so;
-        apart = subst (λ (q : Plan). Apart chip q a) plan k.apart;
-        touches = subst (λ (p : Phase). TouchesIn l'.session.plan p) phase
-            (subst (λ (q : Plan). TouchesIn q (dfuse_after l.session row.heard).phase) plan touches);
+        so = session_facts_after_turn chip read closes l l' x turn k.so;
+        apart = subst (λ (q : Plan). IsOnOtherPage chip q a) plan k.apart;
+        touches = subst (λ (p : Phase). PhaseTouchesImage l'.session.plan p) phase
+            (subst (λ (q : Plan). PhaseTouchesImage q (session_after_heard l.session row.heard).phase) plan touches);
         own = stays.own;
         byte = stays.byte ∙ k.byte;
       }
 
-  passes_kept : (l : Paired) (d : Device) → Advances chip l.device d → IsKept chip a first l →
-      IsKept chip a first (record { device = d; session = l.session })
-  passes_kept l d x k =
-      let stays = passes_stays chip a l d x k.own in
+  advance_keeps_other_byte : (l : DeviceAndSession) (d : Device) → DeviceAdvances chip l.device d → IsOtherByteKept chip a first l →
+      IsOtherByteKept chip a first (record { device = d; session = l.session })
+  advance_keeps_other_byte l d x k =
+      let stays = advance_keeps_own_byte chip a l d x k.own in
       record {
-        so = passes_so chip l d x k.so;
+        so = session_facts_as_device_advances chip l d x k.so;
         apart = k.apart;
         touches = k.touches;
         own = stays.own;
         byte = stays.byte ∙ k.byte;
       }
 
-  history_kept : (d d' : Device) (s s' : Session) (seens : List Seen) → History chip d s seens d' s' → IsKept chip a first (pair d s) →
-      IsKept chip a first (pair d' s')
-  history_kept d _ s _ _ so_far k = k
-  history_kept d d' s s' seens (passes mid more rest) k = history_kept mid d' s s' seens rest (passes_kept (pair d s) mid more k)
-  history_kept d d' s s' (x ∷ seens) (turns {mid = mid} {at = at} turn rest) k =
-      history_kept mid d' at s' seens rest (turn_kept (pair d s) (pair mid at) x turn k)
+  history_keeps_other_byte : (d d' : Device) (s s' : Session) (seens : List Seen) → History chip d s seens d' s' →
+      IsOtherByteKept chip a first (device_with_session d s) →
+      IsOtherByteKept chip a first (device_with_session d' s')
+  history_keeps_other_byte d _ s _ _ so_far k = k
+  history_keeps_other_byte d d' s s' seens (passes mid more rest) k = history_keeps_other_byte mid d' s s' seens rest
+      (advance_keeps_other_byte (device_with_session d s) mid more k)
+  history_keeps_other_byte d d' s s' (x ∷ seens) (turns {mid = mid} {at = at} turn rest) k =
+      history_keeps_other_byte mid d' at s' seens rest (turn_keeps_other_byte (device_with_session d s) (device_with_session mid at) x turn
+      k)
 
-pub idle_now : (chip : Chip) (a : ℕ) (doing : Doing) → ((order : Order) → doing ≡ Busy order → ⊥) → IsNow chip a doing
-idle_now chip a (Busy order) idle = absurd (idle order refl)
-idle_now chip a doing idle = tt
+pub idle_work_is_safe_before_start : (chip : Chip) (a : ℕ) (device_work : DeviceWork) → ((order : Order) → device_work
+    ≡ CarriesOut order → ⊥) → IsSafeBeforeStart chip a device_work
+idle_work_is_safe_before_start chip a (CarriesOut order) idle = absurd (idle order refl)
+idle_work_is_safe_before_start chip a device_work idle = tt
 
-pub others_stay : OnlyReadBack → ClosesAlways → TouchesAlways → OnlyTouched → OthersStay
-others_stay read closes always only chip plan limits d d' s seens a for map idle history untouched =
-    (history_kept read closes always only chip a d d d' (initial_dfuse plan limits) s seens history (record {
-      so = begins_so chip plan limits d for;
-      apart = record { untouched = untouched; map = map };
-      touches = always.0 plan limits (is_filled chip plan for);
-      own = idle_now chip a d.doing idle;
+pub others_stay : OnlyReadBack → AlwaysClosesAfterCompare → WorkAlwaysTouchesImage → OnlyTouchedPagesChange → OtherPagesStay
+others_stay read closes always only chip plan limits d d' s seens a for map idle history page_is_untouched =
+    (history_keeps_other_byte read closes always only chip a d d d' (initial_dfuse_session plan limits) s seens history (record {
+      so = session_facts_at_begin chip plan limits d for;
+      apart = record { page_is_untouched = page_is_untouched; map = map };
+      touches = always.0 plan limits (plan_image_is_filled chip plan for);
+      own = idle_work_is_safe_before_start chip a d.device_work idle;
       byte = refl;
     })).byte

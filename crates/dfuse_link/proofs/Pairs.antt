@@ -3,22 +3,22 @@ use Rattle.dfuse_host.specs.declared.plan.Plan.{Plan}
 use Rattle.dfuse_host.specs.declared.limits.Limits.{Limits}
 use Rattle.dfuse_host.specs.declared.session.Session.{Session}
 use Rattle.dfuse_host.specs.declared.seen.Seen.{Seen}
-use Rattle.dfuse_host.specs.Sessions.{initial_dfuse}
+use Rattle.dfuse_host.specs.Sessions.{initial_dfuse_session}
 use Rattle.dfuse_link.specs.Chips.{Chip, Device}
-use Rattle.dfuse_link.specs.Histories.{Turn}
+use Rattle.dfuse_link.specs.Histories.{SessionTurn}
 
-pub record Paired : Type 0 where
+pub record DeviceAndSession : Type 0 where
   pub device : Device
   pub session : Session
 
--- The two.
-abbrev pub pair : Device → Session → Paired
-pair d s = record { device = d; session = s }
+-- A device and a session with it.
+abbrev pub device_with_session : Device → Session → DeviceAndSession
+device_with_session d s = record { device = d; session = s }
 
 -- A session begins with a device.
-abbrev pub met : Device → Plan → Limits → Paired
-met d plan limits = pair d (initial_dfuse plan limits)
+abbrev pub session_begun_with : Device → Plan → Limits → DeviceAndSession
+session_begun_with d plan limits = device_with_session d (initial_dfuse_session plan limits)
 
--- A turn of the two.
-abbrev pub Turned : Chip → Paired → Seen → Paired → Type 0
-Turned chip l x l' = Turn chip l.device l.session x l'.device l'.session
+-- A turn of a device and its session.
+abbrev pub IsTurnOfBoth : Chip → DeviceAndSession → Seen → DeviceAndSession → Type 0
+IsTurnOfBoth chip l x l' = SessionTurn chip l.device l.session x l'.device l'.session

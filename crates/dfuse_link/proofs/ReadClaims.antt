@@ -1,4 +1,4 @@
--- A byte that was read back is the image's.
+-- A byte that was read back is the byte of the image.
 use Rattle.std.proofs.Common.{◌≡◌, ℕ, ◌+◌, ◌-◌, ◌*◌, ◌/◌, ◌%◌, ◌^◌, ◌<◌, ◌≤◌, Bool, true, false, cond, eqb, leb, List, [], length, get_or, take, drop, Option, Some, None, refl, sym, ap, ◌∙◌, subst, arith, length-take, length-drop}
 use Rattle.std.specs.Str.{bytes_eq}
 use Rattle.std.proofs.lemmas.Bool.{leb-true, eqb-true, and_parts}
@@ -16,31 +16,31 @@ use Rattle.dfuse_host.specs.Images.{end_of, element_at}
 use Rattle.dfuse_host.specs.Plans.{block_size, element_end, read_end}
 use Rattle.dfuse_host.specs.Settling.{can_read}
 use Rattle.dfuse_host.specs.Commands.{end_of_work, bytes_in}
-use Rattle.dfuse_host.specs.Deeds.{stands_at, read_bytes, upload_block, deed_of}
+use Rattle.dfuse_host.specs.Deeds.{stands_at, read_bytes, upload_block, deed_of_step}
 use Rattle.dfuse_host.specs.Refusing.{apart_from}
 use Rattle.dfuse_host.specs.ReadBack.{ReadsBack}
-use Rattle.dfuse_host.specs.Wire.{DfuseSeenMeaning, compared}
-use Rattle.dfuse_host.proofs.ForCallers.{AnyHeard, compared_as, heard_nothing}
+use Rattle.dfuse_host.specs.Wire.{DfuseSeenMeaning, heard_of_compare}
+use Rattle.dfuse_host.proofs.ForCallers.{AnyHeard, heard_comparison, heard_nothing}
 use Rattle.dfuse_link.specs.Chips.{Chip, Device}
-use Rattle.dfuse_link.specs.Reactions.{Reaction, Acks, Data, Stalls, BytesInMemoryAt, Reacts, gives, lists}
-use Rattle.dfuse_link.specs.Histories.{Arrives, again, SeenOfReaction}
-use Rattle.dfuse_link.proofs.Claims.{IsQuiet, Knows, CanRead, Stands}
-use Rattle.dfuse_link.proofs.Deviced.{uploads_quiet}
-use Rattle.dfuse_link.proofs.SentClaims.{ArrivesBy}
-use Rattle.dfuse_link.proofs.Safe.{SafeAt}
-use Rattle.dfuse_link.proofs.Bytes.{byte_of, byte_at, found_at, same_element, byte_in_part}
+use Rattle.dfuse_link.specs.Reactions.{Reaction, Acks, Data, Stalls, BytesInMemoryAt, Reacts, gives, gives_other_bytes}
+use Rattle.dfuse_link.specs.Histories.{RequestArrives, again, SeenOfReaction}
+use Rattle.dfuse_link.proofs.Claims.{IsQuiet, KnowsPointer, CanReadWork, DeviceFitsStep}
+use Rattle.dfuse_link.proofs.Deviced.{arriving_uploads_keep_quiet}
+use Rattle.dfuse_link.proofs.SentClaims.{DeedArrives}
+use Rattle.dfuse_link.proofs.Safe.{IsSafeAt}
+use Rattle.dfuse_link.proofs.Bytes.{byte_of_element_at, byte_at, found_element_has_address, later_address_same_element, byte_in_part}
 
 -- ---- where the bytes come from
 
--- Bytes that can be read from a base.
-record ReadsFrom (plan : Plan) (base at : ℕ) : Type 0 where
+-- The bytes from `at` on are a whole number of blocks after `base`, few enough for a block number.
+record BlockReadableFrom (plan : Plan) (base at : ℕ) : Type 0 where
   low : base ≤ at
   whole : (at - base) % block_size plan ≡ 0
   few : (at - base) / block_size plan ≤ 65533
 
-reads_from : (plan : Plan) (base at : ℕ) → can_read plan base at ≡ true → ReadsFrom plan base at
+readable_block_facts : (plan : Plan) (base at : ℕ) → can_read plan base at ≡ true → BlockReadableFrom plan base at
 unfolding can_read
-reads_from plan base at h =
+readable_block_facts plan base at h =
     let one = and_parts (leb base at) _ h in
     let two = and_parts (eqb ((at - base) % block_size plan) 0) _ one.1 in
     let three = and_parts (leb ((at - base) / block_size plan) 65533) _ two.1 in
@@ -51,31 +51,31 @@ reads_from plan base at h =
           leb-true ((at - base) / block_size plan) 65533 three.0;
     }
 
-small_rest : (n : ℕ) → n ≤ 65533 → n % 65534 + 2 - 2 ≡ n
-small_rest n h = grind arith
+small_block_number_kept : (n : ℕ) → n ≤ 65533 → n % 65534 + 2 - 2 ≡ n
+small_block_number_kept n h = grind arith
 
-whole_blocks : (x n : ℕ) → 1 ≤ n → x % n ≡ 0 → x / n * n ≡ x
-whole_blocks x n some h = grind arith
+multiple_of_whole_blocks : (x n : ℕ) → 1 ≤ n → x % n ≡ 0 → x / n * n ≡ x
+multiple_of_whole_blocks x n some h = grind arith
 
-block_is : (plan : Plan) (base at : ℕ) → upload_block plan (place.Reading base) at ≡ (at - base) / block_size plan % 65534 + 2
+upload_block_of_base : (plan : Plan) (base at : ℕ) → upload_block plan (place.Reading base) at ≡ (at - base) / block_size plan % 65534 + 2
 unfolding upload_block
-block_is plan base at = refl
+upload_block_of_base plan base at = refl
 
-pub block_from_two : (plan : Plan) (p : Place) (at : ℕ) → 2 ≤ upload_block plan p at
+pub upload_block_is_two_at_least : (plan : Plan) (p : Place) (at : ℕ) → 2 ≤ upload_block plan p at
 unfolding upload_block
-block_from_two plan p at = omega arith
+upload_block_is_two_at_least plan p at = omega arith
 
--- The bytes of the block are those from the address on.
+-- The bytes of the block that is asked for are those from `at` on.
 from_there : (plan : Plan) (transfer base at pointer : ℕ) → can_read plan base at ≡ true → plan.transfer ≡ transfer → 1 ≤ transfer →
     at < 2 ^ 32 →
     pointer ≡ base % 2 ^ 32 → pointer + (upload_block plan (place.Reading base) at - 2) * transfer ≡ at
 from_there plan transfer base at pointer can e some fits known =
-    let reads = reads_from plan base at can in
+    let reads = readable_block_facts plan base at can in
     let size : block_size plan ≡ transfer = omega (arith, e, some) in
     let same : upload_block plan (place.Reading base) at - 2 ≡ (at - base) / block_size plan =
-    ap (λ (n : ℕ). n - 2) (block_is plan base at) ∙ small_rest ((at - base) / block_size plan) reads.few in
+    ap (λ (n : ℕ). n - 2) (upload_block_of_base plan base at) ∙ small_block_number_kept ((at - base) / block_size plan) reads.few in
     let whole : (at - base) / block_size plan * block_size plan ≡ at - base =
-    whole_blocks (at - base) (block_size plan) (omega (arith, size, some)) reads.whole in
+    multiple_of_whole_blocks (at - base) (block_size plan) (omega (arith, size, some)) reads.whole in
     let there : (upload_block plan (place.Reading base) at - 2) * transfer ≡ at - base =
     ap (λ (n : ℕ). n * transfer) same ∙ ap (λ (n : ℕ). (at - base) / block_size plan * n) (sym size) ∙ whole in
     let low : pointer ≡ base = omega (arith, known, fits, reads.low) in
@@ -83,13 +83,13 @@ from_there plan transfer base at pointer can e some fits known =
 
 -- ---- what they are
 
-part_is : (plan : Plan) (at end : ℕ) (e : Element) → element_at at plan.image.now ≡ Some e →
+bytes_in_of_element : (plan : Plan) (at end : ℕ) (e : Element) → element_at at plan.image.now ≡ Some e →
     bytes_in plan at end ≡ take (end - at) (drop (at - e.address) e.bytes.now)
-part_is plan at end e h =
+bytes_in_of_element plan at end e h =
     ap (λ (o : Option Element). elim o as (λ _. List ℕ) [ None ↦ [] | Some x ↦ take (end - at) (drop (at - x.address) x.bytes.now) ]) h
 
-ends_there : (plan : Plan) (at : ℕ) (e : Element) → element_at at plan.image.now ≡ Some e → element_end plan at ≡ end_of e
-ends_there plan at e h = ap (λ (o : Option Element). elim o as (λ _. ℕ) [ None ↦ at | Some x ↦ end_of x ]) h
+element_end_if_found : (plan : Plan) (at : ℕ) (e : Element) → element_at at plan.image.now ≡ Some e → element_end plan at ≡ end_of e
+element_end_if_found plan at e h = ap (λ (o : Option Element). elim o as (λ _. ℕ) [ None ↦ at | Some x ↦ end_of x ]) h
 
 ends_here : (plan : Plan) (at : ℕ) → element_at at plan.image.now ≡ None → element_end plan at ≡ at
 ends_here plan at h = ap (λ (o : Option Element). elim o as (λ _. ℕ) [ None ↦ at | Some x ↦ end_of x ]) h
@@ -98,25 +98,27 @@ read_within : (plan : Plan) (at end : ℕ) → (read_end plan at end ≤ element
 unfolding read_end
 read_within plan at end = (omega arith, omega arith)
 
-by_element : (plan : Plan) (at end a : ℕ) (o : Option Element) → element_at at plan.image.now ≡ o → apart_from 0 plan.image.now ≡ true →
+read_is_image_byte : (plan : Plan) (at end a : ℕ) (o : Option Element) → element_at at plan.image.now ≡ o → apart_from 0 plan.image.now
+    ≡ true →
     at ≤ a →
     a < read_end plan at end → get_or (bytes_in plan at (read_end plan at end)) (a - at) 0 ≡ byte_at a plan.image.now
-by_element plan at end a None h apart low high = absurd (omega (arith, low, high, (read_within plan at end).0, ends_here plan at h))
-by_element plan at end a (Some e) h apart low high =
-    let there = found_at at 0 e plan.image.now apart h in
-    let later : a < end_of e = omega (arith, high, (read_within plan at end).0, ends_there plan at e h) in
-    ap (λ (xs : List ℕ). get_or xs (a - at) 0) (part_is plan at (read_end plan at end) e h)
+read_is_image_byte plan at end a None h apart low high = absurd (omega (arith, low, high, (read_within plan at end).0, ends_here plan at h))
+read_is_image_byte plan at end a (Some e) h apart low high =
+    let there = found_element_has_address at 0 e plan.image.now apart h in
+    let later : a < end_of e = omega (arith, high, (read_within plan at end).0, element_end_if_found plan at e h) in
+    ap (λ (xs : List ℕ). get_or xs (a - at) 0) (bytes_in_of_element plan at (read_end plan at end) e h)
     ∙ byte_in_part e at a (read_end plan at end) there.1 low high
-    ∙ sym (ap (byte_of a) (same_element at a 0 e plan.image.now apart h low later))
+    ∙ sym (ap (byte_of_element_at a) (later_address_same_element at a 0 e plan.image.now apart h low later))
 
-long_by : (plan : Plan) (at end a : ℕ) (o : Option Element) → element_at at plan.image.now ≡ o → apart_from 0 plan.image.now ≡ true →
+byte_within_read : (plan : Plan) (at end a : ℕ) (o : Option Element) → element_at at plan.image.now ≡ o → apart_from 0 plan.image.now
+    ≡ true →
     at ≤ a →
     a < read_end plan at end → a - at < length (bytes_in plan at (read_end plan at end))
-long_by plan at end a None h apart low high = absurd (omega (arith, low, high, (read_within plan at end).0, ends_here plan at h))
-long_by plan at end a (Some e) h apart low high =
-    let there = found_at at 0 e plan.image.now apart h in
-    let later : a < end_of e = omega (arith, high, (read_within plan at end).0, ends_there plan at e h) in
-    let same = ap length (part_is plan at (read_end plan at end) e h) in
+byte_within_read plan at end a None h apart low high = absurd (omega (arith, low, high, (read_within plan at end).0, ends_here plan at h))
+byte_within_read plan at end a (Some e) h apart low high =
+    let there = found_element_has_address at 0 e plan.image.now apart h in
+    let later : a < end_of e = omega (arith, high, (read_within plan at end).0, element_end_if_found plan at e h) in
+    let same = ap length (bytes_in_of_element plan at (read_end plan at end) e h) in
     let size = length-take (read_end plan at end - at) (drop (at - e.address) e.bytes.now) in
     let rest = length-drop (at - e.address) e.bytes.now in
     omega (arith, same, size, rest, later, there.1, low, high)
@@ -125,56 +127,58 @@ wanted_is : (plan : Plan) (w : Work) → read_bytes plan w ≡ bytes_in plan (st
 unfolding read_bytes
 wanted_is plan w = refl
 
--- The bytes of the image that are wanted are right at each address.
-wanted_at : (plan : Plan) (w : Work) (a : ℕ) → apart_from 0 plan.image.now ≡ true → stands_at w ≤ a →
+-- A byte of the block that is wanted is the byte of the image at its address.
+wanted_byte_is_image_byte : (plan : Plan) (w : Work) (a : ℕ) → apart_from 0 plan.image.now ≡ true → stands_at w ≤ a →
     a < read_end plan (stands_at w) (end_of_work plan w) → get_or (read_bytes plan w) (a - stands_at w) 0 ≡ byte_at a plan.image.now
-wanted_at plan w a apart low high =
+wanted_byte_is_image_byte plan w a apart low high =
     ap (λ (xs : List ℕ). get_or xs (a - stands_at w) 0) (wanted_is plan w)
-    ∙ by_element plan (stands_at w) (end_of_work plan w) a (element_at (stands_at w) plan.image.now) refl apart low high
+    ∙ read_is_image_byte plan (stands_at w) (end_of_work plan w) a (element_at (stands_at w) plan.image.now) refl apart low high
 
-wanted_long : (plan : Plan) (w : Work) (a : ℕ) → apart_from 0 plan.image.now ≡ true → stands_at w ≤ a →
+wanted_byte_in_length : (plan : Plan) (w : Work) (a : ℕ) → apart_from 0 plan.image.now ≡ true → stands_at w ≤ a →
     a < read_end plan (stands_at w) (end_of_work plan w) → a - stands_at w < length (read_bytes plan w)
-wanted_long plan w a apart low high =
+wanted_byte_in_length plan w a apart low high =
     omega (
       arith,
-      long_by plan (stands_at w) (end_of_work plan w) a (element_at (stands_at w) plan.image.now) refl apart low high,
+      byte_within_read plan (stands_at w) (end_of_work plan w) a (element_at (stands_at w) plan.image.now) refl apart low high,
       ap
           length (wanted_is plan w),
     )
 
 -- ---- what was compared
 
--- A byte was read back only if all bytes that came are the wanted ones.
-record Matches (plan : Plan) (w : Work) (given : List ℕ) (a : ℕ) : Type 0 where
+-- A byte counts as read back only if the bytes that came are those of the image.
+record MatchesImage (plan : Plan) (w : Work) (given : List ℕ) (a : ℕ) : Type 0 where
   same : given ≡ read_bytes plan w
   low : stands_at w ≤ a
   high : a < read_end plan (stands_at w) (end_of_work plan w)
 
-matches_by : (plan : Plan) (w : Work) (given : List ℕ) (a : ℕ) (t u : Bool) → bytes_eq given (read_bytes plan w) ≡ u →
-    ReadsBack plan w step.Read (cond t (compared_as u) heard_nothing) a → Matches plan w given a
-matches_by plan w given a true true e h = record { same = (bytes_eq-Decides given (read_bytes plan w)).0 e; low = h.0; high = h.1 }
-matches_by plan w given a true false e h = absurd h
-matches_by plan w given a false u e h = absurd h
+match_by_comparison : (plan : Plan) (w : Work) (given : List ℕ) (a : ℕ) (t u : Bool) → bytes_eq given (read_bytes plan w) ≡ u →
+    ReadsBack plan w step.Read (cond t (heard_comparison u) heard_nothing) a → MatchesImage plan w given a
+match_by_comparison plan w given a true true e h = record { same = (bytes_eq-Decides given (read_bytes plan w)).0 e; low = h.0; high = h.1 }
+match_by_comparison plan w given a true false e h = absurd h
+match_by_comparison plan w given a false u e h = absurd h
 
-matches : (plan : Plan) (w : Work) (given : List ℕ) (a : ℕ) → ReadsBack plan w step.Read (compared (read_bytes plan w) given) a →
-    Matches plan w given a
-matches plan w given a h =
-    matches_by plan w given a (eqb (length given) (length (read_bytes plan w))) (bytes_eq given (read_bytes plan w)) refl h
+read_back_means_match : (plan : Plan) (w : Work) (given : List ℕ) (a : ℕ) →
+    ReadsBack plan w step.Read (heard_of_compare (read_bytes plan w) given) a →
+    MatchesImage plan w given a
+read_back_means_match plan w given a h =
+    match_by_comparison plan w given a (eqb (length given) (length (read_bytes plan w))) (bytes_eq given (read_bytes plan w)) refl h
 
 -- ---- what the device gave
 
--- The device's bytes are in its memory, and it is quiet.
-record Given (chip : Chip) (p : Place) (block : ℕ) (bytes : List ℕ) (d : Device) : Type 0 where
+-- The bytes that the device gave are in its memory, and its work may change none of them.
+record GaveBytes (chip : Chip) (p : Place) (block : ℕ) (bytes : List ℕ) (d : Device) : Type 0 where
   pointer : ℕ
-  known : Knows p pointer
+  known : KnowsPointer p pointer
   stand : BytesInMemoryAt d.memory (pointer + (block - 2) * chip.transfer) bytes
-  safe : (a : ℕ) → SafeAt chip a d.doing
+  safe : (a : ℕ) → IsSafeAt chip a d.device_work
 
 module _ (chip : Chip) (p : Place) where
-  gave : (d : Device) (block n : ℕ) (body : List ℕ) (r : Reaction) (bytes : List ℕ) (d' : Device) → r ≡ Data bytes → 2 ≤ block →
-      Knows p d.pointer →
-      Reacts chip d (request.Upload block n) body r d' → Given chip p block bytes d'
-  gave d block n body _ bytes _ e from known (gives _ _ _ sent s may two most stands is) =
+  upload_gave_memory : (d : Device) (block n : ℕ) (body : List ℕ) (r : Reaction) (bytes : List ℕ) (d' : Device) → r ≡ Data bytes → 2
+      ≤ block →
+      KnowsPointer p d.pointer →
+      Reacts chip d (request.Upload block n) body r d' → GaveBytes chip p block bytes d'
+  upload_gave_memory d block n body _ bytes _ e from known (gives _ _ _ sent s may two most stands is) =
       let same : sent ≡ bytes = cc in
       record {
         pointer = d.pointer;
@@ -182,60 +186,65 @@ module _ (chip : Chip) (p : Place) where
         stand = subst (λ (xs : List ℕ). BytesInMemoryAt d.memory (d.pointer + (block - 2) * chip.transfer) xs) same stands;
         safe = λ a x. x;
       }
-  gave d block n body _ bytes _ e from known (lists _ _ _ sent may low) = absurd (omega (arith, from, low))
-  gave d block n body r bytes d' e from known step = cc
+  upload_gave_memory d block n body _ bytes _ e from known (gives_other_bytes _ _ _ sent may low) = absurd (omega (arith, from, low))
+  upload_gave_memory d block n body r bytes d' e from known step = cc
 
-  given_of : (d : Device) (block n : ℕ) (body bytes : List ℕ) (d' : Device) → 2 ≤ block → IsQuiet d.doing × Knows p d.pointer →
-      Arrives chip (request.Upload block n) body d (Some (Data bytes)) d' → Given chip p block bytes d'
+  given_of : (d : Device) (block n : ℕ) (body bytes : List ℕ) (d' : Device) → 2 ≤ block → IsQuiet d.device_work × KnowsPointer p d.pointer →
+      RequestArrives chip (request.Upload block n) body d (Some (Data bytes)) d' → GaveBytes chip p block bytes d'
   given_of d block n body bytes d' from known (again {before = before} {mid = mid} first last) =
-      gave mid block n body (Data bytes) bytes d' refl from (uploads_quiet chip p d mid block n body before first known).1 last
+      upload_gave_memory mid block n body (Data bytes) bytes d' refl from (arriving_uploads_keep_quiet chip p d mid block n body before
+      first known).1 last
 
 module _ (chip : Chip) (plan : Plan) (w : Work) (a : ℕ) (transfer : plan.transfer ≡ chip.transfer) (some : 1 ≤ chip.transfer)
     (apart : apart_from 0 plan.image.now ≡ true) (fits : a < 2 ^ 32) where
-  right_by : (p : Place) (given : List ℕ) (d : Device) → CanRead plan w p → Given chip p (upload_block plan p (stands_at w)) given d →
-      Matches plan w given a → d.memory a ≡ byte_at a plan.image.now
-  right_by place.Lost given d can g m = absurd can
-  right_by (place.At p) given d can g m = absurd can
-  right_by (place.Reading base) given d can g m =
+  matched_byte_is_right : (p : Place) (given : List ℕ) (d : Device) → CanReadWork plan w p →
+      GaveBytes chip p (upload_block plan p (stands_at w)) given d →
+      MatchesImage plan w given a → d.memory a ≡ byte_at a plan.image.now
+  matched_byte_is_right place.Lost given d can g m = absurd can
+  matched_byte_is_right (place.At p) given d can g m = absurd can
+  matched_byte_is_right (place.Reading base) given d can g m =
       let there : g.pointer + (upload_block plan (place.Reading base) (stands_at w) - 2) * chip.transfer ≡ stands_at w =
       from_there plan chip.transfer base (stands_at w) g.pointer can transfer some (omega (arith, fits, m.low)) g.known in
       let at : stands_at w + (a - stands_at w) ≡ a = omega (arith, m.low) in
       let value : get_or given (a - stands_at w) 0 ≡ byte_at a plan.image.now =
-      ap (λ (xs : List ℕ). get_or xs (a - stands_at w) 0) m.same ∙ wanted_at plan w a apart m.low m.high in
-      let long : a - stands_at w < length given = omega (arith, ap length m.same, wanted_long plan w a apart m.low m.high) in
+      ap (λ (xs : List ℕ). get_or xs (a - stands_at w) 0) m.same ∙ wanted_byte_is_image_byte plan w a apart m.low m.high in
+      let long : a - stands_at w < length given = omega (arith, ap length m.same, wanted_byte_in_length plan w a apart m.low m.high) in
       ap d.memory (sym at)
       ∙ ap (λ (n : ℕ). d.memory (n + (a - stands_at w))) (sym there)
       ∙ g.stand (a - stands_at w) long
       ∙ value
 
-  read_by : (p : Place) (d d' : Device) (h : AnyHeard) (r : Option Reaction) (given : List ℕ) (bytes : List ℕ) →
-      Stands chip plan w p step.Read d →
-      ArrivesBy chip (deed_of plan w p step.Read) d (Some (Data bytes)) d' → given ≡ bytes → h ≡ compared (read_bytes plan w) given →
-      ReadsBack plan w step.Read h a → (d'.memory a ≡ byte_at a plan.image.now) × SafeAt chip a d'.doing
-  read_by p d d' h r given bytes k comes same e reads =
-      let m = matches plan w given a (subst (λ x. ReadsBack plan w step.Read x a) e reads) in
+  read_byte_by_comparison : (p : Place) (d d' : Device) (h : AnyHeard) (r : Option Reaction) (given : List ℕ) (bytes : List ℕ) →
+      DeviceFitsStep chip plan w p step.Read d →
+      DeedArrives chip (deed_of_step plan w p step.Read) d (Some (Data bytes)) d' → given ≡ bytes → h
+      ≡ heard_of_compare (read_bytes plan w) given
+      →
+      ReadsBack plan w step.Read h a → (d'.memory a ≡ byte_at a plan.image.now) × IsSafeAt chip a d'.device_work
+  read_byte_by_comparison p d d' h r given bytes k comes same e reads =
+      let m = read_back_means_match plan w given a (subst (λ x. ReadsBack plan w step.Read x a) e reads) in
       let g = given_of chip p d (upload_block plan p (stands_at w)) (length (read_bytes plan w)) [] bytes d'
-      (block_from_two plan p (stands_at w))
+      (upload_block_is_two_at_least plan p (stands_at w))
       (k.0, k.1) comes in
-      let h : Given chip p (upload_block plan p (stands_at w)) given d' =
-      subst (λ (xs : List ℕ). Given chip p (upload_block plan p (stands_at w)) xs d') (sym same) g in
-      (right_by p given d' k.2 h m, g.safe a)
+      let h : GaveBytes chip p (upload_block plan p (stands_at w)) given d' =
+      subst (λ (xs : List ℕ). GaveBytes chip p (upload_block plan p (stands_at w)) xs d') (sym same) g in
+      (matched_byte_is_right p given d' k.2 h m, g.safe a)
 
-  no_bytes : (h x : AnyHeard) → h ≡ x → (ReadsBack plan w step.Read x a → ⊥) → ReadsBack plan w step.Read h a → ⊥
-  no_bytes h x e none reads = none (subst (λ y. ReadsBack plan w step.Read y a) e reads)
+  nothing_heard_reads_nothing : (h x : AnyHeard) → h ≡ x → (ReadsBack plan w step.Read x a → ⊥) → ReadsBack plan w step.Read h a → ⊥
+  nothing_heard_reads_nothing h x e none reads = none (subst (λ y. ReadsBack plan w step.Read y a) e reads)
 
-  -- A byte that a session has just read back is the image's, and safe.
-  pub read_right : (p : Place) (d d' : Device) (h : AnyHeard) (r : Option Reaction) (x : Seen) → Stands chip plan w p step.Read d →
-      ArrivesBy chip (deed_of plan w p step.Read) d r d' → SeenOfReaction r x → DfuseSeenMeaning plan w step.Read x h
+  -- A byte that a session has just read back is the byte of the image, and safe.
+  pub read_back_byte_is_right : (p : Place) (d d' : Device) (h : AnyHeard) (r : Option Reaction) (x : Seen) →
+      DeviceFitsStep chip plan w p step.Read d →
+      DeedArrives chip (deed_of_step plan w p step.Read) d r d' → SeenOfReaction r x → DfuseSeenMeaning plan w step.Read x h
       → ReadsBack plan w step.Read h a →
-      (d'.memory a ≡ byte_at a plan.image.now) × SafeAt chip a d'.doing
-  read_right p d d' h (Some (Data bytes)) (seen.Bytes given) k comes is e reads =
-      read_by p d d' h (Some (Data bytes)) given.now bytes k comes is e reads
-  read_right p d d' h (Some Acks) (seen.Bytes given) k comes is e reads = absurd is
-  read_right p d d' h (Some Stalls) (seen.Bytes given) k comes is e reads = absurd is
-  read_right p d d' h None (seen.Bytes given) k comes is e reads = absurd is
-  read_right p d d' h r seen.Ack k comes is e reads = absurd (no_bytes h _ e (λ y. y) reads)
-  read_right p d d' h r seen.Stall k comes is e reads = absurd (no_bytes h _ e (λ y. y) reads)
-  read_right p d d' h r seen.Nothing k comes is e reads = absurd (no_bytes h _ e (λ y. y) reads)
-  read_right p d d' h r seen.Waited k comes is e reads = absurd (no_bytes h _ e (λ y. y) reads)
-  read_right p d d' h r seen.Restarted k comes is e reads = absurd (no_bytes h _ e (λ y. y) reads)
+      (d'.memory a ≡ byte_at a plan.image.now) × IsSafeAt chip a d'.device_work
+  read_back_byte_is_right p d d' h (Some (Data bytes)) (seen.Bytes given) k comes is e reads =
+      read_byte_by_comparison p d d' h (Some (Data bytes)) given.now bytes k comes is e reads
+  read_back_byte_is_right p d d' h (Some Acks) (seen.Bytes given) k comes is e reads = absurd is
+  read_back_byte_is_right p d d' h (Some Stalls) (seen.Bytes given) k comes is e reads = absurd is
+  read_back_byte_is_right p d d' h None (seen.Bytes given) k comes is e reads = absurd is
+  read_back_byte_is_right p d d' h r seen.Ack k comes is e reads = absurd (nothing_heard_reads_nothing h _ e (λ y. y) reads)
+  read_back_byte_is_right p d d' h r seen.Stall k comes is e reads = absurd (nothing_heard_reads_nothing h _ e (λ y. y) reads)
+  read_back_byte_is_right p d d' h r seen.Nothing k comes is e reads = absurd (nothing_heard_reads_nothing h _ e (λ y. y) reads)
+  read_back_byte_is_right p d d' h r seen.Waited k comes is e reads = absurd (nothing_heard_reads_nothing h _ e (λ y. y) reads)
+  read_back_byte_is_right p d d' h r seen.Restarted k comes is e reads = absurd (nothing_heard_reads_nothing h _ e (λ y. y) reads)

@@ -1,4 +1,4 @@
--- A byte that nothing a device has to do may change stays.
+-- A byte stays if no order that the device has may change it.
 use Rattle.std.proofs.Common.{◌≡◌, ℕ, ◌-◌, ◌%◌, ◌^◌, ◌≤◌, ◌⊎◌, inl, inr, Bool, true, false, cond, eqb, List, [], length, take, drop, Option, Some, None, refl, sym, ◌∙◌, subst, arith, length-take}
 use Rattle.std.proofs.lemmas.Bool.{eqb-true}
 use Rattle.dfu_wire.specs.declared.states.State.{State}
@@ -15,168 +15,198 @@ use Rattle.dfuse_host.specs.declared.step.Step.{Step}
 use Rattle.dfuse_host.specs.declared.step.Step.TheVariants as step
 use Rattle.dfuse_host.specs.Images.{element_at}
 use Rattle.dfuse_host.specs.Plans.{front_end, write_end}
-use Rattle.dfuse_host.specs.Commands.{writing, bytes_in}
-use Rattle.dfuse_host.specs.Deeds.{DfuseDeed, Send, Wait, Done, sends, deed_of}
-use Rattle.dfuse_host.specs.ReadBack.{WasRead}
-use Rattle.dfuse_host.proofs.ForCallers.{set_address, write_at}
-use Rattle.dfuse_link.specs.Chips.{Chip, Order, Doing, Rests, Pending, Busy, Device, ChangedBy, Advances, goes_on, ends, fails}
-use Rattle.dfuse_link.specs.Reactions.{Reaction, order_of, set_off, doing_after_status, Reacts, stalls, takes, closes, gives, lists, tells, shows, aborts, clears}
-use Rattle.dfuse_link.specs.Histories.{Arrives, never, again}
-use Rattle.dfuse_link.proofs.Changes.{MayChange, changed_stays, behind_stall, off_keeps, told_keeps}
-use Rattle.dfuse_link.proofs.Claims.{Knows, Stands}
-use Rattle.dfuse_link.proofs.SentClaims.{pointed}
+use Rattle.dfuse_host.specs.Commands.{write_command, bytes_in}
+use Rattle.dfuse_host.specs.Deeds.{DfuseDeed, Send, Wait, Done, command_deed, deed_of_step}
+use Rattle.dfuse_host.specs.ReadBack.{WasReadInWork}
+use Rattle.dfuse_host.proofs.ForCallers.{set_address, write_bytes_at}
+use Rattle.dfuse_link.specs.Chips.{Chip, Order, DeviceWork, RestsInState, Pending, CarriesOut, Device, ChangedBy, DeviceAdvances, goes_on, ends, fails}
+use Rattle.dfuse_link.specs.Reactions.{Reaction, order_of, work_with_order_started, work_after_status, Reacts, stalls, takes, closes, gives, gives_other_bytes, tells, shows, aborts, clears_error}
+use Rattle.dfuse_link.specs.Histories.{RequestArrives, never, again}
+use Rattle.dfuse_link.proofs.Changes.{OrderMayChange, byte_stays_if_safe, fact_after_stall, started_order_keeps_fact, told_status_keeps_fact}
+use Rattle.dfuse_link.proofs.Claims.{KnowsPointer, DeviceFitsStep}
+use Rattle.dfuse_link.proofs.SentClaims.{set_address_order}
 
--- A device that does this may change the byte of this address, once its order is started.
-abbrev pub MayChangeIn : Chip → Doing → (a : ℕ) → Type 0
-MayChangeIn chip (Rests s) a = ⊥
-MayChangeIn chip (Pending order) a = MayChange chip order a
-MayChangeIn chip (Busy order) a = MayChange chip order a
+-- The work may change the byte at `a` once its order is started.
+abbrev pub WorkMayChange : Chip → DeviceWork → (a : ℕ) → Type 0
+WorkMayChange chip (RestsInState s) a = ⊥
+WorkMayChange chip (Pending order) a = OrderMayChange chip order a
+WorkMayChange chip (CarriesOut order) a = OrderMayChange chip order a
 
--- The work of a device doesn't change the byte.
-abbrev pub SafeAt : Chip → (a : ℕ) → Doing → Type 0
-SafeAt chip a doing = MayChangeIn chip doing a → ⊥
+-- The work of a device may not change the byte at `a`, also once its order is started.
+abbrev pub IsSafeAt : Chip → (a : ℕ) → DeviceWork → Type 0
+IsSafeAt chip a device_work = WorkMayChange chip device_work a → ⊥
 
--- A request brings no order that may change the byte.
-abbrev pub BringsNone : Chip → (a : ℕ) → Request → List ℕ → (pointer : ℕ) → Type 0
-BringsNone chip a (request.Dnload block n) body pointer = MayChange chip (order_of chip pointer block body) a → ⊥
-BringsNone chip a q body pointer = Unit {0}
+-- The request brings no order that may change the byte at `a`.
+abbrev pub RequestLeavesByte : Chip → (a : ℕ) → Request → List ℕ → (pointer : ℕ) → Type 0
+RequestLeavesByte chip a (request.Dnload block n) body pointer = OrderMayChange chip (order_of chip pointer block body) a → ⊥
+RequestLeavesByte chip a q body pointer = Unit {0}
 
--- The byte stays, and stays safe.
+-- The byte at `a` stays, and the work may not change it afterwards.
 pub record KeepsByte (chip : Chip) (a : ℕ) (d d' : Device) : Type 0 where
   pub byte : d'.memory a ≡ d.memory a
-  pub safe : SafeAt chip a d'.doing
+  pub safe : IsSafeAt chip a d'.device_work
 
 module _ (chip : Chip) (a : ℕ) where
-  off_safe : (doing : Doing) → SafeAt chip a doing → SafeAt chip a (set_off doing)
-  off_safe doing safe = off_keeps (SafeAt chip a) (λ order h. h) doing safe
+  started_order_is_safe : (device_work : DeviceWork) → IsSafeAt chip a device_work → IsSafeAt chip a (work_with_order_started device_work)
+  started_order_is_safe device_work safe = started_order_keeps_fact (IsSafeAt chip a) (λ order h. h) device_work safe
 
-  told_safe : (doing : Doing) → SafeAt chip a doing → SafeAt chip a (doing_after_status doing)
-  told_safe doing safe = told_keeps (SafeAt chip a) (λ s t h. h) doing safe
+  work_after_status_is_safe : (device_work : DeviceWork) → IsSafeAt chip a device_work → IsSafeAt chip a (work_after_status device_work)
+  work_after_status_is_safe device_work safe = told_status_keeps_fact (IsSafeAt chip a) (λ s t h. h) device_work safe
 
-  order_safe : (doing : Doing) (order : Order) → doing ≡ Busy order → SafeAt chip a doing → MayChange chip order a → ⊥
-  order_safe doing order e safe = subst (SafeAt chip a) e safe
+  busy_order_changes_nothing : (device_work : DeviceWork) (order : Order) → device_work ≡ CarriesOut order →
+      IsSafeAt chip a device_work → OrderMayChange chip order a → ⊥
+  busy_order_changes_nothing device_work order e safe = subst (IsSafeAt chip a) e safe
 
-  pub advances_safe : (d d' : Device) → Advances chip d d' → SafeAt chip a d.doing → KeepsByte chip a d d'
-  advances_safe d d' (goes_on order e e' changed) safe = record {
-    byte = changed_stays chip a (Busy order) d.memory d'.memory changed (order_safe d.doing order e safe);
-    safe = subst (SafeAt chip a) (sym e') (order_safe d.doing order e safe);
+  pub byte_kept_as_device_advances : (d d' : Device) → DeviceAdvances chip d d' → IsSafeAt chip a d.device_work → KeepsByte chip a d d'
+  byte_kept_as_device_advances d d' (goes_on order e e' changed) safe = record {
+    byte = byte_stays_if_safe chip a (CarriesOut order) d.memory d'.memory changed (busy_order_changes_nothing d.device_work order e safe);
+    safe = subst (IsSafeAt chip a) (sym e') (busy_order_changes_nothing d.device_work order e safe);
   }
-  advances_safe d d' (ends order s e e' end changed pointed) safe = record {
-    byte = changed_stays chip a (Busy order) d.memory d'.memory changed (order_safe d.doing order e safe);
-    safe = subst (SafeAt chip a) (sym e') (λ x. x);
+  byte_kept_as_device_advances d d' (ends order s e e' end changed set_address_order) safe = record {
+    byte = byte_stays_if_safe chip a (CarriesOut order) d.memory d'.memory changed (busy_order_changes_nothing d.device_work order e safe);
+    safe = subst (IsSafeAt chip a) (sym e') (λ x. x);
   }
-  advances_safe d d' (fails order e e' changed) safe = record {
-    byte = changed_stays chip a (Busy order) d.memory d'.memory changed (order_safe d.doing order e safe);
-    safe = subst (SafeAt chip a) (sym e') (λ x. x);
+  byte_kept_as_device_advances d d' (fails order e e' changed) safe = record {
+    byte = byte_stays_if_safe chip a (CarriesOut order) d.memory d'.memory changed (busy_order_changes_nothing d.device_work order e safe);
+    safe = subst (IsSafeAt chip a) (sym e') (λ x. x);
   }
 
-  doing_stays : (doing : Doing) (memory memory' : ℕ → ℕ) → ChangedBy chip doing memory memory' → SafeAt chip a doing →
+  safe_work_leaves_byte : (device_work : DeviceWork) (memory memory' : ℕ → ℕ) → ChangedBy chip device_work memory memory' →
+      IsSafeAt chip a device_work →
       memory' a ≡ memory a
-  doing_stays (Rests s) memory memory' changed safe = changed a
-  doing_stays (Pending order) memory memory' changed safe = changed a
-  doing_stays (Busy order) memory memory' changed safe = changed_stays chip a (Busy order) memory memory' changed safe
+  safe_work_leaves_byte (RestsInState s) memory memory' changed safe = changed a
+  safe_work_leaves_byte (Pending order) memory memory' changed safe = changed a
+  safe_work_leaves_byte (CarriesOut order) memory memory' changed safe = byte_stays_if_safe chip a (CarriesOut order) memory memory'
+      changed safe
 
-  -- A device restarts.
-  pub restarts_safe : (d d' : Device) (s : State) → d'.doing ≡ Rests s → ChangedBy chip d.doing d.memory d'.memory →
-      SafeAt chip a d.doing → KeepsByte chip a d d'
-  restarts_safe d d' s rests changed safe = record {
-    byte = doing_stays d.doing d.memory d'.memory changed safe;
-    safe = subst (SafeAt chip a) (sym rests) (λ x. x);
+  -- A restart keeps a byte that the work may not change.
+  pub byte_kept_after_restart : (d d' : Device) (s : State) → d'.device_work ≡ RestsInState s →
+      ChangedBy chip d.device_work d.memory d'.memory →
+      IsSafeAt chip a d.device_work → KeepsByte chip a d d'
+  byte_kept_after_restart d d' s rests changed safe = record {
+    byte = safe_work_leaves_byte d.device_work d.memory d'.memory changed safe;
+    safe = subst (IsSafeAt chip a) (sym rests) (λ x. x);
   }
 
-  mid_safe : (d mid : Device) → (mid ≡ record d { doing = set_off d.doing }) ⊎ Advances chip (record d { doing = set_off d.doing }) mid →
-      SafeAt chip a d.doing →
+  byte_kept_at_status : (d mid : Device) → (mid ≡ record d { device_work = work_with_order_started d.device_work })
+      ⊎ DeviceAdvances chip (record d { device_work = work_with_order_started d.device_work }) mid →
+      IsSafeAt chip a d.device_work →
       KeepsByte chip a d mid
-  mid_safe d mid (inl e) safe =
-      subst (λ (x : Device). KeepsByte chip a d x) (sym e) (record { byte = refl; safe = off_safe d.doing safe })
-  mid_safe d mid (inr w) safe =
-      let k = advances_safe (record d { doing = set_off d.doing }) mid w (off_safe d.doing safe) in
+  byte_kept_at_status d mid (inl e) safe =
+      subst (λ (x : Device). KeepsByte chip a d x) (sym e) (record { byte = refl; safe = started_order_is_safe d.device_work safe })
+  byte_kept_at_status d mid (inr w) safe =
+      let k = byte_kept_as_device_advances (record d { device_work = work_with_order_started d.device_work }) mid w (started_order_is_safe
+      d.device_work safe) in
       record { byte = k.byte; safe = k.safe }
 
-  reacts_safe : (d : Device) (q : Request) (body : List ℕ) (r : Reaction) (d' : Device) → Reacts chip d q body r d' →
-      BringsNone chip a q body d.pointer →
-      SafeAt chip a d.doing → KeepsByte chip a d d' × BringsNone chip a q body d'.pointer
-  reacts_safe d _ _ _ _ (stalls q body doing may is) new safe = (
-    behind_stall (λ (t : Doing). KeepsByte chip a d (record d { doing = t })) d.doing doing is (record { byte = refl; safe = safe })
+  byte_kept_after_reaction : (d : Device) (q : Request) (body : List ℕ) (r : Reaction) (d' : Device) → Reacts chip d q body r d' →
+      RequestLeavesByte chip a q body d.pointer →
+      IsSafeAt chip a d.device_work → KeepsByte chip a d d' × RequestLeavesByte chip a q body d'.pointer
+  byte_kept_after_reaction d _ _ _ _ (stalls q body device_work may is) new safe = (
+    fact_after_stall (λ (t : DeviceWork). KeepsByte chip a d (record d { device_work = t })) d.device_work device_work is (record {
+      byte =
+          refl;
+      safe = safe;
+    })
         (record { byte = refl; safe = λ x. x }),
     new,
   )
-  reacts_safe d _ _ _ _ (takes block n body may some) new safe = (record { byte = refl; safe = new }, new)
-  reacts_safe d _ _ _ _ (closes block n may) new safe = (record { byte = refl; safe = λ x. x }, new)
-  reacts_safe d _ _ _ _ (gives block n body bytes s may from most stands is) new safe = (record { byte = refl; safe = λ x. x }, tt)
-  reacts_safe d _ _ _ _ (lists block n body bytes may low) new safe = (record { byte = refl; safe = λ x. x }, tt)
-  reacts_safe d _ _ _ _ (tells n body bytes status mid way is same) new safe =
-      let k = mid_safe d mid way safe in
-      (record { byte = k.byte; safe = told_safe mid.doing k.safe }, tt)
-  reacts_safe d _ _ _ _ (shows n body) new safe = (record { byte = refl; safe = safe }, tt)
-  reacts_safe d _ _ _ _ (aborts body may) new safe = (record { byte = refl; safe = λ x. x }, tt)
-  reacts_safe d _ _ _ _ (clears body e) new safe = (record { byte = refl; safe = λ x. x }, tt)
+  byte_kept_after_reaction d _ _ _ _ (takes block n body may some) new safe = (record { byte = refl; safe = new }, new)
+  byte_kept_after_reaction d _ _ _ _ (closes block n may) new safe = (record { byte = refl; safe = λ x. x }, new)
+  byte_kept_after_reaction d _ _ _ _ (gives block n body bytes s may from most stands is) new safe = (
+    record {
+      byte = refl;
+      safe = λ x. x;
+    },
+    tt,
+  )
+  byte_kept_after_reaction d _ _ _ _ (gives_other_bytes block n body bytes may low) new safe = (record { byte = refl; safe = λ x. x }, tt)
+  byte_kept_after_reaction d _ _ _ _ (tells n body bytes status mid way is same) new safe =
+      let k = byte_kept_at_status d mid way safe in
+      (record { byte = k.byte; safe = work_after_status_is_safe mid.device_work k.safe }, tt)
+  byte_kept_after_reaction d _ _ _ _ (shows n body) new safe = (record { byte = refl; safe = safe }, tt)
+  byte_kept_after_reaction d _ _ _ _ (aborts body may) new safe = (record { byte = refl; safe = λ x. x }, tt)
+  byte_kept_after_reaction d _ _ _ _ (clears_error body e) new safe = (record { byte = refl; safe = λ x. x }, tt)
 
-  arrives_both : (q : Request) (body : List ℕ) (d : Device) (r : Option Reaction) (d' : Device) → Arrives chip q body d r d' →
-      BringsNone chip a q body d.pointer → SafeAt chip a d.doing → KeepsByte chip a d d' × BringsNone chip a q body d'.pointer
-  arrives_both q body d _ _ never new safe = (record { byte = refl; safe = safe }, new)
-  arrives_both q body d _ d' (again {before = before} {mid = mid} {reaction = reaction} first last) new safe =
-      let k = arrives_both q body d before mid first new safe in
-      let l = reacts_safe mid q body reaction d' last k.1 k.0.safe in
+  arriving_request_keeps_byte : (q : Request) (body : List ℕ) (d : Device) (r : Option Reaction) (d' : Device) →
+      RequestArrives chip q body d r d' →
+      RequestLeavesByte chip a q body d.pointer → IsSafeAt chip a d.device_work → KeepsByte chip a d d'
+      × RequestLeavesByte chip a q body d'.pointer
+  arriving_request_keeps_byte q body d _ _ never new safe = (record { byte = refl; safe = safe }, new)
+  arriving_request_keeps_byte q body d _ d' (again {before = before} {mid = mid} {reaction = reaction} first last) new safe =
+      let k = arriving_request_keeps_byte q body d before mid first new safe in
+      let l = byte_kept_after_reaction mid q body reaction d' last k.1 k.0.safe in
       (record { byte = l.0.byte ∙ k.0.byte; safe = l.0.safe }, l.1)
 
-  -- A request that brings no order that may change the byte leaves it.
-  pub arrives_safe : (q : Request) (body : List ℕ) (d : Device) (r : Option Reaction) (d' : Device) → Arrives chip q body d r d' →
-      BringsNone chip a q body d.pointer → SafeAt chip a d.doing → KeepsByte chip a d d'
-  arrives_safe q body d r d' comes new safe = (arrives_both q body d r d' comes new safe).0
+  -- A request that brings no order that may change the byte leaves the byte as it is.
+  pub byte_kept_as_request_arrives : (q : Request) (body : List ℕ) (d : Device) (r : Option Reaction) (d' : Device) →
+      RequestArrives chip q body d r d' →
+      RequestLeavesByte chip a q body d.pointer → IsSafeAt chip a d.device_work → KeepsByte chip a d d'
+  byte_kept_as_request_arrives q body d r d' comes new safe = (arriving_request_keeps_byte q body d r d' comes new safe).0
 
 -- ---- what a session sends
 
--- An action brings no order that may change the byte.
-abbrev pub DeedBringsNone : Chip → (a : ℕ) → DfuseDeed → (pointer : ℕ) → Type 0
-DeedBringsNone chip a (Send q body) pointer = BringsNone chip a q body pointer
-DeedBringsNone chip a (Wait ms) pointer = Unit {0}
-DeedBringsNone chip a (Done report) pointer = Unit {0}
+-- The request of an action brings no order that may change the byte at `a`.
+abbrev pub DeedLeavesByte : Chip → (a : ℕ) → DfuseDeed → (pointer : ℕ) → Type 0
+DeedLeavesByte chip a (Send q body) pointer = RequestLeavesByte chip a q body pointer
+DeedLeavesByte chip a (Wait ms) pointer = Unit {0}
+DeedLeavesByte chip a (Done report) pointer = Unit {0}
 
 module _ (chip : Chip) (plan : Plan) (a pointer : ℕ) where
-  pub sets_none : (w : Work) (at : ℕ) → DeedBringsNone chip a (sends plan w (set_address at)) pointer
-  sets_none w at = subst (λ (o : Order). MayChange chip o a → ⊥) (sym (pointed chip pointer at)) (λ x. x)
+  pub set_address_leaves_byte : (w : Work) (at : ℕ) → DeedLeavesByte chip a (command_deed plan w (set_address at)) pointer
+  set_address_leaves_byte w at = subst (λ (o : Order). OrderMayChange chip o a → ⊥) (sym (set_address_order chip pointer at)) (λ x. x)
 
-  part_short : (o : Option Element) (at end : ℕ) →
+  part_no_longer_than_range : (o : Option Element) (at end : ℕ) →
       length (elim o as (λ _. List ℕ) [ None ↦ [] | Some e ↦ take (end - at) (drop (at - e.address) e.bytes.now) ]) ≤ end - at
-  part_short None at end = omega arith
-  part_short (Some e) at end = omega (arith, length-take (end - at) (drop (at - e.address) e.bytes.now))
+  part_no_longer_than_range None at end = omega arith
+  part_no_longer_than_range (Some e) at end = omega (arith, length-take (end - at) (drop (at - e.address) e.bytes.now))
 
-  pub part_ends : (at end : ℕ) → length (bytes_in plan at end) ≤ end - at
-  part_ends at end = part_short (element_at at plan.image.now) at end
+  pub bytes_in_within_range : (at end : ℕ) → length (bytes_in plan at end) ≤ end - at
+  bytes_in_within_range at end = part_no_longer_than_range (element_at at plan.image.now) at end
 
-  write_ends : (at end : ℕ) → write_end plan at end ≤ end
+  write_end_not_after_end : (at end : ℕ) → write_end plan at end ≤ end
   unfolding write_end
-  write_ends at end = omega arith
+  write_end_not_after_end at end = omega arith
 
-  writes_none : (at : ℕ) → pointer ≤ at → front_end plan ≤ a → DeedBringsNone chip a (sends plan (work.WriteFront at) (write_at at)) pointer
-  writes_none at low behind = λ may.
-      omega (arith, may.0, may.1, low, behind, part_ends at (write_end plan at (front_end plan)), write_ends at (front_end plan))
+  front_write_leaves_byte : (at : ℕ) → pointer ≤ at → front_end plan ≤ a
+      → DeedLeavesByte chip a (command_deed plan (work.WriteFront at) (write_bytes_at at)) pointer
+  front_write_leaves_byte at low behind = λ may.
+      omega (
+        arith,
+        may.0,
+        may.1,
+        low,
+        behind,
+        bytes_in_within_range at (write_end plan at (front_end plan)),
+        write_end_not_after_end at
+            (front_end plan),
+      )
 
-  front_by : (p : ℕ) (at : ℕ) (t : Bool) → eqb p at ≡ t → pointer ≡ p % 2 ^ 32 → front_end plan ≤ a →
-      DeedBringsNone chip a (sends plan (work.WriteFront at) (cond t (write_at at) (set_address at))) pointer
-  front_by p at true e k behind = writes_none at (omega (arith, k, eqb-true p at e)) behind
-  front_by p at false e k behind = sets_none (work.WriteFront at) at
+  front_command_by_pointer : (p : ℕ) (at : ℕ) (t : Bool) → eqb p at ≡ t → pointer ≡ p % 2 ^ 32 → front_end plan ≤ a →
+      DeedLeavesByte chip a (command_deed plan (work.WriteFront at) (cond t (write_bytes_at at) (set_address at))) pointer
+  front_command_by_pointer p at true e k behind = front_write_leaves_byte at (omega (arith, k, eqb-true p at e)) behind
+  front_command_by_pointer p at false e k behind = set_address_leaves_byte (work.WriteFront at) at
 
-  front_none : (p : Place) (at : ℕ) → Knows p pointer → front_end plan ≤ a →
-      DeedBringsNone chip a (sends plan (work.WriteFront at) (writing p at)) pointer
-  front_none place.Lost at k behind = sets_none (work.WriteFront at) at
-  front_none (place.At p) at k behind = front_by p at (eqb p at) refl k behind
-  front_none (place.Reading p) at k behind = sets_none (work.WriteFront at) at
+  front_command_leaves_byte : (p : Place) (at : ℕ) → KnowsPointer p pointer → front_end plan ≤ a →
+      DeedLeavesByte chip a (command_deed plan (work.WriteFront at) (write_command p at)) pointer
+  front_command_leaves_byte place.Lost at k behind = set_address_leaves_byte (work.WriteFront at) at
+  front_command_leaves_byte (place.At p) at k behind = front_command_by_pointer p at (eqb p at) refl k behind
+  front_command_leaves_byte (place.Reading p) at k behind = set_address_leaves_byte (work.WriteFront at) at
 
-  send_none : (w : Work) (p : Place) → WasRead plan w a → Knows p pointer → DeedBringsNone chip a (deed_of plan w p step.Send) pointer
-  send_none (work.Erase at) p was k = absurd was
-  send_none (work.EraseAgain page end) p was k = absurd was
-  send_none (work.Write at end) p was k = absurd was
-  send_none (work.Compare at) p was k = sets_none (work.Compare at) at
-  send_none (work.WriteFront at) p was k = front_none p at k was
-  send_none (work.CompareFront at) p was k = sets_none (work.CompareFront at) at
-  send_none work.Leave p was k = sets_none work.Leave plan.start
+  send_leaves_read_byte : (w : Work) (p : Place) → WasReadInWork plan w a → KnowsPointer p pointer →
+      DeedLeavesByte chip a (deed_of_step plan w p step.Send) pointer
+  send_leaves_read_byte (work.Erase at) p was k = absurd was
+  send_leaves_read_byte (work.EraseAgain page end) p was k = absurd was
+  send_leaves_read_byte (work.Write at end) p was k = absurd was
+  send_leaves_read_byte (work.Compare at) p was k = set_address_leaves_byte (work.Compare at) at
+  send_leaves_read_byte (work.WriteFront at) p was k = front_command_leaves_byte p at k was
+  send_leaves_read_byte (work.CompareFront at) p was k = set_address_leaves_byte (work.CompareFront at) at
+  send_leaves_read_byte work.Leave p was k = set_address_leaves_byte work.Leave plan.start
 
--- A request that a session sends may not change a byte that was read back.
-pub deed_none : (chip : Chip) (plan : Plan) (a : ℕ) (w : Work) (p : Place) (s : Step) (d : Device) → WasRead plan w a →
-    Stands chip plan w p s d →
-    DeedBringsNone chip a (deed_of plan w p s) d.pointer
-deed_none chip plan a w p step.Send d was stands = send_none chip plan a d.pointer w p was stands.1
-deed_none chip plan a w p step.Close d was stands = λ may. omega (arith, may.0, may.1)
-deed_none chip plan a w p s d was stands = tt
+-- No request of a session may change a byte that was read back.
+pub deed_leaves_read_byte : (chip : Chip) (plan : Plan) (a : ℕ) (w : Work) (p : Place) (s : Step) (d : Device) → WasReadInWork plan w a →
+    DeviceFitsStep chip plan w p s d →
+    DeedLeavesByte chip a (deed_of_step plan w p s) d.pointer
+deed_leaves_read_byte chip plan a w p step.Send d was stands = send_leaves_read_byte chip plan a d.pointer w p was stands.1
+deed_leaves_read_byte chip plan a w p step.Close d was stands = λ may. omega (arith, may.0, may.1)
+deed_leaves_read_byte chip plan a w p s d was stands = tt

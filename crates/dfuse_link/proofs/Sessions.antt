@@ -1,4 +1,4 @@
--- Facts of a device and its session, whatever comes.
+-- The device fits the phase of its session, whatever comes.
 use Rattle.std.proofs.Common.{◌≡◌, sym, subst}
 use Rattle.dfuse_host.specs.declared.work.Work.{Work}
 use Rattle.dfuse_host.specs.declared.place.Place.{Place}
@@ -7,30 +7,33 @@ use Rattle.dfuse_host.specs.declared.step.Step.TheVariants as step
 use Rattle.dfuse_host.specs.declared.session.Session.{Session}
 use Rattle.dfuse_host.specs.Commands.{command_of}
 use Rattle.dfuse_host.specs.Table.{row}
-use Rattle.dfuse_host.specs.Sessions.{resumed, restarted_in, dfuse_step_after}
+use Rattle.dfuse_host.specs.Sessions.{phase_resumed, session_after_restart, session_after_step_heard}
 use Rattle.dfuse_host.proofs.ForCallers.{AnyHeard}
 use Rattle.dfuse_link.specs.Chips.{Chip, Device}
-use Rattle.dfuse_link.proofs.Claims.{StandsIn}
-use Rattle.dfuse_link.proofs.SettlingClaims.{at_unsure}
-use Rattle.dfuse_link.proofs.ToldPhases.{restart_holds, told_holds}
+use Rattle.dfuse_link.proofs.Claims.{DeviceFitsPhase}
+use Rattle.dfuse_link.proofs.SettlingClaims.{device_fits_unsure_phase}
+use Rattle.dfuse_link.proofs.ToldPhases.{fact_holds_after_restart, fact_holds_after_heard}
 
 -- ---- restarts and the budget
 
 module _ (chip : Chip) (s : Session) (d : Device) where
-  at_resumed : (w : Work) (p : Place) (at : Step) → StandsIn chip s.plan (resumed s.plan w p at) d
-  at_resumed w p (step.Poll last) = at_unsure chip s.plan d w (command_of s.plan w p)
-  at_resumed w p (step.PollWait ms) = at_unsure chip s.plan d w (command_of s.plan w p)
-  at_resumed w p at = tt
+  device_fits_resumed_phase : (w : Work) (p : Place) (at : Step) → DeviceFitsPhase chip s.plan (phase_resumed s.plan w p at) d
+  device_fits_resumed_phase w p (step.Poll last) = device_fits_unsure_phase chip s.plan d w (command_of s.plan w p)
+  device_fits_resumed_phase w p (step.PollWait ms) = device_fits_unsure_phase chip s.plan d w (command_of s.plan w p)
+  device_fits_resumed_phase w p at = tt
 
-  pub at_restart : (w : Work) (p : Place) (at : Step) → StandsIn chip s.plan (restarted_in s w p at).phase d
-  at_restart w p at = restart_holds (λ x. StandsIn chip s.plan x d) (λ r. tt) s w p at (at_resumed w p at)
+  pub device_fits_restart_phase : (w : Work) (p : Place) (at : Step) → DeviceFitsPhase chip s.plan (session_after_restart s w p at).phase d
+  device_fits_restart_phase w p at = fact_holds_after_restart (λ x. DeviceFitsPhase chip s.plan x d) (λ r. tt) s w p at
+      (device_fits_resumed_phase w p at)
 
-  -- After what is heard, all is as the table's row says, and after a restart nothing is claimed.
-  pub told_claims : (w : Work) (p : Place) (at : Step) (h : AnyHeard) → StandsIn chip s.plan (row s.plan w p at h) d →
-      StandsIn chip s.plan (dfuse_step_after s w p at h).phase d
-  told_claims w p at h = told_holds (λ x. StandsIn chip s.plan x d) (λ r. tt) s w p at h (at_resumed w p at)
+  -- After what is heard the device fits the phase, if it fits the phase of the table's row.
+  pub device_fits_after_heard : (w : Work) (p : Place) (at : Step) (h : AnyHeard) → DeviceFitsPhase chip s.plan (row s.plan w p at h) d →
+      DeviceFitsPhase chip s.plan (session_after_step_heard s w p at h).phase d
+  device_fits_after_heard w p at h = fact_holds_after_heard (λ x. DeviceFitsPhase chip s.plan x d) (λ r. tt) s w p at h
+      (device_fits_resumed_phase w p at)
 
-  pub restarted_claims : (w : Work) (p : Place) (at : Step) (h x : AnyHeard) → h ≡ x →
-      StandsIn chip s.plan (dfuse_step_after s w p at x).phase d →
-      StandsIn chip s.plan (dfuse_step_after s w p at h).phase d
-  restarted_claims w p at h x e k = subst (λ y. StandsIn chip s.plan (dfuse_step_after s w p at y).phase d) (sym e) k
+  pub device_fits_after_restart : (w : Work) (p : Place) (at : Step) (h x : AnyHeard) → h ≡ x →
+      DeviceFitsPhase chip s.plan (session_after_step_heard s w p at x).phase d →
+      DeviceFitsPhase chip s.plan (session_after_step_heard s w p at h).phase d
+  device_fits_after_restart w p at h x e k = subst (λ y. DeviceFitsPhase chip s.plan (session_after_step_heard s w p at y).phase d) (sym e)
+      k

@@ -1,4 +1,4 @@
--- Facts of a quiet device once a session goes on.
+-- A quiet device fits the phase with which a session goes on.
 use Rattle.std.proofs.Common.{◌≡◌, ℕ, Bool, true, false, cond, eqb, Option, Some, None, refl}
 use Rattle.dfuse_host.specs.declared.plan.Plan.{Plan}
 use Rattle.dfuse_host.specs.declared.phase.Phase.{Phase}
@@ -9,117 +9,130 @@ use Rattle.dfuse_host.specs.declared.place.Place.TheVariants as place
 use Rattle.dfuse_host.specs.declared.step.Step.TheVariants as step
 use Rattle.dfuse_host.specs.Images.{image_start, image_end}
 use Rattle.dfuse_host.specs.Plans.{front_end, page_end, write_end}
-use Rattle.dfuse_host.specs.Settling.{stand, byte_in, can_read, sending, comparing, leaving_by, staying, to_leave, compare_front_or, to_compare_front, write_front_or, to_write_front, compare_or, to_compare, write_or, to_write, erase_or, to_erase, settle}
-use Rattle.dfuse_host.specs.Commands.{command_of, done, erased, after_write, unsure}
+use Rattle.dfuse_host.specs.Settling.{phase_with_step, byte_in, can_read, sending_step, comparing_step, phase_to_set_start, phase_when_compared, to_leave, compare_front_phase_for, to_compare_front, write_front_phase_for, to_write_front, compare_phase_for, to_compare, write_phase_for, to_write, erase_phase_for, to_erase, settled_phase}
+use Rattle.dfuse_host.specs.Commands.{command_of, phase_after_command, phase_after_erase, phase_after_write, phase_if_unsure}
 use Rattle.dfuse_host.specs.Deeds.{stands_at}
-use Rattle.dfuse_host.proofs.ForCallers.{AnyCommand, by_command}
+use Rattle.dfuse_host.proofs.ForCallers.{AnyCommand, fact_of_each_command}
 use Rattle.dfuse_link.specs.Chips.{Chip, Device}
-use Rattle.dfuse_link.proofs.Claims.{IsQuiet, Knows, IsDone, Stands, StandsIn}
-use Rattle.dfuse_link.proofs.Deviced.{have_quiet}
+use Rattle.dfuse_link.proofs.Claims.{IsQuiet, KnowsPointer, IsCommandDone, DeviceFitsStep, DeviceFitsPhase}
+use Rattle.dfuse_link.proofs.Deviced.{quiet_work_may_have_command}
 
-module _ (chip : Chip) (plan : Plan) (d : Device) (quiet : IsQuiet d.doing) where
-  at_send : (w : Work) (p : Place) → Knows p d.pointer → Stands chip plan w p step.Send d
-  at_send w p k = (have_quiet (command_of plan w p) d.doing quiet, k)
+module _ (chip : Chip) (plan : Plan) (d : Device) (quiet : IsQuiet d.device_work) where
+  device_fits_send_step : (w : Work) (p : Place) → KnowsPointer p d.pointer → DeviceFitsStep chip plan w p step.Send d
+  device_fits_send_step w p k = (quiet_work_may_have_command (command_of plan w p) d.device_work quiet, k)
 
-  by_sending : (w : Work) (p : Place) → Knows p d.pointer → Stands chip plan w p (sending p) d
-  by_sending w place.Lost k = at_send w place.Lost k
-  by_sending w (place.At p) k = at_send w (place.At p) k
-  by_sending w (place.Reading p) k = (quiet, k)
+  device_fits_sending_step : (w : Work) (p : Place) → KnowsPointer p d.pointer → DeviceFitsStep chip plan w p (sending_step p) d
+  device_fits_sending_step w place.Lost k = device_fits_send_step w place.Lost k
+  device_fits_sending_step w (place.At p) k = device_fits_send_step w (place.At p) k
+  device_fits_sending_step w (place.Reading p) k = (quiet, k)
 
-  by_reading : (w : Work) (base : ℕ) (t : Bool) → can_read plan base (stands_at w) ≡ t → Knows (place.Reading base) d.pointer →
-      Stands chip plan w (place.Reading base) (cond t step.Read step.EndReading) d
-  by_reading w base true e k = (quiet, k, e)
-  by_reading w base false e k = (quiet, k)
+  device_fits_reading_step : (w : Work) (base : ℕ) (t : Bool) → can_read plan base (stands_at w) ≡ t →
+      KnowsPointer (place.Reading base) d.pointer →
+      DeviceFitsStep chip plan w (place.Reading base) (cond t step.Read step.EndReading) d
+  device_fits_reading_step w base true e k = (quiet, k, e)
+  device_fits_reading_step w base false e k = (quiet, k)
 
-  by_comparing : (w : Work) (p : Place) → Knows p d.pointer → Stands chip plan w p (comparing plan (stands_at w) p) d
-  by_comparing w place.Lost k = at_send w place.Lost k
-  by_comparing w (place.At p) k =
-      elim (eqb p (stands_at w)) as (λ t. Stands chip plan w (place.At p) (cond t step.BeginReading step.Send) d) [
+  device_fits_comparing_step : (w : Work) (p : Place) → KnowsPointer p d.pointer →
+      DeviceFitsStep chip plan w p (comparing_step plan (stands_at w) p) d
+  device_fits_comparing_step w place.Lost k = device_fits_send_step w place.Lost k
+  device_fits_comparing_step w (place.At p) k =
+      elim (eqb p (stands_at w)) as (λ t. DeviceFitsStep chip plan w (place.At p) (cond t step.BeginReading step.Send) d) [
         | true ↦ (quiet, k)
-        | false ↦ at_send w (place.At p) k
+        | false ↦ device_fits_send_step w (place.At p) k
       ]
-  by_comparing w (place.Reading base) k = by_reading w base (can_read plan base (stands_at w)) refl k
+  device_fits_comparing_step w (place.Reading base) k = device_fits_reading_step w base (can_read plan base (stands_at w)) refl k
 
-  by_leaving : (p : Place) → Knows p d.pointer → StandsIn chip plan (leaving_by plan p) d
-  by_leaving place.Lost k = at_send work.Leave place.Lost k
-  by_leaving (place.At p) k =
-      elim (eqb p plan.start) as (λ t. StandsIn chip plan (cond t (stand work.Leave (place.At p) step.Close)
-      (stand work.Leave (place.At p) step.Send)) d) [
+  device_fits_leaving : (p : Place) → KnowsPointer p d.pointer → DeviceFitsPhase chip plan (phase_to_set_start plan p) d
+  device_fits_leaving place.Lost k = device_fits_send_step work.Leave place.Lost k
+  device_fits_leaving (place.At p) k =
+      elim (eqb p plan.start) as (λ t. DeviceFitsPhase chip plan (cond t (phase_with_step work.Leave (place.At p) step.Close)
+      (phase_with_step work.Leave (place.At p) step.Send)) d) [
         | true ↦ tt
-        | false ↦ at_send work.Leave (place.At p) k
+        | false ↦ device_fits_send_step work.Leave (place.At p) k
       ]
-  by_leaving (place.Reading p) k = (quiet, k)
+  device_fits_leaving (place.Reading p) k = (quiet, k)
 
-  by_staying : (p : Place) → Knows p d.pointer → StandsIn chip plan (staying p) d
-  by_staying place.Lost k = tt
-  by_staying (place.At p) k = tt
-  by_staying (place.Reading p) k = (quiet, k)
+  device_fits_staying : (p : Place) → KnowsPointer p d.pointer → DeviceFitsPhase chip plan (phase_when_compared p) d
+  device_fits_staying place.Lost k = tt
+  device_fits_staying (place.At p) k = tt
+  device_fits_staying (place.Reading p) k = (quiet, k)
 
-  at_leave : (p : Place) → Knows p d.pointer → StandsIn chip plan (to_leave plan p) d
+  device_fits_to_leave : (p : Place) → KnowsPointer p d.pointer → DeviceFitsPhase chip plan (to_leave plan p) d
   unfolding to_leave
-  at_leave p k = elim plan.leaves as (λ t. StandsIn chip plan (cond t (leaving_by plan p) (staying p)) d)
-      [ true ↦ by_leaving p k | false ↦ by_staying p k ]
+  device_fits_to_leave p k = elim plan.leaves as (λ t. DeviceFitsPhase chip plan (cond t (phase_to_set_start plan p) (phase_when_compared
+      p)) d)
+      [ true ↦ device_fits_leaving p k | false ↦ device_fits_staying p k ]
 
-  -- A phase that goes by the next byte, or by there being none.
-  by_byte : (F : Option ℕ → Phase) → StandsIn chip plan (F None) d → ((at : ℕ) → StandsIn chip plan (F (Some at)) d) → (o : Option ℕ) →
-      StandsIn chip plan (F o) d
-  by_byte F none some None = none
-  by_byte F none some (Some at) = some at
+  -- A fact of a phase without a next byte, and of the phases with one, holds of the phase that the next byte decides.
+  device_fits_by_next_byte : (F : Option ℕ → Phase) → DeviceFitsPhase chip plan (F None) d → ((at : ℕ) →
+      DeviceFitsPhase chip plan (F (Some at)) d) → (o : Option ℕ) →
+      DeviceFitsPhase chip plan (F o) d
+  device_fits_by_next_byte F none some None = none
+  device_fits_by_next_byte F none some (Some at) = some at
 
-  at_compare_front : (p : Place) (at : ℕ) → Knows p d.pointer → StandsIn chip plan (to_compare_front plan p at) d
+  device_fits_to_compare_front : (p : Place) (at : ℕ) → KnowsPointer p d.pointer → DeviceFitsPhase chip plan (to_compare_front plan p at) d
   unfolding to_compare_front
-  at_compare_front p at k =
-      by_byte (compare_front_or plan p) (at_leave p k) (λ b. by_comparing (work.CompareFront b) p k)
+  device_fits_to_compare_front p at k =
+      device_fits_by_next_byte (compare_front_phase_for plan p) (device_fits_to_leave p k) (λ b. device_fits_comparing_step
+      (work.CompareFront b) p k)
       (byte_in plan at (front_end plan))
 
-  at_write_front : (p : Place) (at : ℕ) → Knows p d.pointer → StandsIn chip plan (to_write_front plan p at) d
+  device_fits_to_write_front : (p : Place) (at : ℕ) → KnowsPointer p d.pointer → DeviceFitsPhase chip plan (to_write_front plan p at) d
   unfolding to_write_front
-  at_write_front p at k =
-      by_byte (write_front_or plan p) (at_compare_front p (image_start plan.image.now) k) (λ b. by_sending (work.WriteFront b) p k)
+  device_fits_to_write_front p at k =
+      device_fits_by_next_byte (write_front_phase_for plan p) (device_fits_to_compare_front p (image_start plan.image.now) k) (λ b.
+      device_fits_sending_step (work.WriteFront b) p k)
       (byte_in plan at (front_end plan))
 
-  at_compare : (p : Place) (at : ℕ) → Knows p d.pointer → StandsIn chip plan (to_compare plan p at) d
+  device_fits_to_compare : (p : Place) (at : ℕ) → KnowsPointer p d.pointer → DeviceFitsPhase chip plan (to_compare plan p at) d
   unfolding to_compare
-  at_compare p at k =
-      by_byte (compare_or plan p) (at_write_front p (image_start plan.image.now) k) (λ b. by_comparing (work.Compare b) p k)
+  device_fits_to_compare p at k =
+      device_fits_by_next_byte (compare_phase_for plan p) (device_fits_to_write_front p (image_start plan.image.now) k) (λ b.
+      device_fits_comparing_step (work.Compare b) p k)
       (byte_in plan at (image_end plan.image.now))
 
-  at_write : (p : Place) (at end : ℕ) → Knows p d.pointer → StandsIn chip plan (to_write plan p at end) d
+  device_fits_to_write : (p : Place) (at end : ℕ) → KnowsPointer p d.pointer → DeviceFitsPhase chip plan (to_write plan p at end) d
   unfolding to_write
-  at_write p at end k =
-      by_byte (write_or plan p end) (at_compare p (front_end plan) k) (λ b. by_sending (work.Write b end) p k)
+  device_fits_to_write p at end k =
+      device_fits_by_next_byte (write_phase_for plan p end) (device_fits_to_compare p (front_end plan) k) (λ b. device_fits_sending_step
+      (work.Write b end) p k)
       (byte_in plan at end)
 
-  at_erase : (p : Place) (at : ℕ) → Knows p d.pointer → StandsIn chip plan (to_erase plan p at) d
+  device_fits_to_erase : (p : Place) (at : ℕ) → KnowsPointer p d.pointer → DeviceFitsPhase chip plan (to_erase plan p at) d
   unfolding to_erase
-  at_erase p at k =
-      by_byte (erase_or plan p) (at_write p (front_end plan) (image_end plan.image.now) k) (λ b. by_sending (work.Erase b) p k)
+  device_fits_to_erase p at k =
+      device_fits_by_next_byte (erase_phase_for plan p) (device_fits_to_write p (front_end plan) (image_end plan.image.now) k) (λ b.
+      device_fits_sending_step (work.Erase b) p k)
       (byte_in plan at (image_end plan.image.now))
 
-  pub at_settle : (w : Work) (p : Place) → Knows p d.pointer → StandsIn chip plan (settle plan w p) d
-  unfolding settle
-  at_settle (work.Erase at) p k = at_erase p at k
-  at_settle (work.EraseAgain page end) p k = by_sending (work.EraseAgain page end) p k
-  at_settle (work.Write at end) p k = at_write p at end k
-  at_settle (work.Compare at) p k = at_compare p at k
-  at_settle (work.WriteFront at) p k = at_write_front p at k
-  at_settle (work.CompareFront at) p k = at_compare_front p at k
-  at_settle work.Leave p k = at_leave p k
+  pub device_fits_settled_phase : (w : Work) (p : Place) → KnowsPointer p d.pointer → DeviceFitsPhase chip plan (settled_phase plan w p) d
+  unfolding settled_phase
+  device_fits_settled_phase (work.Erase at) p k = device_fits_to_erase p at k
+  device_fits_settled_phase (work.EraseAgain page end) p k = device_fits_sending_step (work.EraseAgain page end) p k
+  device_fits_settled_phase (work.Write at end) p k = device_fits_to_write p at end k
+  device_fits_settled_phase (work.Compare at) p k = device_fits_to_compare p at k
+  device_fits_settled_phase (work.WriteFront at) p k = device_fits_to_write_front p at k
+  device_fits_settled_phase (work.CompareFront at) p k = device_fits_to_compare_front p at k
+  device_fits_settled_phase work.Leave p k = device_fits_to_leave p k
 
   -- ---- commands
 
-  at_erased : (w : Work) (at : ℕ) → StandsIn chip plan (erased plan w at) d
-  at_erased (work.EraseAgain page end) at = at_write place.Lost _ end tt
-  at_erased w at = at_erase place.Lost (page_end plan at) tt
+  device_fits_after_erase : (w : Work) (at : ℕ) → DeviceFitsPhase chip plan (phase_after_erase plan w at) d
+  device_fits_after_erase (work.EraseAgain page end) at = device_fits_to_write place.Lost _ end tt
+  device_fits_after_erase w at = device_fits_to_erase place.Lost (page_end plan at) tt
 
-  at_written : (w : Work) (at : ℕ) → StandsIn chip plan (after_write plan w at) d
-  at_written (work.Write from end) at = at_write place.Lost _ end tt
-  at_written w at = at_write_front place.Lost (write_end plan at (front_end plan)) tt
+  device_fits_after_write : (w : Work) (at : ℕ) → DeviceFitsPhase chip plan (phase_after_write plan w at) d
+  device_fits_after_write (work.Write from end) at = device_fits_to_write place.Lost _ end tt
+  device_fits_after_write w at = device_fits_to_write_front place.Lost (write_end plan at (front_end plan)) tt
 
-  pub at_done : (w : Work) (c : AnyCommand) → IsDone chip c d.pointer d.memory → StandsIn chip plan (done plan w c) d
-  at_done w c = by_command (λ v. IsDone chip v d.pointer d.memory → StandsIn chip plan (done plan w v) d)
-      (λ at k. at_settle w (place.At at) k) (λ at k. at_erased w at) (λ at k. at_written w at) c
+  pub device_fits_after_command : (w : Work) (c : AnyCommand) → IsCommandDone chip c d.pointer d.memory →
+      DeviceFitsPhase chip plan (phase_after_command plan w c) d
+  device_fits_after_command w c = fact_of_each_command (λ v. IsCommandDone chip v d.pointer d.memory →
+      DeviceFitsPhase chip plan (phase_after_command plan w v) d)
+      (λ at k. device_fits_settled_phase w (place.At at) k) (λ at k. device_fits_after_erase w at) (λ at k. device_fits_after_write w at) c
 
--- A command whose end isn't known: nothing is claimed.
-pub at_unsure : (chip : Chip) (plan : Plan) (d : Device) (w : Work) (c : AnyCommand) → StandsIn chip plan (unsure plan w c) d
-at_unsure chip plan d w c = by_command (λ v. StandsIn chip plan (unsure plan w v) d) (λ at. tt) (λ at. tt) (λ at. tt) c
+-- If the end of a command isn't known, nothing is claimed of the device.
+pub device_fits_unsure_phase : (chip : Chip) (plan : Plan) (d : Device) (w : Work) (c : AnyCommand) →
+    DeviceFitsPhase chip plan (phase_if_unsure plan w c) d
+device_fits_unsure_phase chip plan d w c = fact_of_each_command (λ v. DeviceFitsPhase chip plan (phase_if_unsure plan w v) d) (λ at. tt) (λ
+    at. tt) (λ at. tt) c

@@ -1,4 +1,4 @@
--- A byte that no action of some works may change stays, whatever comes.
+-- A byte that no action of the session's works may change stays, whatever comes.
 use Rattle.std.proofs.Common.{◌≡◌, ℕ, Option, refl, sym, ap, ◌∙◌, subst}
 use Rattle.dfuse_host.specs.declared.phase.Phase.{Phase}
 use Rattle.dfuse_host.specs.declared.phase.Phase.TheVariants.{On, Over}
@@ -8,164 +8,187 @@ use Rattle.dfuse_host.specs.declared.step.Step.{Step}
 use Rattle.dfuse_host.specs.declared.step.Step.TheVariants as step
 use Rattle.dfuse_host.specs.declared.seen.Seen.{Seen}
 use Rattle.dfuse_host.specs.declared.session.Session.{Session}
-use Rattle.dfuse_host.specs.Deeds.{DfuseDeed, Wait, dfuse_deed, deed_of}
+use Rattle.dfuse_host.specs.Deeds.{DfuseDeed, Wait, dfuse_deed, deed_of_step}
 use Rattle.dfuse_host.specs.Table.{row}
 use Rattle.dfuse_host.specs.Wire.{DfuseSeenMeaning}
-use Rattle.dfuse_host.specs.Sessions.{dfuse_step_after, dfuse_after, dfuse_after_phase, DfuseSeenMeaningIn, SessionRow}
+use Rattle.dfuse_host.specs.Sessions.{session_after_step_heard, session_after_heard, session_after_phase_heard, DfuseSeenMeaningIn, SessionRow}
 use Rattle.dfuse_host.proofs.ForCallers.{AnyHeard}
-use Rattle.dfuse_link.specs.Chips.{Chip, Order, Doing, Busy, Device, Advances}
+use Rattle.dfuse_link.specs.Chips.{Chip, Order, DeviceWork, CarriesOut, Device, DeviceAdvances}
 use Rattle.dfuse_link.specs.Reactions.{Reaction}
-use Rattle.dfuse_link.specs.Histories.{SeenOfReaction, UnderWay, none, request, sent, waited, restarted}
-use Rattle.dfuse_link.proofs.Changes.{IsNow, changed_stays}
-use Rattle.dfuse_link.proofs.Claims.{Stands, StandsIn}
-use Rattle.dfuse_link.proofs.SentClaims.{ArrivesBy}
-use Rattle.dfuse_link.proofs.Heards.{arrived_state, says_state}
-use Rattle.dfuse_link.proofs.Safe.{SafeAt, KeepsByte, DeedBringsNone, advances_safe}
-use Rattle.dfuse_link.proofs.Passing.{busy_of}
-use Rattle.dfuse_link.proofs.Turns.{by_deed}
-use Rattle.dfuse_link.proofs.Own.{safe_now, OwnAt, OwnIn, phase_own, own_now, KeepsNow, aborts_now, states_now, clears_now, stall_heard, abort_own, clear_wait_own, ask_state_own}
-use Rattle.dfuse_link.proofs.OwnPhases.{told_own}
-use Rattle.dfuse_link.proofs.Pairs.{Paired, Turned}
+use Rattle.dfuse_link.specs.Histories.{SeenOfReaction, RequestUnderWay, none, request, sent, waited, restarted}
+use Rattle.dfuse_link.proofs.Changes.{IsSafeBeforeStart, byte_stays_if_safe}
+use Rattle.dfuse_link.proofs.Claims.{DeviceFitsStep, DeviceFitsPhase}
+use Rattle.dfuse_link.proofs.SentClaims.{DeedArrives}
+use Rattle.dfuse_link.proofs.Heards.{arrived_request_answers_state, get_state_says_state}
+use Rattle.dfuse_link.proofs.Safe.{IsSafeAt, KeepsByte, DeedLeavesByte, byte_kept_as_device_advances}
+use Rattle.dfuse_link.proofs.Passing.{advancing_device_is_busy}
+use Rattle.dfuse_link.proofs.Turns.{deed_keeps_read_byte}
+use Rattle.dfuse_link.proofs.Own.{safe_byte_is_safe_before_start, IsOwnByteAtStep, IsOwnByteInPhase, safe_byte_is_own_in_phase, own_byte_in_phase_is_safe, KeepsByteUnstarted, arriving_aborts_start_nothing, arriving_get_states_start_none, arriving_clears_start_nothing, heard_stall_is_safe, abort_row_keeps_own_byte, clear_wait_row_keeps_own_byte, ask_state_row_keeps_own_byte}
+use Rattle.dfuse_link.proofs.OwnPhases.{heard_step_keeps_own_byte}
+use Rattle.dfuse_link.proofs.Pairs.{DeviceAndSession, IsTurnOfBoth}
 
--- A fact of a work holds in a phase.
-abbrev pub InPhase : (Q : Work → Type 0) → Phase → Type 0
-InPhase Q (On s) = Q s.work
-InPhase Q (Over r) = Unit {0}
+-- The fact `Q` holds of the work of the phase.
+abbrev pub HoldsInPhase : (Q : Work → Type 0) → Phase → Type 0
+HoldsInPhase Q (On s) = Q s.work
+HoldsInPhase Q (Over r) = Unit {0}
 
 -- ---- an action
 
--- The byte stays, and nothing that may change it is started.
-pub record Stays (chip : Chip) (a : ℕ) (d d' : Device) : Type 0 where
+-- The byte at `a` stays, and no order that may change it is carried out.
+pub record ByteStaysUnstarted (chip : Chip) (a : ℕ) (d d' : Device) : Type 0 where
   pub byte : d'.memory a ≡ d.memory a
-  pub now : IsNow chip a d'.doing
+  pub now : IsSafeBeforeStart chip a d'.device_work
 
 module _ (chip : Chip) (s : Session) (a : ℕ) (Q : Work → Type 0)
-    (brings : (w : Work) (p : Place) (at : Step) (d : Device) → Q w → Stands chip s.plan w p at d →
-    DeedBringsNone chip a (deed_of s.plan w p at) d.pointer) where
-  step_safe : (w : Work) (p : Place) (at : Step) (d : Device) (r : Option Reaction) (d' : Device) → Q w →
-      Stands chip s.plan w p at d →
-      ArrivesBy chip (deed_of s.plan w p at) d r d' → SafeAt chip a d.doing → KeepsByte chip a d d'
-  step_safe w p at d r d' touches k comes safe =
-      by_deed chip a (deed_of s.plan w p at) d r d' comes (brings w p at d touches k) safe
+    (brings : (w : Work) (p : Place) (at : Step) (d : Device) → Q w → DeviceFitsStep chip s.plan w p at d →
+    DeedLeavesByte chip a (deed_of_step s.plan w p at) d.pointer) where
+  step_keeps_safe_byte : (w : Work) (p : Place) (at : Step) (d : Device) (r : Option Reaction) (d' : Device) → Q w →
+      DeviceFitsStep chip s.plan w p at d →
+      DeedArrives chip (deed_of_step s.plan w p at) d r d' → IsSafeAt chip a d.device_work → KeepsByte chip a d d'
+  step_keeps_safe_byte w p at d r d' touches k comes safe =
+      deed_keeps_read_byte chip a (deed_of_step s.plan w p at) d r d' comes (brings w p at d touches k) safe
 
-  safe_stays : (d d' : Device) → KeepsByte chip a d d' → Stays chip a d d'
-  safe_stays d d' k = record { byte = k.byte; now = safe_now chip a d'.doing k.safe }
+  kept_byte_stays : (d d' : Device) → KeepsByte chip a d d' → ByteStaysUnstarted chip a d d'
+  kept_byte_stays d d' k = record { byte = k.byte; now = safe_byte_is_safe_before_start chip a d'.device_work k.safe }
 
-  now_stays : (d d' : Device) → KeepsNow chip a d d' → IsNow chip a d.doing → Stays chip a d d'
-  now_stays d d' k now = record { byte = k.byte; now = k.now now }
+  unstarted_byte_stays : (d d' : Device) → KeepsByteUnstarted chip a d d' → IsSafeBeforeStart chip a d.device_work →
+      ByteStaysUnstarted chip a d d'
+  unstarted_byte_stays d d' k now = record { byte = k.byte; now = k.now now }
 
-  step_stays : (w : Work) (p : Place) (at : Step) (d : Device) (r : Option Reaction) (d' : Device) → Q w →
-      Stands chip s.plan w p at d →
-      ArrivesBy chip (deed_of s.plan w p at) d r d' → OwnAt chip a at d.doing → Stays chip a d d'
-  step_stays w p step.Abort d r d' touches k comes own = now_stays d d' (aborts_now chip a _ d r d' comes) own
-  step_stays w p step.AskState d r d' touches k comes own = now_stays d d' (states_now chip a 1 _ d r d' comes) own
-  step_stays w p (step.ClearWait ms) d r d' touches k comes own = absurd comes
-  step_stays w p step.ClearStatus d r d' touches k comes own = now_stays d d' (clears_now chip a _ d r d' comes) own
-  step_stays w p at d r d' touches k comes own = safe_stays d d' (step_safe w p at d r d' touches k comes own)
+  step_keeps_own_byte : (w : Work) (p : Place) (at : Step) (d : Device) (r : Option Reaction) (d' : Device) → Q w →
+      DeviceFitsStep chip s.plan w p at d →
+      DeedArrives chip (deed_of_step s.plan w p at) d r d' → IsOwnByteAtStep chip a at d.device_work → ByteStaysUnstarted chip a d d'
+  step_keeps_own_byte w p step.Abort d r d' touches k comes own = unstarted_byte_stays d d' (arriving_aborts_start_nothing chip a _ d r d'
+      comes) own
+  step_keeps_own_byte w p step.AskState d r d' touches k comes own = unstarted_byte_stays d d' (arriving_get_states_start_none chip a 1 _ d
+      r d' comes) own
+  step_keeps_own_byte w p (step.ClearWait ms) d r d' touches k comes own = absurd comes
+  step_keeps_own_byte w p step.ClearStatus d r d' touches k comes own = unstarted_byte_stays d d' (arriving_clears_start_nothing chip a _ d
+      r d' comes) own
+  step_keeps_own_byte w p at d r d' touches k comes own = kept_byte_stays d d' (step_keeps_safe_byte w p at d r d' touches k comes own)
 
-  pub phase_stays : (p : Phase) (d : Device) (r : Option Reaction) (d' : Device) → InPhase Q p → StandsIn chip s.plan p d →
-      ArrivesBy chip (dfuse_deed s.plan p) d r d' → OwnIn chip a p d.doing → Stays chip a d d'
-  phase_stays (On at) d r d' touches k comes own = step_stays at.work at.place at.step d r d' touches k comes own
-  phase_stays (Over rep) d r d' touches k comes own = absurd comes
+  pub phase_keeps_own_byte : (p : Phase) (d : Device) (r : Option Reaction) (d' : Device) → HoldsInPhase Q p →
+      DeviceFitsPhase chip s.plan p d →
+      DeedArrives chip (dfuse_deed s.plan p) d r d' → IsOwnByteInPhase chip a p d.device_work → ByteStaysUnstarted chip a d d'
+  phase_keeps_own_byte (On at) d r d' touches k comes own = step_keeps_own_byte at.work at.place at.step d r d' touches k comes own
+  phase_keeps_own_byte (Over rep) d r d' touches k comes own = absurd comes
 
-  -- Facts of the byte in the phase that follows.
-  step_owns : (w : Work) (p : Place) (at : Step) (d : Device) (r : Option Reaction) (d' : Device) (h : AnyHeard) (x : Seen) →
+  -- After an action, the byte is the session's own in the phase that follows.
+  step_leads_to_own_byte : (w : Work) (p : Place) (at : Step) (d : Device) (r : Option Reaction) (d' : Device) (h : AnyHeard) (x : Seen) →
       Q w →
-      Stands chip s.plan w p at d → ArrivesBy chip (deed_of s.plan w p at) d r d' → SeenOfReaction r x → DfuseSeenMeaning s.plan w at x h →
-      OwnAt chip a at d.doing →
-      OwnIn chip a (dfuse_step_after s w p at h).phase d'.doing
-  step_owns w p step.Abort d r d' h x touches k comes is hears own =
-      let now = (aborts_now chip a _ d r d' comes).now own in told_own chip a d'.doing now s w p step.Abort h
-      (abort_own chip a w d'.doing h now)
-  step_owns w p step.AskState d r d' h x touches k comes is hears own =
-      let now = (states_now chip a 1 _ d r d' comes).now own in
-      told_own chip a d'.doing now s w p step.AskState h
-      (ask_state_own chip a s.plan w d'.doing h
-      (says_state s.plan w step.AskState h d' (λ bytes e. e) r x is (arrived_state chip d 1 _ r d' comes) hears)
-      (stall_heard chip a s.plan w h d _ r d' x is comes hears own) now)
-  step_owns w p (step.ClearWait ms) d r d' h x touches k comes is hears own = absurd comes
-  step_owns w p step.ClearStatus d r d' h x touches k comes is hears own =
-      let now = (clears_now chip a _ d r d' comes).now own in told_own chip a d'.doing now s w p step.ClearStatus h now
-  step_owns w p at d r d' h x touches k comes is hears own = phase_own chip a (dfuse_step_after s w p at h).phase d'.doing
-      (step_safe w p at d r d' touches k comes own).safe
+      DeviceFitsStep chip s.plan w p at d → DeedArrives chip (deed_of_step s.plan w p at) d r d' → SeenOfReaction r x →
+      DfuseSeenMeaning s.plan w at x h →
+      IsOwnByteAtStep chip a at d.device_work →
+      IsOwnByteInPhase chip a (session_after_step_heard s w p at h).phase d'.device_work
+  step_leads_to_own_byte w p step.Abort d r d' h x touches k comes is hears own =
+      let now = (arriving_aborts_start_nothing chip a _ d r d' comes).now own in heard_step_keeps_own_byte chip a d'.device_work now s w p
+      step.Abort h
+      (abort_row_keeps_own_byte chip a w d'.device_work h now)
+  step_leads_to_own_byte w p step.AskState d r d' h x touches k comes is hears own =
+      let now = (arriving_get_states_start_none chip a 1 _ d r d' comes).now own in
+      heard_step_keeps_own_byte chip a d'.device_work now s w p step.AskState h
+      (ask_state_row_keeps_own_byte chip a s.plan w d'.device_work h
+      (get_state_says_state s.plan w step.AskState h d' (λ bytes e. e) r x is (arrived_request_answers_state chip d 1 _ r d' comes) hears)
+      (heard_stall_is_safe chip a s.plan w h d _ r d' x is comes hears own) now)
+  step_leads_to_own_byte w p (step.ClearWait ms) d r d' h x touches k comes is hears own = absurd comes
+  step_leads_to_own_byte w p step.ClearStatus d r d' h x touches k comes is hears own =
+      let now = (arriving_clears_start_nothing chip a _ d r d' comes).now own in heard_step_keeps_own_byte chip a d'.device_work now s w p
+      step.ClearStatus h now
+  step_leads_to_own_byte w p at d r d' h x touches k comes is hears own = safe_byte_is_own_in_phase chip a (session_after_step_heard s w p
+      at h).phase d'.device_work
+      (step_keeps_safe_byte w p at d r d' touches k comes own).safe
 
-  pub phase_owns : (p : Phase) (d : Device) (r : Option Reaction) (d' : Device) (h : AnyHeard) (x : Seen) → InPhase Q p →
-      StandsIn chip s.plan p d →
-      ArrivesBy chip (dfuse_deed s.plan p) d r d' → SeenOfReaction r x → DfuseSeenMeaningIn s.plan p x h → OwnIn chip a p d.doing →
-      OwnIn chip a (dfuse_after_phase s p h).phase d'.doing
-  phase_owns (On at) d r d' h x touches k comes is hears own = step_owns at.work at.place at.step d r d' h x touches k comes is hears own
-  phase_owns (Over rep) d r d' h x touches k comes is hears own = absurd comes
+  pub phase_leads_to_own_byte : (p : Phase) (d : Device) (r : Option Reaction) (d' : Device) (h : AnyHeard) (x : Seen) → HoldsInPhase Q p →
+      DeviceFitsPhase chip s.plan p d →
+      DeedArrives chip (dfuse_deed s.plan p) d r d' → SeenOfReaction r x → DfuseSeenMeaningIn s.plan p x h →
+      IsOwnByteInPhase chip a p d.device_work →
+      IsOwnByteInPhase chip a (session_after_phase_heard s p h).phase d'.device_work
+  phase_leads_to_own_byte (On at) d r d' h x touches k comes is hears own = step_leads_to_own_byte at.work at.place at.step d r d' h x
+      touches k comes is hears own
+  phase_leads_to_own_byte (Over rep) d r d' h x touches k comes is hears own = absurd comes
 
-  wait_owns : (w : Work) (p : Place) (at : Step) (doing : Doing) (h : AnyHeard) (ms : ℕ) → deed_of s.plan w p at ≡ Wait ms →
-      OwnAt chip a at doing →
-      OwnIn chip a (dfuse_step_after s w p at h).phase doing
-  wait_owns w p (step.ClearWait m) doing h ms e own =
-      told_own chip a doing own s w p (step.ClearWait m) h (clear_wait_own chip a w m doing h own)
-  wait_owns w p step.Abort doing h ms e own = cc
-  wait_owns w p step.AskState doing h ms e own = cc
-  wait_owns w p step.ClearStatus doing h ms e own = cc
-  wait_owns w p at doing h ms e own = phase_own chip a (dfuse_step_after s w p at h).phase doing own
+  wait_leads_to_own_byte : (w : Work) (p : Place) (at : Step) (device_work : DeviceWork) (h : AnyHeard) (ms : ℕ) →
+      deed_of_step s.plan w p at ≡ Wait ms →
+      IsOwnByteAtStep chip a at device_work →
+      IsOwnByteInPhase chip a (session_after_step_heard s w p at h).phase device_work
+  wait_leads_to_own_byte w p (step.ClearWait m) device_work h ms e own =
+      heard_step_keeps_own_byte chip a device_work own s w p (step.ClearWait m) h (clear_wait_row_keeps_own_byte chip a w m device_work h
+      own)
+  wait_leads_to_own_byte w p step.Abort device_work h ms e own = cc
+  wait_leads_to_own_byte w p step.AskState device_work h ms e own = cc
+  wait_leads_to_own_byte w p step.ClearStatus device_work h ms e own = cc
+  wait_leads_to_own_byte w p at device_work h ms e own = safe_byte_is_own_in_phase chip a (session_after_step_heard s w p at h).phase
+      device_work own
 
-  pub phase_waits : (p : Phase) (doing : Doing) (h : AnyHeard) (ms : ℕ) → s.phase ≡ p → dfuse_deed s.plan p ≡ Wait ms →
-      OwnIn chip a p doing →
-      OwnIn chip a (dfuse_after_phase s p h).phase doing
-  phase_waits (On at) doing h ms f e own = wait_owns at.work at.place at.step doing h ms e own
-  phase_waits (Over r) doing h ms f e own = cc
+  pub waiting_phase_keeps_own_byte : (p : Phase) (device_work : DeviceWork) (h : AnyHeard) (ms : ℕ) → s.phase ≡ p → dfuse_deed s.plan p
+      ≡ Wait ms →
+      IsOwnByteInPhase chip a p device_work →
+      IsOwnByteInPhase chip a (session_after_phase_heard s p h).phase device_work
+  waiting_phase_keeps_own_byte (On at) device_work h ms f e own = wait_leads_to_own_byte at.work at.place at.step device_work h ms e own
+  waiting_phase_keeps_own_byte (Over r) device_work h ms f e own = cc
 
-  under_way : (d mid : Device) → UnderWay chip s d mid → InPhase Q s.phase → StandsIn chip s.plan s.phase d → OwnIn chip a s.phase d.doing →
-      Stays chip a d mid
-  under_way d _ none touches k own = record { byte = refl; now = own_now chip a s.phase d.doing own }
-  under_way d mid (request {reaction = reaction} q body is comes) touches k own =
-      phase_stays s.phase d reaction mid touches k (subst (λ (x : DfuseDeed). ArrivesBy chip x d reaction mid) (sym is) comes) own
+  own_byte_while_under_way : (d mid : Device) → RequestUnderWay chip s d mid → HoldsInPhase Q s.phase →
+      DeviceFitsPhase chip s.plan s.phase d
+      → IsOwnByteInPhase chip a s.phase d.device_work →
+      ByteStaysUnstarted chip a d mid
+  own_byte_while_under_way d _ none touches k own = record { byte = refl; now = own_byte_in_phase_is_safe chip a s.phase d.device_work own }
+  own_byte_while_under_way d mid (request {reaction = reaction} q body is comes) touches k own =
+      phase_keeps_own_byte s.phase d reaction mid touches k (subst (λ (x : DfuseDeed). DeedArrives chip x d reaction mid) (sym is) comes)
+      own
 
 -- ---- a turn
 
--- The byte stays, and nothing that may change it is started.
-pub record TurnStays (chip : Chip) (a : ℕ) (l l' : Paired) : Type 0 where
-  pub own : OwnIn chip a l'.session.phase l'.device.doing
+-- After a turn the byte is as before, and still the session's own.
+pub record TurnKeepsOwnByte (chip : Chip) (a : ℕ) (l l' : DeviceAndSession) : Type 0 where
+  pub own : IsOwnByteInPhase chip a l'.session.phase l'.device.device_work
   pub byte : l'.device.memory a ≡ l.device.memory a
 
 module _ (chip : Chip) (a : ℕ) where
-  own_next : (l l' : Paired) (x : Seen) (row : SessionRow l.session x l'.session) →
-      OwnIn chip a (dfuse_after l.session row.heard).phase l'.device.doing → OwnIn chip a l'.session.phase l'.device.doing
-  own_next l l' x row own =
-      subst (λ (p : Phase). OwnIn chip a p l'.device.doing) (sym (ap (λ (t : Session). t.phase) row.same)) own
+  own_byte_in_next_phase : (l l' : DeviceAndSession) (x : Seen) (row : SessionRow l.session x l'.session) →
+      IsOwnByteInPhase chip a (session_after_heard l.session row.heard).phase l'.device.device_work →
+      IsOwnByteInPhase chip a l'.session.phase l'.device.device_work
+  own_byte_in_next_phase l l' x row own =
+      subst (λ (p : Phase). IsOwnByteInPhase chip a p l'.device.device_work) (sym (ap (λ (t : Session). t.phase) row.same)) own
 
-  module _ (Q : Work → Type 0) (l l' : Paired)
-      (brings : (w : Work) (p : Place) (at : Step) (d : Device) → Q w → Stands chip l.session.plan w p at d →
-      DeedBringsNone chip a (deed_of l.session.plan w p at) d.pointer) where
-    pub turn_stays : (x : Seen) → Turned chip l x l' → InPhase Q l.session.phase →
-        StandsIn chip l.session.plan l.session.phase l.device → OwnIn chip a l.session.phase l.device.doing → TurnStays chip a l l'
-    turn_stays x (sent q body reaction is comes seen row) touches k own =
-        let by = subst (λ (y : DfuseDeed). ArrivesBy chip y l.device reaction l'.device) (sym is) comes in
+  module _ (Q : Work → Type 0) (l l' : DeviceAndSession)
+      (brings : (w : Work) (p : Place) (at : Step) (d : Device) → Q w → DeviceFitsStep chip l.session.plan w p at d →
+      DeedLeavesByte chip a (deed_of_step l.session.plan w p at) d.pointer) where
+    pub turn_keeps_own_byte : (x : Seen) → IsTurnOfBoth chip l x l' → HoldsInPhase Q l.session.phase →
+        DeviceFitsPhase chip l.session.plan l.session.phase l.device → IsOwnByteInPhase chip a l.session.phase l.device.device_work →
+        TurnKeepsOwnByte chip a l l'
+    turn_keeps_own_byte x (sent q body reaction is comes seen row) touches k own =
+        let by = subst (λ (y : DfuseDeed). DeedArrives chip y l.device reaction l'.device) (sym is) comes in
         record {
-          own = own_next l l' x row
-              (phase_owns chip l.session a Q brings l.session.phase l.device reaction l'.device row.heard x touches k by seen
+          own = own_byte_in_next_phase l l' x row
+              (phase_leads_to_own_byte chip l.session a Q brings l.session.phase l.device reaction l'.device row.heard x touches k by seen
               row.hears own);
-          byte = (phase_stays chip l.session a Q brings l.session.phase l.device reaction l'.device touches k by own).byte;
+          byte = (phase_keeps_own_byte chip l.session a Q brings l.session.phase l.device reaction l'.device touches k by own).byte;
         }
-    turn_stays x (waited ms is same seen row) touches k own = record {
-      own = own_next l l' x row
-          (subst (λ (d : Device). OwnIn chip a (dfuse_after l.session row.heard).phase d.doing) (sym same)
-          (phase_waits chip l.session a Q brings l.session.phase l.device.doing row.heard ms refl is own));
+    turn_keeps_own_byte x (waited ms is same seen row) touches k own = record {
+      own = own_byte_in_next_phase l l' x row
+          (subst (λ (d : Device). IsOwnByteInPhase chip a (session_after_heard l.session row.heard).phase d.device_work) (sym same)
+          (waiting_phase_keeps_own_byte chip l.session a Q brings l.session.phase l.device.device_work row.heard ms refl is own));
       byte = ap (λ (d : Device). d.memory a) same;
     }
-    turn_stays x (restarted mid any way rests changed seen row) touches k own =
-        let stays = under_way chip l.session a Q brings l.device mid way touches k own in
+    turn_keeps_own_byte x (restarted mid any way rests changed seen row) touches k own =
+        let stays = own_byte_while_under_way chip l.session a Q brings l.device mid way touches k own in
         record {
-          own = own_next l l' x row
-              (phase_own chip a (dfuse_after l.session row.heard).phase l'.device.doing (subst (SafeAt chip a) (sym rests) (λ y. y)));
-          byte = changed_stays chip a mid.doing mid.memory l'.device.memory changed stays.now ∙ stays.byte;
+          own = own_byte_in_next_phase l l' x row
+              (safe_byte_is_own_in_phase chip a (session_after_heard l.session row.heard).phase l'.device.device_work (subst (IsSafeAt chip
+              a) (sym rests) (λ y. y)));
+          byte = byte_stays_if_safe chip a mid.device_work mid.memory l'.device.memory changed stays.now ∙ stays.byte;
         }
 
-busy_safe : (chip : Chip) (a : ℕ) (doing : Doing) (order : Order) → doing ≡ Busy order → IsNow chip a doing → SafeAt chip a doing
-busy_safe chip a doing order e now = subst (SafeAt chip a) (sym e) (subst (IsNow chip a) e now)
+busy_work_is_safe : (chip : Chip) (a : ℕ) (device_work : DeviceWork) (order : Order) → device_work ≡ CarriesOut order →
+    IsSafeBeforeStart chip a device_work → IsSafeAt chip a device_work
+busy_work_is_safe chip a device_work order e now = subst (IsSafeAt chip a) (sym e) (subst (IsSafeBeforeStart chip a) e now)
 
--- A device goes on by itself.
-pub passes_stays : (chip : Chip) (a : ℕ) (l : Paired) (d : Device) → Advances chip l.device d →
-    OwnIn chip a l.session.phase l.device.doing → TurnStays chip a l (record { device = d; session = l.session })
-passes_stays chip a l d x own =
-    let busy = busy_of chip l.device d x in
-    let safe = busy_safe chip a l.device.doing busy.0 busy.1 (own_now chip a l.session.phase l.device.doing own) in
-    let kept = advances_safe chip a l.device d x safe in
-    record { own = phase_own chip a l.session.phase d.doing kept.safe; byte = kept.byte }
+-- If the device goes on by itself, the byte is as before, and still the session's own.
+pub advance_keeps_own_byte : (chip : Chip) (a : ℕ) (l : DeviceAndSession) (d : Device) → DeviceAdvances chip l.device d →
+    IsOwnByteInPhase chip a l.session.phase l.device.device_work → TurnKeepsOwnByte chip a l (record { device = d; session = l.session })
+advance_keeps_own_byte chip a l d x own =
+    let busy = advancing_device_is_busy chip l.device d x in
+    let safe = busy_work_is_safe chip a l.device.device_work busy.0 busy.1 (own_byte_in_phase_is_safe chip a l.session.phase
+    l.device.device_work own) in
+    let kept = byte_kept_as_device_advances chip a l.device d x safe in
+    record { own = safe_byte_is_own_in_phase chip a l.session.phase d.device_work kept.safe; byte = kept.byte }

@@ -8,58 +8,64 @@ use Rattle.dfuse_host.specs.declared.step.Step.TheVariants as step
 use Rattle.dfuse_host.specs.declared.seen.Seen.{Seen}
 use Rattle.dfuse_host.specs.Wire.{DfuseSeenMeaning}
 use Rattle.dfuse_host.specs.Commands.{command_of}
-use Rattle.dfuse_host.specs.Deeds.{Wait, sends, deed_of}
+use Rattle.dfuse_host.specs.Deeds.{Wait, command_deed, deed_of_step}
 use Rattle.dfuse_host.specs.Table.{row}
-use Rattle.dfuse_host.proofs.ForCallers.{AnyCommand, by_command, AnyHeard}
+use Rattle.dfuse_host.proofs.ForCallers.{AnyCommand, fact_of_each_command, AnyHeard}
 use Rattle.dfuse_link.specs.Chips.{Chip, Device}
 use Rattle.dfuse_link.specs.Reactions.{Reaction}
 use Rattle.dfuse_link.specs.Histories.{SeenOfReaction}
-use Rattle.dfuse_link.proofs.Claims.{Stands, StandsIn}
-use Rattle.dfuse_link.proofs.Deviced.{aborts_quiet, uploads_quiet, states_have, statuses_have}
-use Rattle.dfuse_link.proofs.Heards.{arrived_state, arrived_status, says_state, says_status}
-use Rattle.dfuse_link.proofs.SentClaims.{ArrivesBy, sent_may, ack_heard}
-use Rattle.dfuse_link.proofs.RowClaims.{abort_row, ask_state_row, ask_status_row, clear_wait_row, send_row, probe_row, poll_row, poll_wait_row, begin_row, end_row, read_row, close_row, close_probe_row, close_poll_row}
+use Rattle.dfuse_link.proofs.Claims.{DeviceFitsStep, DeviceFitsPhase}
+use Rattle.dfuse_link.proofs.Deviced.{arriving_aborts_keep_quiet, arriving_uploads_keep_quiet, arriving_get_states_keep_command, arriving_statuses_keep_command}
+use Rattle.dfuse_link.proofs.Heards.{arrived_request_answers_state, arrived_request_answers_status, get_state_says_state, get_status_says_state}
+use Rattle.dfuse_link.proofs.SentClaims.{DeedArrives, sent_command_may_arrive, heard_ack_means_has_command}
+use Rattle.dfuse_link.proofs.RowClaims.{device_fits_after_abort, device_fits_after_ask_state, device_fits_after_ask_status, device_fits_after_clear_wait, device_fits_after_send, device_fits_after_probe, device_fits_after_poll, device_fits_after_poll_wait, device_fits_begun_reading, device_fits_ended_reading, device_fits_after_read, device_fits_after_close, device_fits_after_close_probe, device_fits_after_close_poll}
 
 module _ (chip : Chip) (plan : Plan) (w : Work) (p : Place) (d d' : Device) (h : AnyHeard) where
-  -- A request was sent.
-  pub sent_claims : (s : Step) (r : Option Reaction) (x : Seen) → Stands chip plan w p s d → ArrivesBy chip (deed_of plan w p s) d r d' →
+  -- After a request the device fits the phase of the row.
+  pub device_fits_after_request : (s : Step) (r : Option Reaction) (x : Seen) → DeviceFitsStep chip plan w p s d →
+      DeedArrives chip (deed_of_step plan w p s) d r d' →
       SeenOfReaction r x →
-      DfuseSeenMeaning plan w s x h → StandsIn chip plan (row plan w p s h) d'
-  sent_claims step.Abort r x k comes is hears = abort_row chip plan w p d' h
-  sent_claims step.AskState r x k comes is hears =
-      ask_state_row chip plan w p d' h (says_state plan w step.AskState h d' (λ bytes e. e) r x is
-      (arrived_state chip d 1 _ r d' comes) hears)
-  sent_claims step.AskStatus r x k comes is hears = ask_status_row chip plan w p d' h
-  sent_claims (step.ClearWait ms) r x k comes is hears = absurd comes
-  sent_claims step.ClearStatus r x k comes is hears = tt
-  sent_claims step.Send r x k comes is hears =
-      send_row chip plan w p d' h (ack_heard chip plan w p d d' h r x (command_of plan w p) is comes k hears)
-      (sent_may chip plan w p d d' r (command_of plan w p) comes k)
-  sent_claims step.Probe r x k comes is hears =
-      probe_row chip plan w p d' h (says_state plan w step.Probe h d' (λ bytes e. e) r x is (arrived_state chip d 1 _ r d' comes) hears)
-      (states_have chip (command_of plan w p) p d d' 1 _ r comes k)
-  sent_claims (step.Poll last) r x k comes is hears =
-      poll_row chip plan w p d' last h (says_status plan w (step.Poll last) h d' (λ bytes e. e) r x is
-      (arrived_status chip d 6 _ r d' comes) hears)
-      (statuses_have chip (command_of plan w p) p d d' 6 _ r comes k)
-  sent_claims (step.PollWait ms) r x k comes is hears = absurd comes
-  sent_claims step.BeginReading r x k comes is hears = begin_row chip plan w p d' h (aborts_quiet chip p d d' _ r comes k)
-  sent_claims step.EndReading r x k comes is hears = end_row chip plan w p d' h (aborts_quiet chip p d d' _ r comes k)
-  sent_claims step.Read r x k comes is hears =
-      let kept = uploads_quiet chip p d d' _ _ _ r comes (k.0, k.1) in
-      read_row chip plan w p d' h (kept.0, kept.1, k.2)
-  sent_claims step.Close r x k comes is hears = close_row chip plan w p d' h
-  sent_claims step.CloseProbe r x k comes is hears = close_probe_row chip plan w p d' h
-  sent_claims step.ClosePoll r x k comes is hears = close_poll_row chip plan w p d' h
+      DfuseSeenMeaning plan w s x h → DeviceFitsPhase chip plan (row plan w p s h) d'
+  device_fits_after_request step.Abort r x k comes is hears = device_fits_after_abort chip plan w p d' h
+  device_fits_after_request step.AskState r x k comes is hears =
+      device_fits_after_ask_state chip plan w p d' h (get_state_says_state plan w step.AskState h d' (λ bytes e. e) r x is
+      (arrived_request_answers_state chip d 1 _ r d' comes) hears)
+  device_fits_after_request step.AskStatus r x k comes is hears = device_fits_after_ask_status chip plan w p d' h
+  device_fits_after_request (step.ClearWait ms) r x k comes is hears = absurd comes
+  device_fits_after_request step.ClearStatus r x k comes is hears = tt
+  device_fits_after_request step.Send r x k comes is hears =
+      device_fits_after_send chip plan w p d' h (heard_ack_means_has_command chip plan w p d d' h r x (command_of plan w p) is comes k
+      hears)
+      (sent_command_may_arrive chip plan w p d d' r (command_of plan w p) comes k)
+  device_fits_after_request step.Probe r x k comes is hears =
+      device_fits_after_probe chip plan w p d' h (get_state_says_state plan w step.Probe h d' (λ bytes e. e) r x is
+      (arrived_request_answers_state chip d 1 _ r d' comes) hears)
+      (arriving_get_states_keep_command chip (command_of plan w p) p d d' 1 _ r comes k)
+  device_fits_after_request (step.Poll last) r x k comes is hears =
+      device_fits_after_poll chip plan w p d' last h (get_status_says_state plan w (step.Poll last) h d' (λ bytes e. e) r x is
+      (arrived_request_answers_status chip d 6 _ r d' comes) hears)
+      (arriving_statuses_keep_command chip (command_of plan w p) p d d' 6 _ r comes k)
+  device_fits_after_request (step.PollWait ms) r x k comes is hears = absurd comes
+  device_fits_after_request step.BeginReading r x k comes is hears = device_fits_begun_reading chip plan w p d' h
+      (arriving_aborts_keep_quiet chip p d d' _ r comes k)
+  device_fits_after_request step.EndReading r x k comes is hears = device_fits_ended_reading chip plan w p d' h (arriving_aborts_keep_quiet
+      chip p d d' _ r comes k)
+  device_fits_after_request step.Read r x k comes is hears =
+      let kept = arriving_uploads_keep_quiet chip p d d' _ _ _ r comes (k.0, k.1) in
+      device_fits_after_read chip plan w p d' h (kept.0, kept.1, k.2)
+  device_fits_after_request step.Close r x k comes is hears = device_fits_after_close chip plan w p d' h
+  device_fits_after_request step.CloseProbe r x k comes is hears = device_fits_after_close_probe chip plan w p d' h
+  device_fits_after_request step.ClosePoll r x k comes is hears = device_fits_after_close_poll chip plan w p d' h
 
-sends_no_wait : (plan : Plan) (w : Work) (c : AnyCommand) (ms : ℕ) → sends plan w c ≡ Wait ms → ⊥
-sends_no_wait plan w c ms = by_command (λ v. sends plan w v ≡ Wait ms → ⊥) (λ at e. cc) (λ at e. cc) (λ at e. cc) c
+command_deed_is_no_wait : (plan : Plan) (w : Work) (c : AnyCommand) (ms : ℕ) → command_deed plan w c ≡ Wait ms → ⊥
+command_deed_is_no_wait plan w c ms = fact_of_each_command (λ v. command_deed plan w v ≡ Wait ms →
+    ⊥) (λ at e. cc) (λ at e. cc) (λ at e. cc) c
 
--- A session waited.
-pub waited_claims : (chip : Chip) (plan : Plan) (w : Work) (p : Place) (d : Device) (h : AnyHeard) (s : Step) (ms : ℕ) →
-    Stands chip plan w p s d →
-    deed_of plan w p s ≡ Wait ms → StandsIn chip plan (row plan w p s h) d
-waited_claims chip plan w p d h (step.ClearWait m) ms k e = clear_wait_row chip plan w p d m h
-waited_claims chip plan w p d h (step.PollWait m) ms k e = poll_wait_row chip plan w p d m h k
-waited_claims chip plan w p d h step.Send ms k e = absurd (sends_no_wait plan w (command_of plan w p) ms e)
-waited_claims chip plan w p d h s ms k e = cc
+-- After a wait the device fits the phase of the row.
+pub device_fits_after_wait : (chip : Chip) (plan : Plan) (w : Work) (p : Place) (d : Device) (h : AnyHeard) (s : Step) (ms : ℕ) →
+    DeviceFitsStep chip plan w p s d →
+    deed_of_step plan w p s ≡ Wait ms → DeviceFitsPhase chip plan (row plan w p s h) d
+device_fits_after_wait chip plan w p d h (step.ClearWait m) ms k e = device_fits_after_clear_wait chip plan w p d m h
+device_fits_after_wait chip plan w p d h (step.PollWait m) ms k e = device_fits_after_poll_wait chip plan w p d m h k
+device_fits_after_wait chip plan w p d h step.Send ms k e = absurd (command_deed_is_no_wait plan w (command_of plan w p) ms e)
+device_fits_after_wait chip plan w p d h s ms k e = cc

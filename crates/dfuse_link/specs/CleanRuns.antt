@@ -17,53 +17,53 @@ use Rattle.dfuse_host.specs.declared.session.Session.{Session}
 use Rattle.dfuse_host.specs.Deeds.{read_bytes}
 use Rattle.dfuse_host.specs.Sessions.{SessionRow}
 
--- These bytes are answered.
+-- The bytes are the answer.
 abbrev pub BytesAnswered : List ℕ → Seen → Type 0
 BytesAnswered wanted (seen.Bytes bytes) = bytes.now ≡ wanted
 BytesAnswered wanted s = ⊥
 
--- Bytes are answered that spell this status.
+-- The answer is the bytes of the status.
 abbrev pub StatusAnswered : StatusFields → Seen → Type 0
 StatusAnswered status (seen.Bytes bytes) = IsStatus status bytes.now
 StatusAnswered status s = ⊥
 
--- The device reports that it is busy, and for how long: for some time.
+-- The device reports that it is busy, and a time to wait that is not 0.
 pub record BusyReported (s : Seen) : Type 0 where
   pub status : StatusFields
   pub told : StatusAnswered status s
   pub is_busy : status.state ≡ state.DownloadBusy
   pub time : 0 < status.poll_ms
 
--- The device reports this state, and no fault.
+-- The device reports the state, and no fault.
 pub record StateAnswered (t : State) (s : Seen) : Type 0 where
   pub status : StatusFields
   pub told : StatusAnswered status s
   pub no_fault : status.code ≡ code.Ok
   pub is_there : status.state ≡ t
 
--- The result of an action if the device works, all that it gives back is the image's, and nothing gets lost. It is in dfuIDLE at first.
--- Each command is started by a GETSTATUS, which reports dfuDNBUSY, and is done by the next one, after a wait.
-abbrev pub IsClean : Plan → Work → Step → Seen → Type 0
-IsClean plan w step.Abort s = s ≡ seen.Ack
-IsClean plan w step.AskState s = BytesAnswered (state_byte state.DfuIdle ∷ []) s
-IsClean plan w step.Send s = s ≡ seen.Ack
-IsClean plan w (step.Poll zero) s = BusyReported s
-IsClean plan w (step.Poll (suc last)) s = StateAnswered state.DownloadIdle s
-IsClean plan w (step.PollWait ms) s = s ≡ seen.Waited
-IsClean plan w step.BeginReading s = s ≡ seen.Ack
-IsClean plan w step.EndReading s = s ≡ seen.Ack
-IsClean plan w step.Read s = BytesAnswered (read_bytes plan w) s
-IsClean plan w step.Close s = s ≡ seen.Ack
-IsClean plan w step.ClosePoll s = StateAnswered state.Manifest s
-IsClean plan w at s = ⊥
+-- Result of an action if the device works, gives back only bytes of the image, and nothing gets lost. The device is in dfuIDLE at first. A
+-- command is started by a GETSTATUS, which reports dfuDNBUSY, and is done by the next one, after a wait.
+abbrev pub IsCleanResult : Plan → Work → Step → Seen → Type 0
+IsCleanResult plan w step.Abort s = s ≡ seen.Ack
+IsCleanResult plan w step.AskState s = BytesAnswered (state_byte state.DfuIdle ∷ []) s
+IsCleanResult plan w step.Send s = s ≡ seen.Ack
+IsCleanResult plan w (step.Poll zero) s = BusyReported s
+IsCleanResult plan w (step.Poll (suc last)) s = StateAnswered state.DownloadIdle s
+IsCleanResult plan w (step.PollWait ms) s = s ≡ seen.Waited
+IsCleanResult plan w step.BeginReading s = s ≡ seen.Ack
+IsCleanResult plan w step.EndReading s = s ≡ seen.Ack
+IsCleanResult plan w step.Read s = BytesAnswered (read_bytes plan w) s
+IsCleanResult plan w step.Close s = s ≡ seen.Ack
+IsCleanResult plan w step.ClosePoll s = StateAnswered state.Manifest s
+IsCleanResult plan w at s = ⊥
 
--- A session that isn't over sees these, one after the other, each as it is to be.
+-- A session that isn't over sees results, one after the other, each as a clean run has it.
 pub data CleanSession : Session → List Seen → Session → Type 0 where
-  clean_so_far : {s : Session} → CleanSession s [] s
-  clean_on : {s mid s' : Session} {seen : Seen} {more : List Seen} (at : Standing) → s.phase ≡ On at
-      → IsClean s.plan at.work at.step seen → SessionRow s seen mid → CleanSession mid more s' → CleanSession s (seen ∷ more) s'
+  clean_nothing_seen : {s : Session} → CleanSession s [] s
+  clean_result_more : {s mid s' : Session} {seen : Seen} {more : List Seen} (at : Standing) → s.phase ≡ On at
+      → IsCleanResult s.plan at.work at.step seen → SessionRow s seen mid → CleanSession mid more s' → CleanSession s (seen ∷ more) s'
 
--- So many of the things seen are ends of waits. The others are answers to requests.
+-- Number of results that are ends of waits. The others are answers to requests.
 abbrev pub waits_in : List Seen → ℕ
 waits_in [] = 0
 waits_in (seen.Waited ∷ more) = 1 + waits_in more

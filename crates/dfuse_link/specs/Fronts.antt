@@ -12,13 +12,13 @@ use Rattle.dfuse_host.specs.declared.session.Session.{Session}
 use Rattle.dfuse_host.specs.declared.limits.Limits.{Limits}
 use Rattle.dfuse_host.specs.Images.{element_at, image_start}
 use Rattle.dfuse_host.specs.Plans.{page_start, front_end}
-use Rattle.dfuse_host.specs.Sessions.{initial_dfuse}
+use Rattle.dfuse_host.specs.Sessions.{initial_dfuse_session}
 use Rattle.dfuse_link.specs.Chips.{Chip, Device}
 use Rattle.dfuse_link.specs.Histories.{History}
-use Rattle.dfuse_link.specs.Promises.{IsFor}
-use Rattle.dfuse_link.specs.Touched.{IsTrueMap, CarriesNone}
+use Rattle.dfuse_link.specs.Promises.{IsPlanFor}
+use Rattle.dfuse_link.specs.Touched.{IsTrueMap, CarriesNoOrder}
 
--- Each byte of the image at such an address is in the memory.
+-- Each byte of the image at a selected address is in the memory.
 abbrev pub ImageInMemory : Plan → (IsSelected : ℕ → Type 0) → (memory : ℕ → ℕ) → Type 0
 ImageInMemory plan IsSelected memory =
     (a : ℕ) (e : Element) → IsSelected a → element_at a plan.image.now ≡ Some e → memory a ≡ slice_index e.bytes.now (a - e.address)
@@ -26,40 +26,40 @@ ImageInMemory plan IsSelected memory =
 -- While a session writes its front, each byte of the image after the front is in the memory.
 abbrev pub RestInMemory : Type 0
 RestInMemory = (chip : Chip) (plan : Plan) (limits : Limits) (d d' : Device) (s : Session) (seens : List Seen) (here : Standing) (at : ℕ)
-    → IsFor chip plan → History chip d (initial_dfuse plan limits) seens d' s → s.phase ≡ On here → here.work ≡ WriteFront at
+    → IsPlanFor chip plan → History chip d (initial_dfuse_session plan limits) seens d' s → s.phase ≡ On here → here.work ≡ WriteFront at
     → ImageInMemory plan (λ (a : ℕ). front_end plan ≤ a) d'.memory
 
--- An address of the front.
-abbrev pub IsOfFront : Plan → (a : ℕ) → Type 0
-IsOfFront plan a = (image_start plan.image.now ≤ a) × (a < front_end plan)
+-- The address is of the front.
+abbrev pub IsFrontAddress : Plan → (a : ℕ) → Type 0
+IsFrontAddress plan a = (image_start plan.image.now ≤ a) × (a < front_end plan)
 
--- An address that isn't on the front's page.
-abbrev pub IsElsewhere : Plan → (a : ℕ) → Type 0
-IsElsewhere plan a = page_start plan a ≡ page_start plan (image_start plan.image.now) → ⊥
+-- The address is not on the front's page.
+abbrev pub IsOffFrontPage : Plan → (a : ℕ) → Type 0
+IsOffFrontPage plan a = page_start plan a ≡ page_start plan (image_start plan.image.now) → ⊥
 
 -- An erase of the front's page reaches the front.
 abbrev pub ErasesFront : Chip → Plan → Type 0
-ErasesFront chip plan = (a : ℕ) → IsOfFront plan a → chip.erases (page_start plan (image_start plan.image.now)) a ≡ true
+ErasesFront chip plan = (a : ℕ) → IsFrontAddress plan a → chip.erases (page_start plan (image_start plan.image.now)) a ≡ true
 
 -- Each byte of the front is as an erase leaves it.
 abbrev pub FrontIsBlank : Chip → Plan → (memory : ℕ → ℕ) → Type 0
-FrontIsBlank chip plan memory = (a : ℕ) → IsOfFront plan a → chip.blank (memory a) ≡ true
+FrontIsBlank chip plan memory = (a : ℕ) → IsFrontAddress plan a → chip.blank (memory a) ≡ true
 
--- At each moment the front is blank, or what isn't on its page is all as it was, or has each byte of the image: if no two ranges of the
+-- At each moment the front is blank, or the bytes off its page are all as they were, or are all bytes of the image: if no two ranges of the
 -- map share an address, the map is true of the image's pages, the device carries out no order at first, and an erase of the front's page
 -- reaches the front.
 abbrev pub NoMixture : Type 0
-NoMixture = (chip : Chip) (plan : Plan) (limits : Limits) (d d' : Device) (s : Session) (seens : List Seen) → IsFor chip plan →
-    are_apart plan.map.now.ranges ≡ true → IsTrueMap chip plan → ErasesFront chip plan → CarriesNone d →
-    History chip d (initial_dfuse plan limits) seens d' s →
-    ((a : ℕ) → IsElsewhere plan a → d'.memory a ≡ d.memory a)
-    ⊎ (FrontIsBlank chip plan d'.memory ⊎ ImageInMemory plan (IsElsewhere plan) d'.memory)
+NoMixture = (chip : Chip) (plan : Plan) (limits : Limits) (d d' : Device) (s : Session) (seens : List Seen) → IsPlanFor chip plan →
+    are_apart plan.map.now.ranges ≡ true → IsTrueMap chip plan → ErasesFront chip plan → CarriesNoOrder d →
+    History chip d (initial_dfuse_session plan limits) seens d' s →
+    ((a : ℕ) → IsOffFrontPage plan a → d'.memory a ≡ d.memory a)
+    ⊎ (FrontIsBlank chip plan d'.memory ⊎ ImageInMemory plan (IsOffFrontPage plan) d'.memory)
 
--- If the same holds, while a session's work is not to erase, nor to erase again, the front is blank, or each byte of the image after it is
--- in the memory, on its page too.
+-- If the same holds, and the session's work is not to erase, nor to erase again, the front is blank, or each byte of the image after the
+-- front is in the memory, also those on the front's page.
 abbrev pub NoneButErasing : Type 0
 NoneButErasing = (chip : Chip) (plan : Plan) (limits : Limits) (d d' : Device) (s : Session) (seens : List Seen) (here : Standing) →
-    IsFor chip plan → are_apart plan.map.now.ranges ≡ true → IsTrueMap chip plan → ErasesFront chip plan → CarriesNone d →
-    History chip d (initial_dfuse plan limits) seens d' s → s.phase ≡ On here → ((at : ℕ) → here.work ≡ work.Erase at → ⊥) →
+    IsPlanFor chip plan → are_apart plan.map.now.ranges ≡ true → IsTrueMap chip plan → ErasesFront chip plan → CarriesNoOrder d →
+    History chip d (initial_dfuse_session plan limits) seens d' s → s.phase ≡ On here → ((at : ℕ) → here.work ≡ work.Erase at → ⊥) →
     ((page end : ℕ) → here.work ≡ work.EraseAgain page end → ⊥) →
     FrontIsBlank chip plan d'.memory ⊎ ImageInMemory plan (λ (a : ℕ). front_end plan ≤ a) d'.memory

@@ -7,14 +7,14 @@ use Rattle.dfuse_host.specs.declared.seen.Seen.TheVariants as seen
 use Rattle.dfuse_host.specs.declared.session.Session.{Session}
 use Rattle.dfuse_host.specs.Deeds.{Send, Wait, dfuse_deed}
 use Rattle.dfuse_host.specs.Sessions.{SessionRow}
-use Rattle.dfuse_link.specs.Chips.{Chip, Rests, Device, ChangedBy, Advances}
+use Rattle.dfuse_link.specs.Chips.{Chip, RestsInState, Device, ChangedBy, DeviceAdvances}
 use Rattle.dfuse_link.specs.Reactions.{Reaction, Acks, Data, Stalls, Reacts}
 
--- A request comes to a device as often as it likes: never if it is lost, once, or more often. The last reaction is what counts.
-pub data Arrives (chip : Chip) (q : Request) (body : List ℕ) (d : Device) : Option Reaction → Device → Type 0 where
-  never : Arrives chip q body d None d
-  again : {before : Option Reaction} {mid d' : Device} {reaction : Reaction} → Arrives chip q body d before mid
-      → Reacts chip mid q body reaction d' → Arrives chip q body d (Some reaction) d'
+-- A request may come to a device never, because it is lost, or once, or more often. The last reaction counts.
+pub data RequestArrives (chip : Chip) (q : Request) (body : List ℕ) (d : Device) : Option Reaction → Device → Type 0 where
+  never : RequestArrives chip q body d None d
+  again : {before : Option Reaction} {mid d' : Device} {reaction : Reaction} → RequestArrives chip q body d before mid
+      → Reacts chip mid q body reaction d' → RequestArrives chip q body d (Some reaction) d'
 
 -- The last reaction is seen, or nothing if it is lost.
 abbrev pub SeenOfReaction : Option Reaction → Seen → Type 0
@@ -24,26 +24,27 @@ SeenOfReaction (Some (Data bytes)) (seen.Bytes given) = given.now ≡ bytes
 SeenOfReaction (Some Stalls) seen.Stall = Unit {0}
 SeenOfReaction reaction s = ⊥
 
--- Requests that may have come to a device before it restarts: nothing, or the session's request.
-pub data UnderWay (chip : Chip) (s : Session) (d : Device) : Device → Type 0 where
-  none : UnderWay chip s d d
+-- Requests that may have come to a device before it restarts: none, or the request that the session sent.
+pub data RequestUnderWay (chip : Chip) (s : Session) (d : Device) : Device → Type 0 where
+  none : RequestUnderWay chip s d d
   request : {mid : Device} {reaction : Option Reaction} (q : Request) (body : List ℕ) → dfuse_deed s.plan s.phase ≡ Send q body
-      → Arrives chip q body d reaction mid → UnderWay chip s d mid
+      → RequestArrives chip q body d reaction mid → RequestUnderWay chip s d mid
 
--- The session's action, and what is seen of it: a request was sent; a wait is over; or the device restarted, and the session knows it. It
--- is in any state then, and its pointer anywhere; an order that isn't started is dropped, and one that it carries out is cut off.
-pub data Turn (chip : Chip) (d : Device) (s : Session) (x : Seen) (d' : Device) (s' : Session) : Type 0 where
+-- The session's action, and its result: a request was sent; a wait is over; or the device restarted, and the session knows. After a restart
+-- the device is in any state, and its pointer anywhere; an order that isn't started is dropped, and an order that is carried out is cut
+-- off.
+pub data SessionTurn (chip : Chip) (d : Device) (s : Session) (x : Seen) (d' : Device) (s' : Session) : Type 0 where
   sent : (q : Request) (body : List ℕ) (reaction : Option Reaction) → dfuse_deed s.plan s.phase ≡ Send q body
-      → Arrives chip q body d reaction d' → SeenOfReaction reaction x → SessionRow s x s' → Turn chip d s x d' s'
-  waited : (ms : ℕ) → dfuse_deed s.plan s.phase ≡ Wait ms → d' ≡ d → x ≡ seen.Waited → SessionRow s x s' → Turn chip d s x d' s'
-  restarted : (mid : Device) (any : State) → UnderWay chip s d mid → d'.doing ≡ Rests any
-      → ChangedBy chip mid.doing mid.memory d'.memory → x ≡ seen.Restarted → SessionRow s x s' → Turn chip d s x d' s'
+      → RequestArrives chip q body d reaction d' → SeenOfReaction reaction x → SessionRow s x s' → SessionTurn chip d s x d' s'
+  waited : (ms : ℕ) → dfuse_deed s.plan s.phase ≡ Wait ms → d' ≡ d → x ≡ seen.Waited → SessionRow s x s' → SessionTurn chip d s x d' s'
+  restarted : (mid : Device) (any : State) → RequestUnderWay chip s d mid → d'.device_work ≡ RestsInState any
+      → ChangedBy chip mid.device_work mid.memory d'.memory → x ≡ seen.Restarted → SessionRow s x s' → SessionTurn chip d s x d' s'
 
--- A device and a session with it, all that the session sees, one thing after the other, and the two at the end. Between two of these things
--- the device may go on with what it carries out.
+-- A device and a session with it, the results that the session sees one after the other, and the two at the end. Between two results the
+-- device may go on with the order that it carries out.
 pub data History (chip : Chip) : Device → Session → List Seen → Device → Session → Type 0 where
   so_far : {d : Device} {s : Session} → History chip d s [] d s
-  passes : {d d' : Device} {s s' : Session} {seens : List Seen} (mid : Device) → Advances chip d mid → History chip mid s seens d' s'
+  passes : {d d' : Device} {s s' : Session} {seens : List Seen} (mid : Device) → DeviceAdvances chip d mid → History chip mid s seens d' s'
       → History chip d s seens d' s'
-  turns : {d mid d' : Device} {s at s' : Session} {x : Seen} {seens : List Seen} → Turn chip d s x mid at
+  turns : {d mid d' : Device} {s at s' : Session} {x : Seen} {seens : List Seen} → SessionTurn chip d s x mid at
       → History chip mid at seens d' s' → History chip d s (x ∷ seens) d' s'

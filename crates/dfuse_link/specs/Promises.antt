@@ -11,13 +11,13 @@ use Rattle.dfuse_host.specs.declared.report.Report.TheVariants.{Verified}
 use Rattle.dfuse_host.specs.declared.session.Session.{Session}
 use Rattle.dfuse_host.specs.declared.limits.Limits.{Limits}
 use Rattle.dfuse_host.specs.Refusing.{IsSoundPlan}
-use Rattle.dfuse_host.specs.Sessions.{initial_dfuse, DfuseIsOver, SessionRows}
+use Rattle.dfuse_host.specs.Sessions.{initial_dfuse_session, DfuseIsOver, SessionRows}
 use Rattle.dfuse_link.specs.Chips.{Chip, Device}
 use Rattle.dfuse_link.specs.Reactions.{BytesInMemoryAt}
 use Rattle.dfuse_link.specs.Histories.{History}
 
--- A session can begin with this plan, whose map has ranges as each map that was read, and the device counts addresses by its blocks.
-pub record IsFor (chip : Chip) (plan : Plan) : Type 0 where
+-- A session can begin with the plan, the ranges of its map are sound, and the device counts addresses by the blocks of the plan.
+pub record IsPlanFor (chip : Chip) (plan : Plan) : Type 0 where
   pub sound : IsSoundPlan plan
   pub ranges : All IsRange plan.map.now.ranges
   pub transfer : plan.transfer ≡ chip.transfer
@@ -25,15 +25,15 @@ pub record IsFor (chip : Chip) (plan : Plan) : Type 0 where
 -- Once Verified is reported, each element of the image is in its range of the device's memory.
 abbrev pub VerifiedIsTrue : Type 0
 VerifiedIsTrue = (chip : Chip) (plan : Plan) (limits : Limits) (d d' : Device) (s : Session) (seens : List Seen) (leaving : Leaving)
-    → IsFor chip plan → History chip d (initial_dfuse plan limits) seens d' s → s.phase ≡ Over (Verified leaving)
+    → IsPlanFor chip plan → History chip d (initial_dfuse_session plan limits) seens d' s → s.phase ≡ Over (Verified leaving)
     → AllByRecursion (λ (e : Element). BytesInMemoryAt d'.memory e.address e.bytes.now) plan.image.now
 
--- The results that the session sees are rows of it, one after the other.
+-- The results that the session sees lead by rows of the table, one after the other.
 abbrev pub HistoriesAreRows : Type 0
 HistoriesAreRows = (chip : Chip) (d d' : Device) (s s' : Session) (seens : List Seen) → History chip d s seens d' s' →
     SessionRows s seens s'
 
--- Whatever comes, the session is over after as many things seen as it has actions, and after one if it has none.
+-- Whatever comes, the session is over after as many results as it has actions, and after one if it has none.
 abbrev pub EndsWithinActions : Type 0
 EndsWithinActions = (chip : Chip) (plan : Plan) (limits : Limits) (d d' : Device) (s : Session) (seens : List Seen)
-    → History chip d (initial_dfuse plan limits) seens d' s → max 1 limits.actions ≤ length seens → DfuseIsOver s.phase
+    → History chip d (initial_dfuse_session plan limits) seens d' s → max 1 limits.actions ≤ length seens → DfuseIsOver s.phase

@@ -1,10 +1,9 @@
-//! Laws of sessions with a DfuSe device. Each is the contract of a function that calls only other laws, which is proved and not to be
-//! called for what it does.
+//! Laws of sessions with a DfuSe device. Each is the contract of a function that calls only other laws, which is proved and has no effect.
 
 ghost use Rattle.dfuse_link.specs.Counts.{CleanRunsAreCounted, PlansHaveCounts};
 ghost use Rattle.dfuse_link.specs.Fronts.{NoMixture, NoneButErasing, RestInMemory};
 ghost use Rattle.dfuse_link.specs.Promises.{EndsWithinActions, HistoriesAreRows, VerifiedIsTrue};
-ghost use Rattle.dfuse_link.specs.Touched.{OthersStay};
+ghost use Rattle.dfuse_link.specs.Touched.{OtherPagesStay};
 
 use dfu_formats::memory::laws::one_page;
 use dfuse_host::laws::{only_touched, sessions_end, verified_is_read_back};
@@ -25,7 +24,7 @@ pub fn verified_is_true()
     verified_is_read_back();
 }
 
-/// While a session writes the front, each byte of the image after it is in the device's memory.
+/// While a session writes the front, each byte of the image after the front is in the device's memory.
 pub fn rest_stands()
     ensures { RestInMemory }
 {
@@ -35,14 +34,14 @@ pub fn rest_stands()
 /// If the map is true of the image's pages, and the device carries out no order at first, no byte changes on a page that has no byte of the
 /// image.
 pub fn others_stay()
-    ensures { OthersStay }
+    ensures { OtherPagesStay }
 {
     verified_is_read_back();
     only_touched();
 }
 
-/// If nothing gets lost, the device works, and the limits allow as many actions, a session ends as Verified after exactly as many requests
-/// and waits as its plan's pages and blocks make, and no earlier. Each plan has such numbers.
+/// If nothing gets lost, the device works, and the limits allow the actions, a session ends as Verified after exactly the requests and
+/// waits that its plan's pages and blocks make, and no earlier. Each plan has such numbers.
 pub fn clean_runs_are_counted()
     ensures exact { CleanRunsAreCounted }
     ensures counts { PlansHaveCounts }
@@ -50,10 +49,10 @@ pub fn clean_runs_are_counted()
     one_page();
 }
 
-/// Say no two ranges of the map share an address, the map is true of the image's pages, the device carries out no order at first, and an
-/// erase of the front's page reaches the front. Then at each moment the front is blank, or what isn't on its page is all as it was, or the
-/// image is there. While the session's work is another one than to erase, the front is blank, or the image follows it in the memory, on its
-/// page too.
+/// Let no two ranges of the map share an address, let the map be true of the image's pages, let the device carry out no order at first, and
+/// let an erase of the front's page reach the front. Then at each moment the front is blank, or the bytes off its page are all as they
+/// were, or are all bytes of the image. While the session's work is not to erase, the front is blank, or each byte of the image after the
+/// front is in the memory, also those on the front's page.
 pub fn no_mixture()
     ensures always { NoMixture }
     ensures but_erasing { NoneButErasing }

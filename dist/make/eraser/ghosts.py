@@ -1,19 +1,19 @@
 """Takes away what is written in the language of the proofs: ghost items, contracts, impls of Model, and those of Debug."""
 from duties import duties_of
 from refusal import Refusal
-from tokens import Token, code_before, end_of_group, next_code, tokens_of
+from tokens import OPEN, Token, code_before, end_of_group, next_code, tokens_of
 
 
 def without_proofs(path, tokens):
     """The tokens of plain Rust. A public function that asks something of its caller says so in its docstring, and tests what can be
     tested."""
-    made, at, asked = [], 0, []
+    made, at, asked, is_left_out = [], 0, [], False
     while at < len(tokens):
         token = tokens[at]
         end = end_of_left_out(path, tokens, at) if token.text == "impl" else None
         if end is not None:
             drop_space(made, with_comments=True)
-            at = end
+            at, is_left_out = end, True
         elif token.kind == "ghost":
             drop_ghost(path, made, token)
         elif token.kind == "clause":
@@ -25,6 +25,22 @@ def without_proofs(path, tokens):
                 at, asked = after, []
         else:
             made.append(token)
+        at += 1
+    return without_tables(path, made) if is_left_out else made
+
+
+def without_tables(path, tokens):
+    """The tokens without each private `static` that no code names, as the table of names that only an impl of Debug reads."""
+    made, at = [], 0
+    while at < len(tokens):
+        name = tokens[next_code(tokens, at + 1)].text if tokens[at].text == "static" else None
+        is_private = code_before(made) < 0 or made[code_before(made)].text in ("}", ";")
+        if name and is_private and sum(it.text == name for it in tokens if it.is_code()) == 1:
+            drop_space(made, with_comments=True)
+            while tokens[at].text != ";":
+                at = end_of_group(path, tokens, at) if tokens[at].text in OPEN else at + 1
+        else:
+            made.append(tokens[at])
         at += 1
     return made
 

@@ -41,7 +41,7 @@ def with_items(path, tokens):
 
 
 def place_of(path, tokens, words):
-    """Where these words begin, which are there once."""
+    """The only place at which these words begin. If there is none, or a second one, it is refused."""
     places = [at for at in range(len(tokens)) if begins(tokens, at, words.split())]
     if len(places) != 1:
         raise Refusal(path, 1, f"`{words}` is there {len(places)} times, and not once")
@@ -49,7 +49,7 @@ def place_of(path, tokens, words):
 
 
 def begins(tokens, at, wanted):
-    """Whether these words begin at a place, and nothing but an item's own words do."""
+    """Tells if the code at a place begins with these words; blanks and comments between them do not count."""
     found = [it.text for it in tokens[at:at + 2 * len(wanted)] if it.is_code()][:len(wanted)]
     return found == wanted and tokens[at].is_code()
 

@@ -17,7 +17,7 @@ from words import Words
 
 MODULES = {
     "dfu_wire": "wire", "dfu_suffix": "suffix", "dfu_slots": "slots", "dfu_device": "device", "dfu_host": "host", "dfu_asks": "asks",
-    "dfu_boot": "boot", "dfu_home": "home",
+    "dfu_boot": "boot", "dfu_home": "home", "dfu_places": "places",
     "dfu_formats::memory": "dfuse::memory", "dfuse_host": "dfuse::session", "dfu_formats::dfuse": "dfuse::file",
     "dfu_formats::images": "formats", "dfu_conformance": "conformance", "dfu_conformance::dfuse": "dfuse_conformance",
 }
@@ -79,7 +79,8 @@ class Source:
 
 
 def name_in(crate, place):
-    """The name in a crate, or in a module that lies apart, of the source at a place in the crate's folder; None if it has no such one."""
+    """The name of a source within its crate, or within a module that lies apart (APART), by its place in the crate's folder. None if
+    it is in another one."""
     crate, _, module = crate.partition("::")
     part, _, rest = place.partition("/")
     if not module:

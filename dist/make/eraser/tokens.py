@@ -99,7 +99,7 @@ class Lexer:
 
 
 def tokens_of(path, text):
-    """The tokens of a source, in their order: their texts are the source."""
+    """The tokens of a source, in order. Their texts, one after the other, are the source again, so nothing is lost."""
     return list(Lexer(path, text).tokens())
 
 

@@ -8,7 +8,7 @@ from tokens import tokens_of
 # The crates dfu_laws and dfuse_link have laws alone, so that nothing of them is left.
 MODULES = {
     "dfu_sim": "sim", "dfu_link": "link", "dfu_conformance::captures": "pcap", "dfu_output": "output", "dfu_args": "words", "dfu_fs": "files",
-    "dfu_cmd": "command", "dfu_examples": "callers",
+    "dfu_plan": "plan", "dfu_cmd": "command", "dfu_examples": "callers",
 }
 # What is written by hand: the head of the package, the entry of the program, and what it asks of the system.
 FRAME = os.path.join(os.path.dirname(__file__), "program")

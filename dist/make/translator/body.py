@@ -89,8 +89,13 @@ class Body:
         return lines
 
     def of_arrays(self):
-        lines = []
-        for group in stack.shared(self.ways, {name: size for name, (size, _) in self.arrays.items()}):
+        lines, places, function = [], self.program.sizes.ranges.cells.places, self.function.name
+        known = [name for name in self.arrays if (function, name) not in places.lost]
+        sizes = {name: size for name, (size, _) in self.arrays.items()}
+        def arrays_of(value):
+            return {it[1] for it, _ in places.of(function, value) if it[0] == function}
+
+        for group in stack.shared(self.ways, sizes, known, arrays_of):
             align = max(self.arrays[name][1] for name in group)
             first = self.names.of(group[0])
             lines.append(f"    _Alignas({align}) unsigned char {first}[{self.arrays[group[0]][0]}];")

@@ -4,11 +4,13 @@ import re
 from expressions import Expression, negated, number
 from ranges import SIZE
 from refusals import refuse
-from text import bits, constant
+from text import READER, READER_IN_C, bits, constant
 
 
 class Ends:
     def call(self, line):
+        if line["function"] == READER:
+            return self.emit(f"{READER_IN_C}({', '.join(self.as_size(*it) for it in line.given)});")
         name = line["function"].strip('@"')
         called = self.body.program.sizes.functions.get(name)
         given = ", ".join(self.handed(called, k, *it).text for k, it in enumerate(line.given))
@@ -22,10 +24,18 @@ class Ends:
 
     call_only = call
 
+    def as_size(self, type, value):
+        """What the program's reader is handed: a place, or a number of bytes."""
+        return (self.size(value) if type == "i64" else self.value(type, value)).text
+
     def handed(self, called, k, type, value):
         """What a call hands over as its parameter k."""
-        is_size = called and type == "i64" and self.body.program.sizes.is_size(called.name, called.parameters[k][1])
-        return self.size(value) if is_size else self.value(type, value)
+        sizes = self.body.program.sizes
+        if not called or type != "i64" or not sizes.is_size(called.name, called.parameters[k][1]):
+            return self.value(type, value)
+        if (called.name, called.parameters[k][1]) in sizes.capped and not self.is_size(type, value):
+            return Expression(f"capped_size({self.value(type, value).text})")
+        return self.size(value)
 
     def give(self, line):
         made = (self.size(line["value"]) if self.body.result == "size" else self.value(line["type"], line["value"])).text

@@ -46,10 +46,15 @@ class Flow:
         behind = self.shape.behind[label]
         breaks = behind[0] if behind else around.next
         inside, _ = self.row(label, self.shape.after[label], Around(label, breaks, label, label))
-        begin = "for (;;) {"
+        lines = [(0, "for (;;) {"), *deeper(inside), (0, "}")]
         if inside and inside[0][1] in self.opposite:
-            begin, inside = f"while ({self.opposite[inside[0][1]]}) {{", inside[1:]
-        lines = [(0, Label(label)), (0, begin), *deeper(inside), (0, "}")]
+            goes_on = self.opposite[inside[0][1]]
+            lines = [(0, f"while ({goes_on}) {{"), *deeper(inside[1:]), (0, "}")]
+            if any(line.number in self.body.program.sizes.counts for line in self.ways.by_label[label].lines):
+                # A turn for each byte: the condition stands behind it, which takes a jump less.
+                loop = [(0, "do {"), *deeper(inside[1:]), (0, f"}} while ({goes_on});")]
+                lines = [(0, f"if ({goes_on}) {{"), *deeper(loop), (0, "}")]
+        lines = [(0, Label(label)), *lines]
         return self.following(lines, label in self.ended, behind, around)
 
     def row(self, label, after, around):

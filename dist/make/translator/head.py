@@ -1,6 +1,8 @@
 """The head of a file: what it is, what C has to provide, and the functions for what LLVM has by itself."""
 import re
 
+from text import READER_IN_C
+
 WHAT_IT_IS = """/* SPDX-License-Identifier: MIT OR Apache-2.0
  *
  * The body of {names}: {what}
@@ -53,6 +55,10 @@ void *memset(void *to, int byte, size_t count);
 _Static_assert((unsigned char)-1 == 255 && sizeof(int) == 4 && sizeof(void *) <= 8, "a processor that this file is not for");
 _Static_assert(sizeof(size_t) >= 4 && sizeof(size_t) <= 8 && sizeof(size_t) == sizeof(void *), "a processor that this file is not for");
 """
+# Of flash that is not mapped.
+OF_THE_PROGRAM = f"""/* The program's, which puts so many bytes of flash from there on into memory. Nothing else here looks at flash. */
+void {READER_IN_C}(const unsigned char *from, unsigned char *to, size_t count);
+"""
 # By the beginning of their names: NAME is the whole one, T the type of C for its bits, SIZE their bytes, and AT where they are.
 HELPERS = {
     "load": "T NAME(const unsigned char *p) { T x = 0; memcpy(&x, AT, SIZE); return x; }",
@@ -63,6 +69,7 @@ HELPERS = {
     "uadd_sat": "T NAME(T x, T y) { return (T)(x + y) < x ? (T)-1 : (T)(x + y); }",
     "product": "struct PAIR NAME(T x, T y) { return (struct PAIR){ x * y, x != 0 && x * y / x != y }; }",
     "wide": "uint64_t NAME(size_t x) { return x; }",
+    "capped": "T NAME(uint64_t x) { return (T)(x < (T)-1 ? x : (T)-1); }",
     "signed": "intT NAME(T x) { intT y; memcpy(&y, &x, SIZE); return y; }",
 }
 
@@ -97,7 +104,7 @@ def head(header, bodies):
         WHAT_IT_IS.format(names=names, what=WHAT.get(names, ""), includes=includes) + of_c(bodies),
         *(f'_Static_assert({it}, "another layout");' for it in header.layouts), "",
         *(f"struct {it} {{ {' '.join(of_struct(it))} }};" for it in pairs), "",
-        *(helper(it) for it in used), ""])
+        *(helper(it) for it in used), *[OF_THE_PROGRAM] * (f"{READER_IN_C}(" in bodies), ""])
 
 
 def of_struct(pair):

@@ -8,7 +8,7 @@ ALL = -1
 
 
 def first(count):
-    """The first so many bytes, each as a bit of a number; all bytes, if it is None."""
+    """A mask of the first `count` bytes, one bit for each byte; of all bytes, if the count is None."""
     return ALL if count is None else (1 << count) - 1
 
 
@@ -47,7 +47,7 @@ class Live:
         return has_changed
 
     def wanted(self, function, place, count):
-        """Which of so many bytes from a place on are read; all, if their number is not known and any is."""
+        """A mask of those of `count` bytes from a place on that are read; all of them, if the count is None and any byte is read."""
         found = 0
         for it, at in self.places.of(function, place):
             if it not in self.read:

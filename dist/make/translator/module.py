@@ -7,7 +7,7 @@ from check import check
 from refusals import refuse
 
 DATALAYOUT = "e-m:e-p270:32:32-p271:32:32-p272:64:64-i8:8:32-i16:16:32-i64:64-i128:128-n32:64-S128-Fn32"
-# Of a function, what says nothing of what it does, or says less.
+# Attributes of a function that don't change what it does: hints, and promises that the C need not make.
 ATTRIBUTE = (r'minsize|optsize|inlinehint|alwaysinline|noinline|cold|mustprogress|willreturn|noreturn|nounwind|nofree|norecurse|nosync'
              r'|nocallback|nocreateundeforpoison|speculatable|memory\([a-z0-9_:, ]+\)'
              r'|"(?:frame-pointer|probe-stack|stack-probe-size|target-cpu)"="[^"]*"')
@@ -17,6 +17,7 @@ OUTSIDE = [re.compile(it) for it in (
     r'target triple = "aarch64-unknown-linux-gnu"', f'target datalayout = "{re.escape(DATALAYOUT)}"',
     rf'attributes #[0-9]+ = \{{(?: (?:{ATTRIBUTE}))+ \}}',
     r"declare void @llvm\.(memset\.p0|memmove\.p0\.p0|memcpy\.p0\.p0)\.i64\([^@]*\) #[0-9]+", r"declare void @llvm\.trap\(\) #[0-9]+",
+    rf"declare void {text.READER}\(ptr, ptr, i64\)(?: local_unnamed_addr)?(?: #[0-9]+)?",
     r"declare void @llvm\.lifetime\.(start|end)\.p0\([^@]*\) #[0-9]+",
     r"declare \{ i64, i1 \} @llvm\.umul\.with\.overflow\.i64\(i64, i64\) #[0-9]+",
     r"declare i[0-9]+ @llvm\.(umin|umax|uadd\.sat|usub\.sat)\.i[0-9]+\(i[0-9]+, i[0-9]+\) #[0-9]+")]

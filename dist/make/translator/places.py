@@ -7,7 +7,7 @@ from text import bytes_of
 
 # What C hands over, where no array of the module is; and what a number leads to, where each one that is lost may be.
 OF_C, BY_NUMBER = "memory of C", "what a number leads to"
-# A pointer may lead to so many places of an array before any is taken for possible.
+# A pointer that may lead to more places of an array than this is taken to lead to any of them.
 MANY = 8
 KEEPS_NONE = ("place", "row", "phi", "choose", "same", "load", "store", "move", "copy", "fill", "compare_places", "alive", "dead", "call",
               "call_only")

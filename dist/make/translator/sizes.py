@@ -1,11 +1,13 @@
 """Which of a module's i64 are a size_t in C: 32 bits on a processor of 32 bits, and 64 on one of 64.
 
 One is so if it has at most 32 bits, as ranges.py finds where size_t has 32; or if nobody reads more than its low 32 bits then: a place
-that it moves, a number of bytes, a number of 32 bits that is made of it. All begin as such, and each line that reads more takes what it
-reads away."""
+that it moves, a number of bytes, a number of 32 bits that is made of it, the end of a loop through bytes (counts.py). All begin as such,
+and each line that reads more takes what it reads away."""
+from caps import capped
+from counts import through_bytes
 from live import Live
 from ranges import SIZE, Ranges
-from text import bits, bytes_of, constant
+from text import READER, bits, bytes_of, constant
 
 # Sums whose low bits are made of low bits alone.
 BY_LOW_BITS = ("add", "sub", "mul", "and", "or", "xor")
@@ -21,6 +23,8 @@ class Sizes:
         self.functions = {it.name: it for it in module.functions}
         self.read_whole = {it.name: set() for it in module.functions}
         self.live = Live(self.ranges.cells.places, self.bytes_loaded)
+        self.capped = set()
+        self.counts = {number: loop for it in self.ranges.conditions.values() for number, loop in through_bytes(it).items()}
         has_changed = True
         while has_changed:
             has_changed = False
@@ -32,6 +36,7 @@ class Sizes:
                         new = {it for it in self.wholes(function.name, line) if it[0] == "%"} - read
                         has_changed |= bool(new)
                         read |= new
+        self.capped = capped(module, self)
 
     def is_low(self, function, name):
         """Whether a value has at most 32 bits, on a processor whose size_t has 32."""
@@ -49,13 +54,18 @@ class Sizes:
         return function.result == "i64" and self.is_size(function.name, Ranges.RESULT)
 
     def is_size(self, function, name):
-        return self.is_low(function, name) or name != Ranges.RESULT and name not in self.read_whole[function]
+        return (self.is_low(function, name) or (function, name) in self.capped
+                or name != Ranges.RESULT and name not in self.read_whole[function])
 
     def wholes(self, function, line):
         """What a line reads of which more than the low bits count."""
         kind = line.kind
         if kind == "narrow" and bits(line["to"]) <= 32 or READS_LOW.get(kind) in line.words:
             return [it for word, it in line.words.items() if word in ("to", "source", "base") and kind != "narrow"]
+        if kind == "compare" and line.number in self.counts:
+            return []
+        if kind == "call_only" and line["function"] == READER:
+            return []
         if kind in ("call", "call_only"):
             called = self.functions.get(line["function"].strip('@"'))
             names = [name for _, name in called.parameters] if called else [None] * len(line.given)

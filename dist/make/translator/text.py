@@ -10,6 +10,8 @@ NAME = f"%{LABEL}"
 # A table of constants: one of the module's, or one that the optimiser made of a switch.
 TABLE = r'@(?:static\.[0-9]+|switch\.table\.[A-Za-z0-9._]+|"switch\.table\.[^"]+")'
 FUNCTION = r'@"[^"]+"'
+# The program's function that reads flash which is not mapped (reads.py), and the word by which a compiler of C is told its name.
+READER, READER_IN_C = '@"program::read"', "DFU_READ"
 SIMPLE = rf"(?:{NAME}|-?[0-9]+|true|false|null|poison|{TABLE}|ptrtoint \(ptr {TABLE} to i64\))"
 VALUE = rf"(?:{SIMPLE}|zeroinitializer|\{{ {PLAIN} {SIMPLE}, {PLAIN} {SIMPLE} \}})"
 PARAMETER = rf"{TYPE} %a[0-9]+"
@@ -55,7 +57,7 @@ def halves(pair):
 
 
 def constant(type, text):
-    """The number that a value of so many bits is; None if it is none. Of `poison` any is right."""
+    """The number that a value of this type is; None if it is no constant. For `poison` any number is right, so it is 0."""
     if text in ("true", "false", "poison"):
         return int(text == "true")
     return int(text) % (1 << bits(type)) if re.fullmatch(r"-?[0-9]+", text) else None

@@ -20,7 +20,7 @@ FAR = 1024
 
 
 def first(count):
-    """The first so many bytes, each as a bit of a number; all bytes, if it is None."""
+    """A mask of the first `count` bytes, one bit for each byte; of all bytes, if the count is None."""
     return ALL if count is None else (1 << count) - 1
 
 
@@ -179,8 +179,8 @@ class Function:
                     yield from_origin, None if before is None else before + shift, shifted(its, shift) & bytes, tag
 
     def taken(self, state, places, size):
-        """What so many bytes from a place on hold, whichever the place is: origins with their shifts and bytes, counted from the place, and
-        with the tag, if the place is the object's first byte. The shift is None if it is not known."""
+        """The contents of `size` bytes from a place on that may be any of these places: origins with their shifts and bytes, counted from
+        the place, and with the tag, if the place is the object's first byte. The shift is None if it is not known."""
         found = []
         for it, by in places:
             for (of, origin, shift, tag), bytes in state.items():

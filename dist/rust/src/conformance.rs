@@ -1,7 +1,7 @@
 // Of crates/dfu_conformance/src/lib.rt, whose contracts are taken away.
 
-//! Could a device that keeps USB DFU 1.1 have answered so? A table of all that the standard leaves open, and a judge that follows every
-//! device of it at once.
+//! Could a device that keeps USB DFU 1.1 have given these answers? A table of all that the standard leaves open, and a judge that follows
+//! every device of it at once.
 
 macro_rules! row {
     ($from:ident, $asked:ident, $when:expr, $gives:ident, $next:ident, $source:ident) => {

@@ -1,7 +1,7 @@
 // Of crates/dfu_conformance/src/dfuse.rt, whose contracts are taken away.
 
-//! Could a DfuSe device have answered so? Rows that DfuSe adds to the table of USB DFU 1.1, and a judge that follows each device that keeps
-//! both.
+//! Could a DfuSe device have given these answers? Rows that DfuSe adds to the table of USB DFU 1.1, and a judge that follows each device
+//! that keeps both.
 
 mod judge;
 mod rows;

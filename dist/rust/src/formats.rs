@@ -1,9 +1,10 @@
 // Of crates/dfu_formats/src/images.rt, whose contracts are taken away.
 
-//! Images in the files that builds produce: their bytes, by address.
+//! Images in the files that builds produce: bytes, by their addresses.
 //!
-//! Bytes that begin where those of the record before end belong to its element; others begin one. So two elements may touch if the file
-//! has them apart. A file has up to 16,777,216 bytes of data and 1,024 elements. Overlaps are looked for once all is read.
+//! Bytes that begin where those of the record before them end belong to its element, and others begin one. For example, two elements may
+//! touch if the file has them apart. A file has up to 16,777,216 bytes of data and 1,024 elements. Overlaps are looked for once all is
+//! read.
 
 mod digits;
 mod element;

@@ -36,7 +36,10 @@ pub use medium::{Failed, Faulty, Medium};
 pub use noted::{LastWrites, WriteEnd, WriteNote};
 pub use operation::{Op, Source};
 pub use places::{Places, check};
-pub use read::{data_at, generation, header_of, is_open, read_data};
+pub use read::{
+    crc_of_flash, data_at, flash_byte_at, generation, header_of, is_flash_erased, is_open,
+    read_data, read_flash,
+};
 pub use sequence::{MAX_OPERATIONS, Sequence};
 #[cfg(feature = "std")]
 pub use sim::{NoMemory, SimMedium};

@@ -16,8 +16,8 @@ void image_start(const uint8_t *image, size_t length);
 /* Runs first after each reset of the processor. */
 void on_reset(void) __attribute__((noreturn));
 
-/* Calls that start.c makes: the bootloader; for a byte of the serial port; for the interrupt of clock_wake_in; and for a text of the
-   image. */
+/* Functions that start.c calls: the bootloader, and the handlers for a byte from the serial port, for the interrupt that clock_wake_in
+   sets, and for a text from the image. */
 int main(void);
 void on_serial(void);
 void on_time(void);

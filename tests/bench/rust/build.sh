@@ -3,12 +3,12 @@
 # shellcheck shell=sh disable=SC2154
 # shellcheck source=tests/lib/twice/cargo.sh
 . "$top/tests/lib/twice/cargo.sh"
-mkdir -p "$work/bench/rust"
-cp -R "$top/tests/bench/rust/package" "$work/bench/rust/package"
-rm -rf "$work/bench/rust/package/target" "$work/bench/rust/package/Cargo.lock"
+mkdir -p "$work/tests/bench/rust"
+cp -R "$top/tests/bench/rust/package" "$work/tests/bench/rust/package"
+rm -rf "$work/tests/bench/rust/package/target" "$work/tests/bench/rust/package/Cargo.lock"
 
 # session_of PART TARGET ARCHIVE: the session of a device or of a host, for what rustc calls a target.
 session_of() {
-    (cd "$work/bench/rust/package" && quiet cargo build -j "$jobs" --release --target "$2" --features "$1") || exit 1
+    (cd "$work/tests/bench/rust/package" && quiet cargo build -j "$jobs" --release --target "$2" --features "$1") || exit 1
     cp "$work/target/$2/release/libsession.a" "$3"
 }

@@ -153,8 +153,8 @@ run_short() {
     done
     digests 5000 10000 1
 }
-# digests CALLS CALLS SEED..: as on x86-64, over aligned and unaligned memory: so many calls of the device for each seed, and so many
-# of the host.
+# digests CALLS HOST_CALLS SEED..: digests are those of x86-64, over aligned and unaligned memory: of CALLS calls of the device for each
+# seed, and of HOST_CALLS calls of the host.
 digests() {
     program digest "$bare/digest.c" "$device"
     program digest_host "$bare/digest_host.c" "$host"
@@ -168,7 +168,7 @@ digests() {
         is "$target: the host as on x86-64, $odd bytes off" as_here digest_host "$of_host" "$odd"
     done
 }
-# sizes DEVICE HOST BOOT NEEDS: the libraries are under so many bytes, and need no other names; and how deep their calls go.
+# sizes DEVICE HOST BOOT NEEDS: each library is smaller than its number of bytes and needs no name but NEEDS; the stack of calls is printed.
 sizes() {
     echo "$target"
     boot=${device%/*}/libdfu_boot.a

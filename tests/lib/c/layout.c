@@ -7,6 +7,7 @@
 #include "dfu_home.h"
 #include "dfu_image_take.h"
 #include "dfu_install.h"
+#include "dfu_places.h"
 #include "dfu_trial.h"
 #include "dfu_runtime.h"
 
@@ -94,6 +95,23 @@ AT(dfu_install, driver, 2 * sizeof(void *) + 8);
 SIZE(dfu_home_record, 8);
 AT(dfu_home_record, last, 0);
 AT(dfu_home_record, count, 4);
+
+SIZE(dfu_span, 8);
+AT(dfu_span, at, 0);
+AT(dfu_span, length, 4);
+
+SIZE(dfu_placement, 56);
+AT(dfu_placement, sector, 0);
+AT(dfu_placement, capacity, 4);
+AT(dfu_placement, things, 8);
+
+SIZE(dfu_places, 2 * sizeof(void *));
+AT(dfu_places, placement, 0);
+AT(dfu_places, part, sizeof(void *));
+
+SIZE(dfu_spot, 8);
+AT(dfu_spot, thing, 0);
+AT(dfu_spot, offset, 4);
 
 SIZE(dfu_tries, 12);
 AT(dfu_tries, unit, 0);

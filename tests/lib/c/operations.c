@@ -85,7 +85,7 @@ static void refusals(void) {
     large.unit = 64;
     odd.sector = 100;
     sectors.sector = 256;
-    huge.sector = 131328;
+    huge.sector = 262400;
     expect("format", dfu_memory_format(&three, none, sizeof none, none, 0) == DFU_NO_CONFIG
                          && dfu_memory_format(&odd, none, sizeof none, none, 0) == DFU_NO_CONFIG
                          && dfu_memory_format(&config, none, 66, none, 0) == DFU_WRONG_SIZE
@@ -99,7 +99,7 @@ static void refusals(void) {
                            && dfu_core_power_on(&config, &device, none, 192) == DFU_NO_MEDIUM);
     expect("image", dfu_core_image(&three, none, 192, &place) == DFU_NO_CONFIG
                         && dfu_core_image(&huge, none, 192, &place) == DFU_NO_CONFIG
-                        && (huge.sector = 131072, dfu_core_image(&huge, none, 192, &place) == DFU_NO_MEDIUM)
+                        && (huge.sector = 262144, dfu_core_image(&huge, none, 192, &place) == DFU_NO_MEDIUM)
                         && dfu_core_image(&large, none, 192, &place) == DFU_NO_MEDIUM);
 #define HANDLE(config, device, most, flash, room) \
     dfu_core_handle(config, device, board.pending, most, flash, 192, setup, (const uint8_t *)"", 0, out, room)

@@ -186,7 +186,7 @@ static void is_refused(int32_t number, uint32_t unit, uint32_t sector, uint32_t 
 }
 static void refusals(void) {
     static const int32_t by[][4] = {{DFU_NO_CONFIG, 2, 256, 2}, {DFU_NO_CONFIG, 2, 0, 0}, {DFU_NO_CONFIG, 16, 100, 1},
-        {DFU_NO_CONFIG, 16, 262144, 2}, {DFU_NO_SECTORS, 16, 0, 2}, {DFU_NO_SECTORS, 1, 0, 0}, {DFU_FEW_TRIES, 16, 256, 0},
+        {DFU_NO_CONFIG, 16, 524288, 2}, {DFU_NO_SECTORS, 16, 0, 2}, {DFU_NO_SECTORS, 1, 0, 0}, {DFU_FEW_TRIES, 16, 256, 0},
         {DFU_FEW_TRIES, 16, 256, 1}, {DFU_MANY_TRIES, 16, 256, 15}, {DFU_MANY_TRIES, 64, 256, 3}, {DFU_MANY_TRIES, 16, 256, -1},
         {DFU_NO_MEDIUM, 16, 256, 2}, {DFU_NO_MEDIUM, 16, 256, 14}};
     memset(part, 0xff, sizeof part);

@@ -1,6 +1,7 @@
 /* Time that a host waits for a download, by the choice of busy_ms, and by each block's own time: the rows of the table of docs/PORTING.md,
  * "How long a host waits". The device is the library's; the part's times are modelled, and the bus takes none. After each answer that says
- * dfuDNBUSY the host waits bwPollTimeout, and its next request gets NAK until the block is written. */
+ * dfuDNBUSY the host waits bwPollTimeout, and its next request gets NAK until the block is written. By each block's own time the host must
+ * wait at most one and a half times as long as the part is busy; else the status is 1. */
 #include <stdio.h>
 #include <string.h>
 
@@ -26,7 +27,7 @@ static int program(void *own, uint32_t at, const uint8_t *bytes, uint32_t length
 }
 
 static uint8_t data[4096], flash[2 * (2 * 4096 + 524288)];
-static double waited, longest;
+static double waited, needed, longest;
 
 /* A request, and the work after its answer: how long the part is busy, and how long it may be. */
 static int32_t ask(struct dfu_device *d, const struct part *p, uint8_t request, uint16_t length, double *busy, double *most)
@@ -53,6 +54,7 @@ static int poll(struct dfu_device *d, const struct part *p)
         return 0;
     const double told = data[1] | data[2] << 8 | data[3] << 16;
     waited += told > busy ? told : busy;
+    needed += busy;
     longest = most - told > longest ? most - told : longest;
     return 1;
 }
@@ -67,7 +69,7 @@ static double session(const struct part *p, uint16_t block, uint32_t busy_ms, ui
     struct dfu_device d = {.config = &config, .flash = flash, .size = size, .block = memory, .most = sizeof memory, .driver = &driver};
     double busy, most;
     int is_well = size <= sizeof flash && dfu_device_format(&d, data, 1) == 0 && dfu_device_begin(&d) == 0;
-    waited = longest = 0;
+    waited = needed = longest = 0;
     for (uint32_t at = 0; is_well && at <= p->image; at += block) {
         is_well = ask(&d, p, DFU_DNLOAD, at < p->image ? block : 0, &busy, &most) == 0 && poll(&d, p);
         if (is_well && dfu_device_state(&d) == DFU_STATE_DNLOAD_SYNC)
@@ -101,8 +103,12 @@ int main(void)
             const uint32_t few = chosen(p, block);
             const double by_all = session(p, block, all, 0, 0), by_few = session(p, block, few, 0, 0), most = longest;
             const double own = session(p, block, 1, (uint16_t)p->erase_ms, (uint16_t)((p->tenths + 9) / 10));
-            if (by_all < 0 || by_few < 0 || own < 0)
+            if (by_all < 0 || by_few < 0 || own < 0 || needed == 0)
                 return 1;
+            if (own * 1000 > needed * 1.5) {
+                printf("%s: a wait of %.1f s, and the part is busy for %.1f s\n", p->name, own, needed / 1000);
+                return 1;
+            }
             printf("| %s | %u KiB | %u,%03u | %u | %.1f s | %u | %.1f s | %.1f s | %.1f s |\n", p->name, (unsigned)p->image / 1024,
                    block / 1000u, block % 1000u, (unsigned)all, by_all, (unsigned)few, by_few, most / 1000, own);
         }

@@ -123,11 +123,11 @@ printf ':00000001FF\r\n' >> it.hex
 for format in ihex auto; do
     rm -f out
     expect 0 'wrote 25
-format ihex address 08000000' "$dfu" add it.hex out $ids --format $format
+format ihex address 0x08000000' "$dfu" add it.hex out $ids --format $format
     same out digits.dfu
 done
 expect 0 'wrote 25
-format ihex address 08000000' sh -c "'$dfu' add - out $ids --format auto < it.hex"
+format ihex address 0x08000000' sh -c "'$dfu' add - out $ids --format auto < it.hex"
 same out digits.dfu
 cp digits.dfu kept
 expect 1 'refused NoMark 1' "$dfu" add digits.bin kept --format srec
@@ -140,7 +140,7 @@ printf ':0100000001FE\n:0100020001FC\n:00000001FF\n' > gap.hex
 expect 1 'refused Gap 00000001 00000002' "$dfu" add gap.hex kept --format auto
 same kept digits.dfu
 expect 0 'wrote 19
-format ihex address 00000000' "$dfu" add gap.hex out --format auto --fill A5
+format ihex address 0x00000000' "$dfu" add gap.hex out --format auto --fill A5
 "$dfu" extract out it > line
 equal 'a gap that is filled' '01a501' "$(od -An -tx1 it | tr -d ' \n')"
 # What is no image makes no file; what nothing is known against is taken as it is, and so is text by the word raw.

@@ -49,7 +49,7 @@ holds 'on trial' new
 starts 'an image that never confirms' "$new_runs" "$new_runs" "$new_runs" "$old_runs" "$old_runs"
 holds 'an image that never confirms' old
 
-# It confirms, by its own place.
+# An image confirms itself by its own place; the place of the confirmed image confirms nothing.
 on_trial
 starts 'an image that confirms' "$new_runs"
 cp medium before
@@ -63,7 +63,7 @@ starts 'an image that confirmed' "$new_runs" "$new_runs" "$new_runs" "$new_runs"
 refused 1 'no image that may run begins there' confirm medium 8192 --tries 3
 is 'no more marks' cmp -s medium before
 
-# It is ended.
+# A trial that is ended brings the old image back at once.
 on_trial
 is 'an end' ./gadget end medium --tries 3
 holds 'an end' old

@@ -14,6 +14,7 @@ for words in '' 'format' 'format medium' 'format medium old' 'format medium --mo
     # shellcheck disable=SC2086
     refused 2 '' $words
     is "$words: it says why" test -s err
+    is "$words: a next step" grep -q '^next: ' err
 done
 is '--help' eval './gadget --help > help'
 is '-V' eval './gadget -V --what > version'

@@ -29,8 +29,8 @@ static const struct inline_call {
                     {"dfu_trial_transfer", downloading, transfer, STATES | SETUPS},
                     {"dfu_trial_format", formatting_a_trial, format_trial, 0}};
 
-/* A state, and a time that is due. Paths are as long as they may be in dfuDNBUSY and dfuIDLE, and shorter in the others, which lead to
- * the same calls. */
+/* Picks a state, and a due time or an error in its place. Paths have full length only in dfuDNBUSY and dfuIDLE with a due time of 7 ms;
+ * all others lead to the same calls, and get one operation. */
 static void pick_state(void)
 {
     static const int32_t states[] = {DFU_STATE_DNBUSY,      DFU_STATE_IDLE,     DFU_STATE_APP_IDLE,    DFU_STATE_DNLOAD_SYNC,

@@ -33,6 +33,7 @@ static void memory(void) {
     check("what that leaves", wide[0] * 100 + wide[4], 1409);
     check("arrays at once", dfu_flow_arrays(7), 23);
     check("arrays one after the other", dfu_flow_arrays(8), -3);
+    check("arrays without marks", dfu_flow_touches(100), 130);
     check("a pointer in memory", dfu_flow_pointer(&room, some, 3), 200);
     check("what was copied", memcmp(&room, some, 3), 0);
     check("what was not filled", some[0], 7);

@@ -294,3 +294,50 @@ start:
   %w = zext i8 %x to i32
   ret i32 %w
 }
+
+; Arrays without marks: two of which one is in use after the other, two of which one is read in the next turn of a loop again, and one that
+; is read by who has its place as a number.
+define i32 @dfu_flow_touches(i32 %a0) #0 {
+start:
+  %first = alloca [8 x i8], align 8
+  %kept = alloca [8 x i8], align 8
+  %later = alloca [4 x i8], align 4
+  %round = alloca [4 x i8], align 4
+  %turn = alloca [4 x i8], align 4
+  store i32 %a0, ptr %first, align 8
+  %x = load i32, ptr %first, align 8
+  store i32 7, ptr %kept, align 8
+  %place = ptrtoint ptr %kept to i64
+  store i32 5, ptr %later, align 4
+  %y = load i32, ptr %later, align 4
+  store i32 3, ptr %round, align 4
+  br label %loop.1
+
+loop.1:                                           ; preds = %next.4, %start
+  %k = phi i32 [ 0, %start ], [ %k.next, %next.4 ]
+  %sum = phi i32 [ 0, %start ], [ %sum.next, %next.4 ]
+  %r = load i32, ptr %round, align 4
+  %is.odd = trunc i32 %a0 to i1
+  br i1 %is.odd, label %next.4, label %even.3
+
+even.3:                                           ; preds = %loop.1
+  store i32 %k, ptr %turn, align 4
+  %t = load i32, ptr %turn, align 4
+  br label %next.4
+
+next.4:                                           ; preds = %even.3, %loop.1
+  %u = phi i32 [ 0, %loop.1 ], [ %t, %even.3 ]
+  %rt = add i32 %r, %u
+  %sum.next = add i32 %sum, %rt
+  %k.next = add i32 %k, 1
+  %is.end = icmp eq i32 %k.next, 4
+  br i1 %is.end, label %done.2, label %loop.1
+
+done.2:                                           ; preds = %next.4
+  %q = inttoptr i64 %place to ptr
+  %z = load i32, ptr %q, align 4
+  %xy = add i32 %x, %y
+  %zs = add i32 %z, %sum.next
+  %r.all = add i32 %xy, %zs
+  ret i32 %r.all
+}

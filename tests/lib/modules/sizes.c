@@ -40,6 +40,17 @@ static uint64_t bounded(uint64_t a, uint64_t b, uint64_t c) {
     return c <= b ? (b - c > b - b / 2) + a + a : b - c > a + a;
 }
 
+static uint64_t capped(uint64_t a, uint64_t b) {
+    return (a < b ? a : b) | (a < 70000 ? a : 70000) << 40;
+}
+
+static void loops(const uint8_t *bytes, uint64_t a, uint64_t b) {
+    const uint64_t count = a - b;
+    if (count - 1 < 12)
+        check("bytes", dfu_sizes_bytes(bytes, a, b), 9u + (count > 9 ? 77u + (77ull << 32) : 0u));
+    check("until", dfu_sizes_until(bytes, a, b), count < 2 ? 100 : 1);
+}
+
 int main(void) {
     static const uint64_t numbers[] = {0, 1, 7, 999, 1000, 0xFFFF, 0x10000, 0x7FFFFFFF, 0x80000000, 0xFFFFFFFF, 0x100000000, 0x100000005,
                                        0x1FFFFFFFF, 0x200000000, 0x8000000000000000, 0xFFFFFFFFFFFFFFFF};
@@ -48,11 +59,14 @@ int main(void) {
     for (int i = 0; i < COUNT; i++) {
         for (int j = 0; j < COUNT; j++) {
             uint64_t a = numbers[i], b = numbers[j];
+            loops(bytes, a, b);
             check("parts", dfu_sizes_parts(a, b), parts(a, b));
             check("low", dfu_sizes_low(bytes, a, b), 77ull << 48 | (uint64_t)(a + 8 > b) << 40 | (uint32_t)(6 ^ a));
             for (int k = 0; k < COUNT; k++) {
                 uint32_t c = (uint32_t)numbers[k], d = (uint32_t)b;
                 check("sums", dfu_sizes_sums(c, d, a), sums(c, d, a));
+                check("capped", dfu_sizes_capped(b, c, a),
+                      capped(b, c) + capped(c, 8) + (b < c ? b : c) + (a < b ? a : b) + (b > 0xFFFFFFFF));
                 check("bounded", dfu_sizes_bounded(a, c, d), bounded(a, c, d));
             }
             uint32_t x = (uint32_t)a;

@@ -281,3 +281,123 @@ other.2:                                          ; preds = %seven.3, %never.1, 
   %r = add i64 %c.wide, %narrow.same
   ret i64 %r
 }
+
+; Loops through bytes. The number to which one counts is a size, if so many bytes are read; but not if another byte is read in each turn, if
+; the count begins elsewhere, or goes by twos.
+define i64 @dfu_sizes_bytes(ptr %a0, i64 %a1, i64 %a2) #0 {
+start:
+  %narrow.n = sub i64 %a1, %a2
+  %wide.m = sub i64 %a1, %a2
+  %wide.o = sub i64 %a1, %a2
+  br label %each.1
+
+each.1:                                           ; preds = %byte.2, %start
+  %narrow.i = phi i64 [ 0, %start ], [ %narrow.i.next, %byte.2 ]
+  %sum = phi i64 [ 0, %start ], [ %sum.next, %byte.2 ]
+  %is.all = icmp eq i64 %narrow.i, %narrow.n
+  br i1 %is.all, label %same.3, label %byte.2
+
+byte.2:                                           ; preds = %each.1
+  %p = getelementptr i8, ptr %a0, i64 %narrow.i
+  %x = load i8, ptr %p, align 1
+  %x.wide = zext i8 %x to i64
+  %sum.next = add i64 %sum, %x.wide
+  %narrow.i.next = add i64 %narrow.i, 1
+  br label %each.1
+
+same.3:                                           ; preds = %again.4, %each.1
+  %wide.j = phi i64 [ 0, %each.1 ], [ %wide.j.next, %again.4 ]
+  %sum.same = phi i64 [ 0, %each.1 ], [ %sum.same.next, %again.4 ]
+  %is.same = icmp eq i64 %wide.m, %wide.j
+  br i1 %is.same, label %from.5, label %again.4
+
+again.4:                                          ; preds = %same.3
+  %q = getelementptr i8, ptr %a0, i64 3
+  %y = load i8, ptr %q, align 1
+  %y.wide = zext i8 %y to i64
+  %sum.same.next = add i64 %sum.same, %y.wide
+  %wide.j.next = add i64 %wide.j, 1
+  br label %same.3
+
+from.5:                                           ; preds = %next.6, %same.3
+  %wide.k = phi i64 [ 1, %same.3 ], [ %wide.k.next, %next.6 ]
+  %sum.from = phi i64 [ 0, %same.3 ], [ %sum.from.next, %next.6 ]
+  %is.from = icmp ne i64 %wide.k, %wide.o
+  br i1 %is.from, label %next.6, label %done.7
+
+next.6:                                           ; preds = %from.5
+  %t = getelementptr i8, ptr %a0, i64 %wide.k
+  %z = load i8, ptr %t, align 1
+  %z.wide = zext i8 %z to i64
+  %sum.from.next = add i64 %sum.from, %z.wide
+  %wide.k.next = add i64 %wide.k, 1
+  br label %from.5
+
+done.7:                                           ; preds = %from.5
+  %u = shl i64 %sum.same, 16
+  %v = shl i64 %sum.from, 32
+  %uv = or i64 %u, %v
+  %all = or i64 %uv, %sum
+  ret i64 %all
+}
+
+; A loop that may end at a byte before: all bits of its number count.
+define i64 @dfu_sizes_until(ptr %a0, i64 %a1, i64 %a2) #0 {
+start:
+  %wide.n = sub i64 %a1, %a2
+  br label %each.1
+
+each.1:                                           ; preds = %byte.2, %start
+  %wide.i = phi i64 [ 0, %start ], [ %wide.i.next, %byte.2 ]
+  %is.all = icmp eq i64 %wide.i, %wide.n
+  br i1 %is.all, label %done.3, label %byte.2
+
+byte.2:                                           ; preds = %each.1
+  %p = getelementptr i8, ptr %a0, i64 %wide.i
+  %x = load i8, ptr %p, align 1
+  %wide.i.next = add i64 %wide.i, 1
+  %is.zero = icmp eq i8 %x, 0
+  br i1 %is.zero, label %done.3, label %each.1
+
+done.3:                                           ; preds = %byte.2, %each.1
+  %found = phi i64 [ 100, %each.1 ], [ %wide.i, %byte.2 ]
+  ret i64 %found
+}
+
+; What is only the most of a least is handed over as a size; what is compared besides, or is a least of two numbers of 64 bits, is not.
+define internal fastcc i64 @"sizes::capped"(i64 noundef %a0, i64 noundef %a1) unnamed_addr #0 {
+start:
+  %x = call i64 @llvm.umin.i64(i64 %a0, i64 %a1)
+  %y = call i64 @llvm.umin.i64(i64 70000, i64 %a0)
+  %z = shl i64 %y, 40
+  %made = or i64 %x, %z
+  ret i64 %made
+}
+
+define internal fastcc i64 @"sizes::hands_on"(i64 noundef %a0, i64 noundef %a1) unnamed_addr #0 {
+start:
+  %made = call fastcc i64 @"sizes::capped"(i64 noundef %a0, i64 noundef %a1)
+  ret i64 %made
+}
+
+define internal fastcc i64 @"sizes::read"(i64 noundef %a0, i64 noundef %a1, i64 noundef %a2) unnamed_addr #0 {
+start:
+  %x = call i64 @llvm.umin.i64(i64 %a0, i64 %a1)
+  %y = call i64 @llvm.umin.i64(i64 %a2, i64 %a0)
+  %is.more = icmp ugt i64 %a0, 4294967295
+  %z = zext i1 %is.more to i64
+  %u = add i64 %x, %y
+  %made = add i64 %u, %z
+  ret i64 %made
+}
+
+define i64 @dfu_sizes_capped(i64 %a0, i32 %a1, i64 %a2) #0 {
+start:
+  %narrow.b = zext i32 %a1 to i64
+  %x = call fastcc i64 @"sizes::hands_on"(i64 noundef %a0, i64 noundef %narrow.b)
+  %y = call fastcc i64 @"sizes::capped"(i64 noundef %narrow.b, i64 noundef 8)
+  %z = call fastcc i64 @"sizes::read"(i64 noundef %a0, i64 noundef %narrow.b, i64 noundef %a2)
+  %u = add i64 %x, %y
+  %v = add i64 %u, %z
+  ret i64 %v
+}

@@ -7,6 +7,7 @@ from files import NEW, suffixed
 from layout import fits, tab_order
 from views import ENTER, SPACE, TAB, is_labelled, is_quiet, is_readable, open_page, shot, shown, tab_to
 
+CHOSEN = 'return Array.from(document.getElementById("file").files, it => it.name)'
 UNNAMED = {'keepsPermission': False, 'serial': ''}
 
 
@@ -98,6 +99,7 @@ def by_drop(browser, address):
     """, list(suffixed(NEW)))
     browser.wait('!document.getElementById("fields").hidden')
     check_that('a file that is dropped', 'dropped.dfu' in shown(browser, '#fields'))
+    check('the chooser shows it', browser.run(CHOSEN), ['dropped.dfu'])
 
 
 def bad_files(browser, address, work):

@@ -149,7 +149,7 @@ def opens(browser):
     browser.size(400, 760)
     browser.run('document.querySelector("[data-line=time]").scrollIntoView({ block: "end" })')
     at = browser.run('return document.getElementById("now").getBoundingClientRect().top')
-    check('on a phone the state stays in sight', (at, shown(browser, '#now')), (0, 'The device: appIDLE, OK'))
+    check('on a phone the state stays in sight', (at, shown(browser, '#now')), (0, 'The device: appIDLE, OK\nNo session goes on.'))
     browser.size(1100, 1400)
 
 

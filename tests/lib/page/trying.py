@@ -8,7 +8,7 @@ import threading
 from browser import Handler
 from counting import check, check_that
 from files import NEW, suffixed
-from flashing import give_file, image, is_ready, prepare, report
+from flashing import CHOSEN, give_file, image, is_ready, prepare, report
 from layout import fits
 from views import ENTER, is_labelled, is_quiet, is_readable, open_page, shown
 
@@ -28,6 +28,9 @@ def simulated(browser, address, work):
     browser.click('#simulate')
     is_ready(browser)
     check_that('an example', 'example.dfu' in shown(browser, '#fields'), shown(browser, '#fields'))
+    check('the chooser shows it', browser.run(CHOSEN), ['example.dfu'])
+    browser.run('const it = document.getElementById("file"); it.onclick({ target: it }); it.dispatchEvent(new Event("cancel"))')
+    check('and where no other file was chosen', browser.run(CHOSEN), ['example.dfu'])
     check_that('the board says what it is', shown(browser, '#device').startswith('a simulated board, 1209:0001'), shown(browser, '#device'))
     check('the focus is at Flash', browser.run('return document.activeElement.id'), 'begin')
     browser.key(ENTER)
@@ -35,7 +38,7 @@ def simulated(browser, address, work):
     check('a simulated board', report(browser), 'Verified')
     check_that('it says that it is none', 'no hardware was touched' in shown(browser, '#report'))
     check('the tab', browser.run(MARKS), ['✓ Verified · Fustrelan', 'icon-good.svg'])
-    check('one board', shown(browser, '#tally'), '1 board is flashed.')
+    check('one board', shown(browser, '#tally'), '1 simulated board is flashed.')
     fits(browser, 'flash, a simulated board')
     is_labelled(browser, 'flash, a simulated board')
     give_file(browser, work, suffixed(NEW))
@@ -44,12 +47,12 @@ def simulated(browser, address, work):
     for number in (2, 3):
         browser.click('#next')
         check(f'board {number}', report(browser), 'Verified')
-        browser.wait(f'document.getElementById("tally").textContent === "{number} boards are flashed."')
+        browser.wait(f'document.getElementById("tally").textContent === "{number} simulated boards are flashed."')
     give_file(browser, work, suffixed(NEW, product=2), 'other.dfu')
     browser.wait('document.getElementById("fields").textContent.includes("0002")')
     browser.click('#next')
     browser.wait('document.getElementById("device-refused").textContent.startsWith("WrongTarget")')
-    check('a file for another board', (shown(browser, '#tally'), shown(browser, '#report')), ('3 boards are flashed.', ''))
+    check('a file for another board', (shown(browser, '#tally'), shown(browser, '#report')), ('3 simulated boards are flashed.', ''))
     is_quiet(browser, 'flash, a simulated board')
 
 
@@ -66,6 +69,10 @@ def next_board(browser, address, work):
     check('the next one', report(browser), 'Given up')
     check('the tab', browser.run(MARKS), ['✗ Given up · Fustrelan', 'icon-bad.svg'])
     check('of two', shown(browser, '#tally'), '1 board is flashed, 1 not.')
+    browser.click('#simulate')
+    is_ready(browser)
+    browser.click('#begin')
+    check('a simulated one then', (report(browser), shown(browser, '#tally')), ('Verified', '1 simulated board is flashed.'))
 
 
 def without_usb(browser, address):

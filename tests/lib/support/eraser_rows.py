@@ -97,6 +97,10 @@ ITEMS_BECOME = [
     ("// Why.\nimpl Model for S {\n    ghost view = { a };\n}\n\nstruct S;", "struct S;"),
     ("// Why.\nimpl fmt::Debug for S {\n    fn fmt<W: fmt::Write>(&self, f: &mut fmt::Formatter<W>) -> fmt::Result {\n"
      "        static A: [u8; 1] = [1];\n        Ok(())\n    }\n}\n\nstruct S;", "struct S;"),
+    ("impl fmt::Debug for S {\n    fn fmt() -> u8 {\n        A[0]\n    }\n}\n\n// Why.\nstatic A: [u8; 1] = [1];\n\nstruct S;",
+     "struct S;"),
+    ("impl fmt::Debug for S {\n    fn fmt() -> u8 {\n        A[0]\n    }\n}\n\nstatic A: [u8; 1] = [1];\n\nfn f() -> u8 {\n    A[0]\n}",
+     "static A: [u8; 1] = [1];\n\nfn f() -> u8 {\n    A[0]\n}"),
     ("fn f(x: u8) -> u8\n    requires a { x ≤ 1 }\n    // Why.\n    ensures * { result ≡ x }\n{\n    x\n}",
      "fn f(x: u8) -> u8 {\n    x\n}"),
     ("trait T {\n    fn f(x: u8)\n        requires { x ≤ 1 };\n}", "trait T {\n    fn f(x: u8);\n}"),

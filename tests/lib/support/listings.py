@@ -27,6 +27,7 @@ LEFT_OUT = {
     "examples/": "tests/c/microbit and tests/slow/signed, in QEMU",
     "SODIUM=": "tests/slow/signed",
     "fwupdtool": "tests/apps/interop",
+    "dfu-util": "a board; tests/apps/interop and tests/apps/alternates",
     "cd tests/unit": "tests/dist/rust",
     "cargo ": "tests/dist/rust",
 }

@@ -12,7 +12,7 @@ HEADERS = ("dfu_core.h", "dfu_host.h", "dfu_image.h", "dfu_trial_core.h", "dfu_i
 # (an inline call of a header is declared too, and no library has it)
 CALL = re.compile(r"(?<!static inline )(?<![\w{])(u?int32_t) (dfu(?:se)?_\w+)\(([^(){};]*)\);")
 PARAMETER = re.compile(r"(.*?[ *])(\w+)(\[\d+\])?")
-# What is handed with a length behind it, in so many elements.
+# Types of arrays that a call takes with the number of their elements behind them.
 ELEMENT = "struct dfuse_element"
 COUNTED = ("uint8_t", ELEMENT)
 HEAD = """#include <stdio.h>

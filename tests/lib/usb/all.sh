@@ -169,7 +169,7 @@ board 1-3 USB_SERIAL= USB_PULLED=800
 board 1-3 USB_SERIAL= USB_PLUGGED=5 USB_PAUSE=3000 "USB_SAVE=$work/saved-other"
 board 1-4 USB_SERIAL= USB_PULLED=800
 board 1-4 USB_SERIAL= USB_PLUGGED=7 USB_PAUSE=300 "USB_SAVE=$work/saved-too-soon"
-all --wait=4 new.dfu
+all --wait=8 new.dfu
 expect 'those that come' test "$code" -eq 0
 expect 'in one place one after the other' test "$(sed -n 's/^1-1 serial \([^ ]*\) .*/\1/p' out | tr '\n' ' ')" = 'F1 F2 F3 '
 expect 'each once' test "$(wc -l < out)" -eq 7
@@ -202,7 +202,11 @@ board 1-2 USB_SERIAL= USB_PULLED=1
 board 1-2 USB_SERIAL= USB_PLUGGED=3 USB_PAUSE=11000 "USB_SAVE=$work/saved-late-other"
 board 1-3 USB_DEVICE=uboot
 begin --wait new.dfu
-sleep 16
+is_late() {
+    test "$(wc -l < out)" -ge 4 && grep -q 'is back; another one' err
+}
+soon is_late || :
+sleep 1
 kill -INT "$first"
 reap
 expect 'the end of a line is no failure' test "$code" -eq 0

@@ -23,7 +23,7 @@ for more in '' USB_MANIFEST=30 USB_RESTARTS=dfu USB_START=app 'USB_START=app USB
     once 8 new 'unconfirmed: ' "USB_DEVICE=small USB_ATTRIBUTES=07 $more" --no-verify new.dfu
     once 8 new 'unconfirmed: ' "USB_DEVICE=small USB_ATTRIBUTES=05 $more" --limits 1000 0 new.dfu
 done
-# It is compared with what stands there, and another image is another one.
+# The image is compared with what the device gives back: one that keeps only 20 bytes (USB_CAPACITY) is reported as different.
 row 9 - 'different: ' 'USB_DEVICE=small USB_ATTRIBUTES=0b USB_CAPACITY=20' new.dfu
 # A device that leaves at the end, or behind it, and before it has answered dfuMANIFEST is one that restarted: the image is sent
 # anew.
@@ -42,14 +42,14 @@ for more in '' 'USB_ATTRIBUTES=0f USB_DETACH=5' 'USB_DFU_IDS=1209:00ff:0100 USB_
     row 0 new 'verified: ' "USB_START=app USB_APP_STALLS=status $more" new.dfu
     counted "$more: a DETACH before each" DETACH 2
 done
-# It takes its time.
+# The device takes 700 ms until it leaves for DFU mode.
 row 0 new 'verified: ' 'USB_DEVICE=small USB_ATTRIBUTES=03 USB_LEAVES=700 USB_START=app USB_APP_STALLS=status' new.dfu
 counted 'it takes its time: a reset before each, and the last one' '^reset' 3
 row 8 new 'unconfirmed: ' 'USB_START=app USB_APP_STALLS=status USB_ATTRIBUTES=01' new.dfu
 counted 'a reset behind DETACH, and the last one' '^reset' 2
 row 0 old 'uploaded: ' 'USB_START=app USB_APP_STALLS=status' --upload stalled
 expect 'an upload' cmp old stalled
-# It stalls DETACH too: three resets, and no more.
+# An application that stalls DETACH too gets three resets, and no more.
 for words in new.dfu '--no-verify new.dfu' '--upload never'; do
     # shellcheck disable=SC2086
     row 15 old 'stalled: in run-time mode it stalls GETSTATUS: bring it to DFU mode by hand' 'USB_START=app USB_APP_STALLS=all' $words

@@ -64,6 +64,13 @@ for words in 'new.dfu --demo=5' '--list --demo' '-U new.dfu --demo'; do
     # shellcheck disable=SC2086
     row 2 - '' '' $words
 done
+# The word that doesn't go with it is named, and the line to type is printed.
+row 2 - '' '' --demo --all --json 'a b.dfu'
+says 'dfu-flash: --demo goes with a FILE, --json and --quiet alone, because its one board is simulated; leave out: --all'
+says "next: run: dfu-flash --demo --json 'a b.dfu'"
+row 2 - '' '' --retry 2 --demo
+says 'leave out: --retry'
+says 'next: run: dfu-flash --demo'
 # -D is dfu-util's word for FILE, before --demo or behind it.
 demo_row 0 -D new.dfu
 code=0

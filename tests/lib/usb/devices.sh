@@ -189,9 +189,9 @@ for words in '6 in use' '4 gone' '3 no access'; do
     expect 'a list' grep -q ", ${words#* }\$" out
 done
 # One that left, and is back for another program: the wait for it is broken off here.
-code=0
-env LD_LIBRARY_PATH="$work" USB_DENIED=3 USB_OPENS=2 USB_FATE='leave 3' USB_SAVE="$work/saved" USB_IMAGE="$work/old" \
-    timeout --preserve-status -s INT 3 ./dfu-flash new.dfu > out 2> err || code=$?
+fate='leave 3'
+stopped INT 'no device' 'USB_DENIED=3 USB_OPENS=2' new.dfu
+fate=
 expect 'a wait is broken off' test "$code" -eq 11
 expect 'a wait is broken off: the old image' cmp old saved
 says 'may not be opened: LIBUSB_ERROR_ACCESS'

@@ -46,7 +46,8 @@ steps 5 USB_DENIED=3 \
 steps 5 USB_DENIED=12 \
     'give it a driver that libusb can use, on Windows WinUSB, as by Zadig (see WINDOWS in man dfu-flash), and run it again' new.dfu
 steps 5 USB_CLAIMED=6 'end the program that has it, or take the driver away from it, and run it again' new.dfu
-steps 3 '' 'see to what standard error names, and run it again' nowhere.dfu
+steps 3 '' 'check its name, and which folder you are in, and run it again' nowhere.dfu
+steps 3 '' 'see to what standard error names, and run it again' .
 for reset in '' --no-verify; do
     # shellcheck disable=SC2086
     flash USB_ATTRIBUTES=07 $reset new.dfu
@@ -162,58 +163,11 @@ for words in empty '--device 1209:0001 empty' '--address 0x08000000 empty'; do
     [ "$words" != empty ] || next 'build it anew: it is empty'
 done
 
-# Words that are none of the options.
-# typed WORDS.. -- STEP
-typed() {
-    words=
-    while [ "$1" != -- ]; do
-        words="$words $1"
-        shift
-    done
-    # shellcheck disable=SC2086
-    row 2 - '' '' $words
-    next "$2"
-}
-typed --what new.dfu -- 'did you mean --wait?'
-typed --verison -- 'did you mean --version?'
-typed --lst -- 'did you mean --list?'
-typed --hlep -- 'did you mean --help?'
-typed --adress=0x08000000 new -- 'did you mean --address?'
-typed --serail F1 new.dfu -- 'did you mean --serial?'
-typed --no-veryfy new.dfu -- 'did you mean --no-verify?'
-typed --verify new.dfu -- 'leave it out: a download is compared unless --no-verify is given'
-typed --mass-erase new.dfu -- "leave it out: the pages of the image are erased, and no option erases all; ST's tools do"
-typed --unprotect -- "leave it out: no option takes protection away; ST's tools do, and erase all"
-typed --flash new.dfu -- 'leave it out: dfu-flash FILE flashes it'
-typed --read up -- 'did you mean --upload?'
-typed --alternate 1 new.dfu -- 'did you mean --alt?'
-typed -list -- 'did you mean --list?'
-typed new.dfu --address -- 'give it its value, as --help has it'
-typed --list=5 -- 'leave out what is behind its ='
-typed new.dfu any.dfu -- 'name one FILE'
-says 'dfu-flash: two files were given (new.dfu, any.dfu), and dfu-flash takes one; a * may have stood for several'
-typed --demo new.dfu any.dfu -- 'name one FILE'
-typed --list new.dfu -- 'leave it out'
-says 'dfu-flash: a word too many: new.dfu'
-typed --json -- 'name the file, or - for standard input; dfu-flash --list shows which devices are there'
-for words in --xylophone '--=5' "--$(head -c 300 /dev/zero | tr '\0' v)" '--limits 1 new.dfu'; do
-    # shellcheck disable=SC2086
-    row 2 - '' '' $words
-    expect "$words: no guess" test "$(grep -c '^next: ' err)" -eq 0
-done
-for leave in 0x08000000:leave :leave; do
-    typed -a 0 -s "$leave" -- \
-        "name the file, or press the board's reset: no option only starts the application, as -s ADDRESS:leave of dfu-util does"
-done
-row 7 - 'gave-up: ' '' -t 128 -D hundred.dfu
-next 'run it again without --transfer-size: its blocks are larger than those that the device takes'
-row 3 - '' '' version
-next 'did you mean --version?'
-row 3 - '' '' detach
-next 'did you mean --detach?'
+# shellcheck source=tests/lib/usb/next_words.sh
+. "$top/tests/lib/usb/next_words.sh"
 
 # A step that sends to a section says of which page, and each section is there; help begins with examples, and names the page.
-grep -h 'see [A-Z][A-Z]' "$top/apps/flash/next.c" "$top/apps/flash/advise.c" > sections
+grep -h 'see [A-Z][A-Z]' "$top/apps/flash/next.c" "$top/apps/flash/advise.c" "$top/apps/flash/usage.c" > sections
 expect 'sections are named with their page' test "$(grep -vc 'in man dfu-flash' sections)" -eq 0
 row 0 - '' '' --help
 expect 'two examples' test "$(sed -n 3,4p out | grep -c 'dfu-flash [^O]')" -eq 2

@@ -18,7 +18,7 @@ row 4 old '' 'USB_START=app USB_DEVICES=0' --detach
 row 12 old '' 'USB_START=app USB_DEVICES=2' --detach
 row 5 old '' 'USB_START=app USB_CLAIMED=6' --detach
 row 7 old 'timed-out: ' 'USB_START=app USB_AWAY=100000' --detach --timeout 1
-stopped INT 0.5 'USB_START=app USB_AWAY=100000' --detach
+stopped INT '^0 DETACH' 'USB_START=app USB_AWAY=100000' --detach
 expect 'a signal' test "$code-$(cut -d : -f 1 out)" = 11-aborted
 fate='lost-out 0'
 row 15 old 'not-detached: ' 'USB_START=app' --detach
@@ -118,4 +118,18 @@ LD_LIBRARY_PATH=$work ./dfu-flash --help | sed -n '/^Coming from dfu-util:/,/^$/
 for option in D U Z l d p S i a n c t w e E R v V s; do
     expect "-$option of dfu-util, in the manual" grep -q "^\.B.*\\\\-$option\\b" section
     expect "-$option of dfu-util, in the help" grep -q "^  .*-$option\\b" help
+done
+
+# The step behind words that don't go together, and behind a number that is none.
+for pair in '--stamp list new.dfu|next: add --stamp-at PLACE:BYTES, as --stamp-at 0x40:16' \
+    '--stamp-at 16:8 new.dfu|next: add --stamp LIST' \
+    '--all --path 1-1 new.dfu|next: for one device leave out --all' \
+    '--all --list|next: leave out --all' \
+    '--retry new.dfu|next: give it a decimal number behind it' \
+    '--count x --all new.dfu|next: give it a decimal number behind it' \
+    '-n 5 new.dfu|next: name its path by --path' \
+    '-s :mass-erase:force new.dfu|next: leave that word out'; do
+    # shellcheck disable=SC2086
+    row 2 - '' '' ${pair%|*}
+    says "${pair#*|}"
 done

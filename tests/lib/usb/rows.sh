@@ -49,6 +49,24 @@ flash() {
 }
 fate=
 as=
+# stopped SIGNAL TEXT SETTINGS WORDS..: as `flash`, with the signal 0.2 seconds after the text stands in what was said or sent, which is
+# when it waits. How many seconds the program took from the signal on is in $took.
+stopped() {
+    signal=$1 text=$2 settings=$3
+    shift 3
+    code=0
+    rm -f saved log number
+    : > err
+    # shellcheck disable=SC2016,SC2086
+    env LD_LIBRARY_PATH="$work" USB_IMAGE="$work/old" USB_SAVE="$work/saved" USB_LOG="$work/log" USB_FATE="$fate" $settings \
+        timeout -k 5 60 sh -c 'echo $$ > number && exec ./dfu-flash "$@"' sh "$@" > out 2> err &
+    soon grep -qs -e "$text" err log || wrong "$*: '$text' isn't in: $(cat err)"
+    sleep 0.2
+    began=$(date +%s)
+    kill "-$signal" "$(cat number)" || :
+    wait "$!" || code=$?
+    took=$(($(date +%s) - began))
+}
 # row STATUS IMAGE TEXT SETTINGS WORDS..: the status, the image (old, new, or - for any), and how the last line of
 # standard output begins.
 row() {

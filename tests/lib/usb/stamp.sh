@@ -34,7 +34,7 @@ says 'dfu-flash: SN-1 is written at 0x10'
 expect 'a record' test "$(used)" = 'SN-1 1-1 begun,SN-1 1-1 verified,'
 row 0 - '{"status":0,"report":"verified",' '' --json $at 16:0x8 room.dfu
 stamped SN-2
-expect 'which entry' grep -q '"stamp":"SN-2","image":"room.dfu","crc32":' out
+expect 'which entry' grep -q '"stamp":"SN-2","tries":1,"image":"room.dfu","crc32":' out
 expect 'the check sum of what was sent' grep -q "\"crc32\":\"$(gzip -c wanted | tail -c 8 | od -An -tx4 -N4 | tr -d ' ')\"" out
 row 0 - '{"status":0,"report":"dry-run",' '' --json --dry-run $at 16:8 room.dfu
 expect 'a dry run names the next one' grep -q '"stamp":"0x414243"' out
@@ -45,7 +45,7 @@ printf '%s\1\2\3\4\5\6\7\10' "$letters" > wanted
 tail -c 40 room >> wanted
 expect 'a key' cmp wanted saved
 expect 'a record has its name alone' test "$(grep -c '0102' serials.used stamps.csv out err | cut -d : -f 2 | tr -d '\n')" = 0000
-expect 'the report has a column more' grep -q ',seconds,stamp$' stamps.csv
+expect 'the report has a column more' grep -q ',seconds,tries,stamp$' stamps.csv
 expect 'the report has its name' grep -q ',"key 1"$' stamps.csv
 row 0 - 'verified: ' '' --quiet $at 16:8 room.dfu
 expect 'quiet' test ! -s err
@@ -165,7 +165,7 @@ rm -rf serials.used
 for words in '--stamp serials room.dfu' '--stamp-at 16:8 room.dfu' '--stamp - --stamp-at 16:8 room.dfu' \
     '--stamp= --stamp-at 16:8 room.dfu' \
     "$at 16 room.dfu" "$at 16: room.dfu" "$at :8 room.dfu" "$at 16:0 room.dfu" "$at 16:257 room.dfu" "$at -1:8 room.dfu" \
-    "$at 16:8x room.dfu" "$at 0x:8 room.dfu" "$at 4294967296:8 room.dfu" "$at 16:8 --retry 1 room.dfu" "$at 16:8 --upload never" \
+    "$at 16:8x room.dfu" "$at 0x:8 room.dfu" "$at 4294967296:8 room.dfu" "$at 16:8 --upload never" \
     "$at 16:8 --detach" "$at 16:8 --list" "$at 16:8 --demo"; do
     row 2 - '' '' $words
 done
@@ -178,4 +178,5 @@ says 'dfu-flash: A is written at 0x8000410'
 expect 'a record' grep -q '	A	1-1	verified$' serials.used
 row 1 - 'OutsideTheImage: ' USB_DEVICE=dfuse --stamp serials --stamp-at 0x10:8 --address 0x08000400 --device 1209:0001 room
 says 'the image is 0x8000400 to 0x800043f'
+. "$top/tests/lib/usb/stamp_again.sh"
 [ -n "${NO_ALL-}" ] || . "$top/tests/lib/usb/stamp_all.sh"

@@ -5,7 +5,7 @@
 crc=$(gzip -c new | tail -c 8 | od -An -tx4 -N4 | tr -d ' ')
 time='20[0-9][0-9]-[01][0-9]-[0-3][0-9]T[0-2][0-9]:[0-5][0-9]:[0-6][0-9]Z'
 row 0 new '{"status":0,"report":"verified",' '' --json new.dfu
-expect 'a record' grep -q "\"time\":\"$time\",\"image\":\"new.dfu\",\"crc32\":\"$crc\"}\$" out
+expect 'a record' grep -q "\"time\":\"$time\",\"tries\":1,\"image\":\"new.dfu\",\"crc32\":\"$crc\"}\$" out
 row 0 new '{"status":0,"report":"verified",' '' --json --device 1209:0001 new
 expect 'a raw image has the same' grep -q "\"image\":\"new\",\"crc32\":\"$crc\"}\$" out
 row 5 old '{"status":5,"report":"no-access",' USB_DENIED=3 --json new.dfu
@@ -14,14 +14,15 @@ row 4 old '{"status":4,' USB_DEVICES=0 --json new.dfu
 expect 'no device: none is named' test "$(grep -c '"vendor"' out)" -eq 0
 
 # The report: made with its header, and added to.
-header=time,status,report,words,image,crc32,vendor,product,release,serial,path,port,seconds
+old_header=time,status,report,words,image,crc32,vendor,product,release,serial,path,port,seconds
+header=$old_header,tries
 row 0 new 'verified: ' '' --report report.csv new.dfu
 row 9 - 'different: ' 'USB_DEVICE=uboot USB_STORE=raw' --report report.csv new.dfu
 row 4 - '' USB_DEVICES=0 --report report.csv new.dfu
 row 1 - 'BadCrc: ' '' --report report.csv damaged.dfu
 row 0 old 'uploaded: ' 'USB_SERIAL=a\u0022,b\u0007' --report report.csv --upload reported
 expect 'one header' test "$(head -n 1 report.csv)-$(grep -c '^time,' report.csv)-$(wc -l < report.csv)" = "$header-1-6"
-expect 'a line' grep -q "^\"$time\",0,\"verified\",\"after a reset .*\",\"new.dfu\",\"$crc\",\"1209\",\"0001\",\"0100\",\"F1\",\"1-1\",,[0-9.]*\$" \
+expect 'a line' grep -q "^\"$time\",0,\"verified\",\"after a reset .*\",\"new.dfu\",\"$crc\",\"1209\",\"0001\",\"0100\",\"F1\",\"1-1\",,[0-9.]*,1\$" \
     report.csv
 expect 'the rest' test "$(cut -d , -f 2,3 report.csv | tail -n +2 | tr '\n' ' ')" = '0,"verified" 9,"different" 4,"none" 1,"BadCrc" 0,"uploaded" '
 expect 'a serial number that others chose' grep -qF ',"a"",b\x07","1-1",' report.csv
@@ -46,6 +47,9 @@ says "report.csv can't be the report: it is a report without the column \`stamp\
 printf '%s,stamp\n' "$header" > stamped.csv
 row 3 - '' '' --report stamped.csv new.dfu
 says "stamped.csv can't be the report: it is a report with the column \`stamp\`, which goes with --stamp: name another file"
+printf '%s\n' "$old_header" > before.csv
+row 3 - '' '' --report before.csv new.dfu
+says "before.csv can't be the report: it is a report of before the column \`tries\`: name another file"
 expect 'nothing is added' test "$(wc -l < stamped.csv)" -eq 1
 
 # What is known of an end stands behind its words: the code, the place, the file.
@@ -54,9 +58,9 @@ expect 'the code' grep -q ',6,"refused","[^"]* (errADDRESS)",' known.csv
 row 9 - 'different: ' 'USB_DEVICE=dfuse USB_LIES=08000002' --address 0x08000000 --report known.csv new.dfu
 expect 'the place' grep -q ',9,"different","[^"]* (at 08000002 is ff, and 6e in the file)",' known.csv
 row 3 - '' '' --report known.csv nowhere.dfu
-expect 'the file' grep -q ",3,\"file\",\"[^\"]* (nowhere.dfu can't be read: No such file or directory)\"," known.csv
+expect 'the file' grep -q ",3,\"file\",\"[^\"]* (nowhere.dfu can't be read: No such file or directory)\",\"nowhere.dfu\",," known.csv
 row 1 - 'BadCrc: ' '' --report known.csv damaged.dfu
-expect 'both sums' grep -q ',1,"BadCrc","[^"]* (it says the check sum [0-9a-f]*, and its bytes have [0-9a-f]*)",' known.csv
+expect 'both sums' grep -q ',1,"BadCrc","[^"]* (it says the check sum [0-9a-f]*, and its bytes have [0-9a-f]*)","damaged.dfu",,' known.csv
 
 # What is no report stays as it is, and nothing is sent.
 printf 'mine\n' > mine.csv
@@ -100,6 +104,11 @@ row 10 - 'gone: ' 'USB_AWAY=220' new.dfu
 row 0 new 'verified: ' 'USB_AWAY=220' --retry 2 --report retry.csv new.dfu
 says 'dfu-flash: gone: the device left and did not come back; it may have the old image, the new one or neither; it is tried again, 1 of 2'
 expect 'one record' test "$(wc -l < retry.csv)-$(wc -l < out)" = 2-1
+expect 'the report has the tries' grep -q ',[0-9.]*,2$' retry.csv
+# What a board has is said of all its tries: in the second one no block is sent.
+fate='deaf 20'
+row 10 - '{"status":10,"report":"silent","words":"the device answers no more; it may have the old image' '' --json --retry 2 new.dfu
+expect 'a record has the tries' grep -q '"tries":3,' out
 fate=
 row 1 old 'WrongTarget: ' USB_START=app --retry 3 --device 1209:0001 other.dfu
 expect 'what is refused is not tried again' test "$(grep -c 'tried again' err)" -eq 0

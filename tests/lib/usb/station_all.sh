@@ -12,7 +12,7 @@ printf '1-3 = bay 3\n' > ports
 all --json --ports ports --report all.csv new.dfu
 expect "the highest status: $code" test "$code" -eq 14
 expect 'a line for each, one for all, and the header' test "$(wc -l < all.csv)" -eq 12
-expect 'each line is whole' test "$(grep -c "^\"$time\",[0-9]*,\"[a-z-]*\",\".*,[0-9.]*\$" all.csv)" -eq 11
+expect 'each line is whole' test "$(grep -c "^\"$time\",[0-9]*,\"[a-z-]*\",\".*,[0-9.]*,1*\$" all.csv)" -eq 11
 expect 'one that was killed has its identifiers' grep -q ',14,"broken",.*,"1209","0001",.*,"1-10",,' all.csv
 expect 'so has one without access' grep -q ',5,"no-access",.*,"1209","0001","0100",,"1-9",,' all.csv
 expect 'the name of its port' grep -q ',"F3","1-3","bay 3",' all.csv
@@ -27,6 +27,46 @@ fi
 all --ports ports new.dfu
 expect 'a line has the name' grep -q '^1-3 bay 3 serial F3 [0-9.]* s verified: ' out
 expect 'no summary that nobody asked for' test "$(grep -c summary out)" -eq 0
+no_boards
+for port in 1 2 3 4 5; do
+    board "1-$port" "USB_SERIAL=F$port"
+done
+# those that are there: no more than that, and a batch that ends short has a status of its own
+all --count 3 --json new.dfu
+expect "three of five: $code" test "$code-$(grep -c '"report":"verified"' out)" = 0-3
+expect 'none is missing' grep -q '"report":"summary","words":"3 flashed, 0 not","flashed":3,"failed":0,"short":0,' out
+all --count 7 --json --report short.csv new.dfu
+expect "five of seven: $code" test "$code-$(grep -c '"report":"verified"' out)" = 17-5
+expect 'two are missing' grep -q '^{"status":17,"report":"summary",.*"short":2,"next":"plug in others, .* --count 2; ' out
+says 'dfu-flash: 2 fewer than --count asks for'
+expect 'so the report says' grep -q ',17,"summary","5 flashed, 0 not",' short.csv
+all --count 7 new.dfu
+expect "as text: $code" test "$code" -eq 17
+says 'next: plug in others, and run it again with --count 2; with --wait those that come are flashed too'
+all --count 6 --wait=1 --quiet new.dfu
+expect "with --wait: $code, $(cat err)" test "$code-$(wc -c < err)" = 17-0
+# a board that failed gives its place to another one that was there, and its status stays
+no_boards
+board 1-1 USB_CAPACITY=13
+for port in 2 3 4 5; do
+    board "1-$port" "USB_SERIAL=F$port"
+done
+all --count 4 --json new.dfu
+expect "a place is given away: $code" test "$code-$(grep -c '"report":"verified"' out)" = 6-4
+all --count 5 new.dfu
+expect "the status of the failure: $code" test "$code" -eq 6
+says 'dfu-flash: 1 fewer than --count asks for'
+# what is unconfirmed counts, and 17 is not hidden behind 8
+no_boards
+for port in 1 2 3; do
+    board "1-$port" USB_ATTRIBUTES=01
+done
+all --count 2 new.dfu
+expect "unconfirmed: $code" test "$code-$(grep -c unconfirmed out)" = 8-2
+all --count 4 new.dfu
+expect "unconfirmed, and one is missing: $code" test "$code-$(grep -c unconfirmed out)" = 17-3
+row 2 - '' '' --count 2 new.dfu
+says 'next: run: dfu-flash --all --count 2 new.dfu'
 no_boards
 for port in 1 2 3 4 5; do
     board "1-$port" "USB_SERIAL=F$port"
@@ -46,7 +86,7 @@ board 1-1
 early() {
     rm -f early.csv
     all --report early.csv --json "$@"
-    expect "$*: $(cat early.csv)" test "$(tail -n +2 early.csv | cut -d '"' -f 2- | sed 's/.*,//' | tr '\n' ' ')" = '0.000 '
+    expect "$*: $(cat early.csv)" test "$(tail -n +2 early.csv | cut -d '"' -f 2- | sed 's/,[0-9]*$//; s/.*,//' | tr '\n' ' ')" = '0.000 '
 }
 early damaged.dfu
 early nowhere.dfu

@@ -24,7 +24,7 @@ while IFS='	' read -r option text; do
 done < lines
 expect 'options' test "$(wc -l < lines)" -eq "$(grep -oE '", [a-z]+_argument,' "$top/apps/flash/options.c" | wc -l)"
 sed -n 's/.*STATUS_[A-Z_]* = \([0-9]*\),* *\/\* \(.*\) \*\//\1 \2/p' "$top/apps/flash/status.h" > lines
-expect 'statuses' test "$(wc -l < lines)" -eq 17
+expect 'statuses' test "$(wc -l < lines)" -eq 18
 while read -r line; do
     has 'the man page' "$man" "$line"
 done < lines

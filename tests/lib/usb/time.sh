@@ -1,54 +1,38 @@
 # Rows of tests/apps/flash: how a wait ends at a signal, --timeout, --wait, and the trace of --verbose.
 
-# stopped SIGNAL SECONDS SETTINGS WORDS..: as `flash`, with the signal after so many seconds; again, up to three times, if the program had
-# neither sent nor said anything by then. How long it took is in $took.
-stopped() {
-    signal=$1 after=$2 settings=$3
-    shift 3
-    for _ in 1 2 3 4; do
-        code=0
-        rm -f saved log
-        began=$(date +%s)
-        # shellcheck disable=SC2086
-        env LD_LIBRARY_PATH="$work" USB_IMAGE="$work/old" USB_SAVE="$work/saved" USB_LOG="$work/log" USB_FATE="$fate" $settings \
-            timeout --preserve-status -k 30 -s "$signal" "$after" ./dfu-flash "$@" > out 2> err || code=$?
-        took=$(($(date +%s) - began))
-        if [ -s log ] || [ -s err ]; then return; fi
-    done
-}
 last_request() {
     grep '^[0-9]' log | tail -n 1 | cut -d ' ' -f 2
 }
 
 # A wait that the device asks for ends at once, and ABORT is sent; one of over 10 seconds is said.
 for signal in INT TERM; do
-    stopped $signal 0.5 USB_BUSY=16777215 new.dfu
+    stopped $signal 'asks for a wait' USB_BUSY=16777215 new.dfu
     expect "$signal in a wait" test "$code" -eq 11
     expect "$signal in a wait: at once" test "$took" -le 4
     expect "$signal in a wait: ABORT" test "$(last_request)" = ABORT
     expect "$signal in a wait: the old image" cmp old saved
     says 'dfu-flash: the device asks for a wait of 4 h 39 min 37 s'
 done
-stopped INT 0.5 USB_BUSY=16777215 --quiet new.dfu
+stopped INT ', dfuDNBUSY' USB_BUSY=16777215 --quiet new.dfu
 expect 'quiet: the wait is not said' test ! -s err
-stopped INT 0.5 'USB_MANIFEST=75000 USB_ATTRIBUTES=01' new.dfu
+stopped INT 'asks for a wait' 'USB_MANIFEST=75000 USB_ATTRIBUTES=01' new.dfu
 expect 'a signal while it is written' test "$code-$(last_request)" = 11-ABORT
 says 'dfu-flash: the device asks for a wait of 1 min 15 s'
-stopped INT 0.5 'USB_START=app USB_ATTRIBUTES=0f USB_DETACH=20000' new.dfu
+stopped INT 'asks for a wait' 'USB_START=app USB_ATTRIBUTES=0f USB_DETACH=20000' new.dfu
 expect 'a signal behind a DETACH' test "$code" -eq 11
 says 'dfu-flash: the device asks for a wait of 20 s'
 row 0 new 'verified: ' USB_BUSY=200 new.dfu
 expect 'a short wait is not said' test "$(grep -c 'a wait of' err)" -eq 0
-# So does the wait for a device that left.
+# A wait for a device that left ends at once, too.
 fate='leave 3'
-stopped INT 0.5 USB_AWAY=100000 new.dfu
+stopped INT 'no device' USB_AWAY=100000 new.dfu
 expect 'a signal while it is away' test "$code-$(tail -n 1 out | cut -d : -f 1)" = 11-aborted
 expect 'a signal while it is away: at once' test "$took" -le 4
 fate=
 # A transfer is waited for; a second signal of the kind ends the program, and the device stays as it is.
 code=0
 rm -f log
-env LD_LIBRARY_PATH="$work" USB_SLOW=1500 USB_LOG="$work/log" ./dfu-flash new.dfu > out 2> err &
+env LD_LIBRARY_PATH="$work" USB_SLOW=3000 USB_LOG="$work/log" ./dfu-flash new.dfu > out 2> err &
 soon test -s log
 kill -INT "$!" || :
 sleep 0.2
@@ -57,16 +41,20 @@ wait "$!" || code=$?
 expect 'a second Ctrl-C' test "$code" -eq 130
 expect 'a second Ctrl-C: no report' test ! -s out
 
-# timeout sends its signal twice, to the program and to its group, which is one signal.
-code=0
-rm -f log
-env LD_LIBRARY_PATH="$work" USB_SLOW=1000 USB_LOG="$work/log" ./dfu-flash new.dfu > out 2> err &
-soon test -s log
-kill -TERM "$!" || :
-kill -TERM "$!" || :
-sleep 0.02
-kill -TERM "$!" || :
-wait "$!" || code=$?
+# timeout sends its signal twice, to the program and to its group: those within 100 ms are one signal. A busy machine can make more of it,
+# so a try counts only where `twice` found that the program took them in time, and there are up to thirty.
+gcc -std=c11 -Wall -Wextra -Werror "$top/tests/lib/usb/signals/twice.c" -o twice
+is_in_time=
+for _ in $(seq 30); do
+    code=0
+    rm -f log
+    env LD_LIBRARY_PATH="$work" USB_SLOW=1000 USB_LOG="$work/log" ./dfu-flash new.dfu > out 2> err &
+    soon test -s log
+    ./twice "$!" && is_in_time=yes
+    wait "$!" || code=$?
+    [ -z "$is_in_time" ] || break
+done
+expect 'a program that takes three signals within 60 ms' test -n "$is_in_time"
 expect 'a signal that comes twice at once' test "$code-$(last_request)" = 11-ABORT
 
 # --timeout: the session is broken off as by a signal, wherever it is; the time of a session that is over is not waited for.
@@ -80,7 +68,7 @@ fate=
 row 7 old 'timed-out: ' USB_SLOW=700 --timeout 1 --upload never
 expect 'time is spent: no file' test ! -e never
 row 0 new 'verified: ' '' --timeout 30 new.dfu
-stopped ALRM 0.5 USB_BUSY=16777215 new.dfu
+stopped ALRM 'asks for a wait' USB_BUSY=16777215 new.dfu
 expect 'an alarm of another program' test "$code" -eq 142
 
 # --wait: for a device that comes, with the rights that come behind it; not where two are there.
@@ -100,7 +88,7 @@ row 12 old '' 'USB_DEVICES=2' --wait new.dfu
 row 0 new 'verified: ' 'USB_DEVICES=2 USB_ABSENT=3' --wait --serial F1 new.dfu
 row 4 old '' 'USB_ABSENT=100000 USB_DEVICES=2' --wait=1 --serial F1 new.dfu
 for words in --wait --wait=30; do
-    stopped INT 0.5 USB_ABSENT=100000 $words new.dfu
+    stopped INT 'waiting for the device' USB_ABSENT=100000 $words new.dfu
     expect "$words: a signal" test "$code" -eq 130
     expect "$words: nothing is sent" is_silent
     expect "$words: at once" test "$took" -le 4
@@ -138,7 +126,11 @@ begin verified 1209:0001:0100 1-1 0 0 run-time 092107e80310001001 16 380 3
 abort
 12 ABORT 0 0 stall -
 END
-stopped INT 1.5 'USB_TRANSFER=16 USB_START=app USB_BUSY=999' --verbose new.dfu
+# (a machine on which the signal comes after the wait of 999 ms is too slow for it, and it is tried again)
+for _ in 1 2 3 4 5; do
+    stopped INT '^10 GETSTATUS' 'USB_TRANSFER=16 USB_START=app USB_BUSY=999' --verbose new.dfu
+    grep -q '^11 WAIT 999 0 waited' err || break
+done
 trace > found
 expect 'a trace' diff wanted found
 expect 'its milliseconds' grep -q '^7 WAIT 999 0 waited - \(999\|1[0-9][0-9][0-9]\)$' err

@@ -74,7 +74,7 @@ ended 7 timed-out old
 expect test "$(sed -n '$s/ .*//p' out)" = 1-8
 forget
 
-# Those that are plugged in later, with a record each.
+# Boards that are plugged in while --wait runs are flashed too, with a record each.
 board 0 USB_ATTRIBUTES=07
 are_there 1
 ./dfu-flash --all --wait --json new.dfu > out 2> err &

@@ -1,45 +1,5 @@
 /* The calls of landed.h: configuration, record and setup are brought into the form of version 0.2.0, and the record back. */
-#define dfu_config landed_config
-#define dfu_device landed_device
-#define dfu_asking landed_asking
-#define dfu_ask landed_ask
-#define dfu_place landed_place
-#define DFU_STALL LANDED_STALL
-#define DFU_NO_CONFIG LANDED_NO_CONFIG
-#define DFU_NO_MEDIUM LANDED_NO_MEDIUM
-#define DFU_NO_DEVICE LANDED_NO_DEVICE
-#define DFU_NO_ROOM LANDED_NO_ROOM
-#define DFU_WRONG_SIZE LANDED_WRONG_SIZE
-#define DFU_TOO_LARGE LANDED_TOO_LARGE
-#define DFU_NOT_WRITTEN LANDED_NOT_WRITTEN
-#define DFU_NOT_LONG LANDED_NOT_LONG
-#define DFU_NO_BLOCK LANDED_NO_BLOCK
-#define DFU_ASKS LANDED_ASKS
-#define DFU_ASKED LANDED_ASKED
-#define DFU_ERASE LANDED_ERASE
-#define DFU_PROGRAM LANDED_PROGRAM
-#include "landed/dfu_asking.h"
-#undef dfu_config
-#undef dfu_device
-#undef dfu_asking
-#undef dfu_ask
-#undef dfu_place
-#undef DFU_STALL
-#undef DFU_NO_CONFIG
-#undef DFU_NO_MEDIUM
-#undef DFU_NO_DEVICE
-#undef DFU_NO_ROOM
-#undef DFU_WRONG_SIZE
-#undef DFU_TOO_LARGE
-#undef DFU_NOT_WRITTEN
-#undef DFU_NOT_LONG
-#undef DFU_NO_BLOCK
-#undef DFU_ASKS
-#undef DFU_ASKED
-#undef DFU_ERASE
-#undef DFU_PROGRAM
-#undef DFU_VERSION
-#undef DFU_VERSION_TEXT
+#include "landed/landed_asking.h"
 #include "landed.h"
 
 #include <string.h>
@@ -102,7 +62,7 @@ static int32_t number(int32_t n) {
 
 int32_t landed_power_on(const struct dfu_config *config, struct dfu_record *record, const uint8_t *flash, size_t size) {
     OLD(record);
-    BACK(number(dfu_asking_power_on(&c, &a, config->sector, flash, size)));
+    BACK(number(landed_asking_power_on(&c, &a, config->sector, flash, size)));
 }
 
 /* It was a power-on, a DETACH and a reset of the bus. */
@@ -112,9 +72,9 @@ int32_t landed_begin(const struct dfu_config *config, struct dfu_record *record,
     static uint8_t out[4096];
     OLD(record);
     const size_t own = left(most, config->unit, config->transfer);
-    int32_t result = number(dfu_asking_power_on(&c, &a, config->sector, flash, size));
-    if (result == 0 && (dfu_asking_handle(&c, &a, block, own, flash, size, detach, block, 0, out, sizeof out) != 0
-        || dfu_asking_usb_reset(&c, &a, block, own, flash, size) != 0))
+    int32_t result = number(landed_asking_power_on(&c, &a, config->sector, flash, size));
+    if (result == 0 && (landed_asking_handle(&c, &a, block, own, flash, size, detach, block, 0, out, sizeof out) != 0
+        || landed_asking_usb_reset(&c, &a, block, own, flash, size) != 0))
         return -100;
     BACK(result);
 }
@@ -124,19 +84,19 @@ int32_t landed_handle(const struct dfu_config *config, struct dfu_record *record
     uint8_t old[8];
     OLD_WITH(record);
     old_setup(config, setup, old);
-    BACK_WITH(dfu_asking_handle(&c, &a, block, own, flash, size, old, body, length, out, room));
+    BACK_WITH(landed_asking_handle(&c, &a, block, own, flash, size, old, body, length, out, room));
 }
 
 int32_t landed_elapse(const struct dfu_config *config, struct dfu_record *record, uint8_t *block, size_t most, const uint8_t *flash,
                       size_t size, uint32_t ms) {
     OLD_WITH(record);
-    BACK_WITH(dfu_asking_elapse(&c, &a, block, own, flash, size, ms));
+    BACK_WITH(landed_asking_elapse(&c, &a, block, own, flash, size, ms));
 }
 
 int32_t landed_usb_reset(const struct dfu_config *config, struct dfu_record *record, uint8_t *block, size_t most, const uint8_t *flash,
                          size_t size) {
     OLD_WITH(record);
-    BACK_WITH(dfu_asking_usb_reset(&c, &a, block, own, flash, size));
+    BACK_WITH(landed_asking_usb_reset(&c, &a, block, own, flash, size));
 }
 
 int32_t landed_next(const struct dfu_config *config, const struct dfu_record *record, const uint8_t *block, size_t most,
@@ -144,7 +104,7 @@ int32_t landed_next(const struct dfu_config *config, const struct dfu_record *re
     OLD_WITH(record);
     struct landed_ask old;
     memcpy(&old, ask, sizeof old);
-    int32_t n = dfu_asking_next(&c, &a, block, own, flash, size, &old);
+    int32_t n = landed_asking_next(&c, &a, block, own, flash, size, &old);
     memcpy(ask, &old, sizeof old);
     return n;
 }
@@ -152,51 +112,51 @@ int32_t landed_next(const struct dfu_config *config, const struct dfu_record *re
 int32_t landed_took(const struct dfu_config *config, struct dfu_record *record, uint8_t *block, size_t most, const uint8_t *flash,
                     size_t size, uint32_t failed, uint8_t *out, size_t room) {
     OLD_WITH(record);
-    BACK_WITH(dfu_asking_took(&c, &a, block, own, flash, size, failed, out, room));
+    BACK_WITH(landed_asking_took(&c, &a, block, own, flash, size, failed, out, room));
 }
 
 int32_t landed_would_stall(const struct dfu_config *config, const struct dfu_record *record, size_t size, const uint8_t setup[8]) {
     uint8_t old[8];
     OLD(record);
     old_setup(config, setup, old);
-    return dfu_asking_would_stall(&c, &a, size, old);
+    return landed_asking_would_stall(&c, &a, size, old);
 }
 
 int32_t landed_too_long(const struct dfu_config *config, struct dfu_record *record, const uint8_t setup[8]) {
     uint8_t old[8];
     OLD(record);
     old_setup(config, setup, old);
-    BACK(dfu_asking_too_long(&c, &a, old));
+    BACK(landed_asking_too_long(&c, &a, old));
 }
 
 /* It was a number of 64 bits, and of a record that was garbled it may be more than one of 32 has. */
 int32_t landed_due(const struct dfu_config *config, const struct dfu_record *record) {
     OLD(record);
-    int64_t due = dfu_device_due(&c, &a.device);
+    int64_t due = landed_device_due(&c, &a.device);
     return due > INT32_MAX ? INT32_MAX : (int32_t)due;
 }
 
 int32_t landed_functional(const struct dfu_config *config, uint8_t out[9]) {
     struct landed_config c = old_config(config);
-    return dfu_device_functional(&c, out);
+    return landed_device_functional(&c, out);
 }
 
 int32_t landed_state(const struct dfu_record *record) {
     static const struct dfu_config none;
     struct landed_asking a = old_record(&none, record);
-    return dfu_device_state(&a.device);
+    return landed_device_state(&a.device);
 }
 
 int32_t landed_code(const struct dfu_record *record) {
     static const struct dfu_config none;
     struct landed_asking a = old_record(&none, record);
-    return dfu_device_code(&a.device);
+    return landed_device_code(&a.device);
 }
 
 int32_t landed_image(const struct dfu_config *config, const uint8_t *flash, size_t size, struct dfu_place *place) {
     struct landed_config c = old_config(config);
     struct landed_place old = {place->at, place->length};
-    int32_t n = dfu_asking_image(&c, config->sector, flash, size, &old);
+    int32_t n = landed_asking_image(&c, config->sector, flash, size, &old);
     place->at = old.at, place->length = old.length;
     return number(n);
 }
@@ -204,7 +164,7 @@ int32_t landed_image(const struct dfu_config *config, const uint8_t *flash, size
 int32_t landed_format_start(const struct dfu_config *config, struct dfu_record *record, const uint8_t *flash, size_t size,
                             const uint8_t *image, size_t length) {
     OLD(record);
-    BACK(number(dfu_asking_format_start(&c, &a, config->sector, flash, size, image, length)));
+    BACK(number(landed_asking_format_start(&c, &a, config->sector, flash, size, image, length)));
 }
 
 int32_t landed_format_next(const struct dfu_config *config, const struct dfu_record *record, const uint8_t *flash, size_t size,
@@ -212,7 +172,7 @@ int32_t landed_format_next(const struct dfu_config *config, const struct dfu_rec
     OLD(record);
     struct landed_ask old;
     memcpy(&old, ask, sizeof old);
-    int32_t n = dfu_asking_format_next(&c, &a, flash, size, image, length, &old);
+    int32_t n = landed_asking_format_next(&c, &a, flash, size, image, length, &old);
     memcpy(ask, &old, sizeof old);
     return n;
 }
@@ -220,12 +180,12 @@ int32_t landed_format_next(const struct dfu_config *config, const struct dfu_rec
 int32_t landed_format_took(const struct dfu_config *config, struct dfu_record *record, const uint8_t *flash, size_t size,
                            const uint8_t *image, size_t length, uint32_t failed) {
     OLD(record);
-    BACK(dfu_asking_format_took(&c, &a, flash, size, image, length, failed));
+    BACK(landed_asking_format_took(&c, &a, flash, size, image, length, failed));
 }
 
 int32_t landed_memory_power_on(const struct dfu_config *config, struct dfu_record *record, uint8_t *medium, size_t size) {
     OLD(record);
-    BACK(dfu_device_power_on(&c, &a.device, medium, size));
+    BACK(landed_device_power_on(&c, &a.device, medium, size));
 }
 
 int32_t landed_memory_handle(const struct dfu_config *config, struct dfu_record *record, uint8_t *block, size_t most, uint8_t *medium,
@@ -233,17 +193,17 @@ int32_t landed_memory_handle(const struct dfu_config *config, struct dfu_record 
     uint8_t old[8];
     OLD_WITH(record);
     old_setup(config, setup, old);
-    BACK_WITH(dfu_device_handle(&c, &a.device, block, own, medium, size, old, body, length, out, room));
+    BACK_WITH(landed_device_handle(&c, &a.device, block, own, medium, size, old, body, length, out, room));
 }
 
 int32_t landed_memory_elapse(const struct dfu_config *config, struct dfu_record *record, uint8_t *block, size_t most, uint8_t *medium,
                              size_t size, uint32_t ms) {
     OLD_WITH(record);
-    BACK_WITH(dfu_device_elapse(&c, &a.device, block, own, medium, size, ms));
+    BACK_WITH(landed_device_elapse(&c, &a.device, block, own, medium, size, ms));
 }
 
 int32_t landed_memory_usb_reset(const struct dfu_config *config, struct dfu_record *record, uint8_t *block, size_t most, uint8_t *medium,
                                 size_t size) {
     OLD_WITH(record);
-    BACK_WITH(dfu_device_usb_reset(&c, &a.device, block, own, medium, size));
+    BACK_WITH(landed_device_usb_reset(&c, &a.device, block, own, medium, size));
 }

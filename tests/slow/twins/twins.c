@@ -9,7 +9,11 @@ static struct board one, two;
 static struct dfu_config garbled;
 static uint8_t body[MOST_BLOCK], image[1500];
 static size_t image_length;
-static long calls, operations, installed, answered, refused, in_memory;
+static long calls, operations, installed, answered, refused, in_memory, alone;
+
+/* Whether record, flash or configuration of this board were garbled, by dice or by an operation that went wrong, and whether the last call
+   was made of this version alone. */
+static int is_torn, is_alone;
 
 /* The device over plain memory of 0.2.0, if this session has it. */
 static struct board plain;
@@ -23,6 +27,14 @@ static void stop(const char *what) {
 static int32_t same(const char *what, int32_t new_one, int32_t landed) {
     calls++;
     *(new_one >= -1 ? &answered : &refused) += 1;
+    /* 0.2.0 read at each request whether the sector behind the puts is erased, and refused a flash where it isn't. This version leaves that
+       to what reads a write back, and its call is made alone then. */
+    is_alone = is_torn && garbled.sector != 0 && landed == DFU_NO_DEVICE && new_one != landed;
+    if (is_alone) {
+        alone++;
+        two = one;
+        return new_one;
+    }
     if (new_one != landed) {
         printf("%d, and %d of 0.2.0\n", (int)new_one, (int)landed);
         stop(what);
@@ -48,7 +60,7 @@ static void begin(void) {
     image_length = roll(70);
     if (ship_sectors(&one, unit, sector, capacity, image, image_length) != 0)
         stop("nothing is made");
-    two = one, garbled = config;
+    two = one, garbled = config, is_torn = 0;
     is_plain = sector == 0 && roll(2);
     plain = one;
     if (is_plain && landed_memory_power_on(&config, &plain.record, plain.flash, plain.size) != 0)
@@ -59,6 +71,7 @@ static void begin(void) {
 static uint32_t carry_out(const struct dfu_ask *ask) {
     uint32_t trouble = is_plain ? 4 : roll(60), length = ask->length;
     operations++;
+    is_torn |= trouble < 3;
     if (ask->at + (size_t)length > one.size || (ask->kind == DFU_PROGRAM && length > 256))
         return 1;
     if (trouble < 2)
@@ -83,7 +96,7 @@ static int32_t settle_both(int32_t answer) {
         struct dfu_ask a = {7, 7, 7, {7}}, b = a;
         int32_t next = same("next", dfu_core_next(&garbled, &one.record, one.pending, sizeof one.pending, one.flash, one.size, &a),
                             landed_next(&garbled, &two.record, two.pending, sizeof two.pending, two.flash, two.size, &b));
-        if (memcmp(&a, &b, sizeof a) != 0)
+        if (!is_alone && memcmp(&a, &b, sizeof a) != 0)
             stop("the operation");
         if (next != 0)
             return DFU_WRITE_PENDING;
@@ -145,11 +158,13 @@ static void garble(void) {
         else if (where == 1)
             at = roll(2) * (uint32_t)one.size / 2 + roll(roll(2) ? 40 : (uint32_t)one.size / 2), one.flash[at] = byte;
         else
-            at = roll(sizeof garbled), ((uint8_t *)&garbled)[at] = byte;
+            /* (0.2.0 has no times for an erase and a program) */
+            at = roll(offsetof(struct dfu_config, erase_ms)), ((uint8_t *)&garbled)[at] = byte;
     }
     /* (a version that isn't this one is 0.2.0's next one, and stays one) */
     two.record = one.record;
     memcpy(two.flash, one.flash, sizeof two.flash);
+    is_torn = 1;
 }
 
 /* Questions to both beside the calls: these take no flash, or read it alone. */
@@ -249,7 +264,7 @@ int main(int count, char **words) {
             begin();
         turn();
     }
-    printf("twins: %ld calls, %ld answered, %ld refused, %ld operations, %ld images put in place, %ld calls over memory too\n", calls,
-           answered, refused, operations, installed, in_memory);
-    return installed == 0 || in_memory == 0;
+    printf("twins: %ld calls, %ld answered, %ld refused, %ld operations, %ld images put in place, %ld calls over memory too, "
+           "%ld of this version alone\n", calls, answered, refused, operations, installed, in_memory, alone);
+    return installed == 0 || in_memory == 0 || alone > calls / 100;
 }

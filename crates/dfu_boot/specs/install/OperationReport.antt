@@ -2,24 +2,26 @@
 use Rattle.std.specs.Prelude.{◌≡◌, ℕ, ◌+◌, ◌≤◌, Bool, false, List, length, Option, Some, None}
 use Rattle.dfu_boot.specs.declared.install.due.Due.{Due}
 use Rattle.dfu_boot.specs.declared.install.due.Due.TheVariants.{Refuse, Erase, Program, Start}
-use Rattle.dfu_boot.specs.install.Area.{IsRunArea, AreSame, AreBlank}
+use Rattle.dfu_boot.specs.install.Area.{IsRunArea, RangeMatchesImage, RangeIsBlank}
 
--- The sector that begins there is in the run area, and blank.
-abbrev pub IsErasedSector : List ℕ → ℕ → ℕ → Type 0
-IsErasedSector run sector at = (at + sector ≤ length run) × AreBlank run at (at + sector)
+-- The sector that begins at a place is in the run area, and blank.
+abbrev pub IsBlankSector : List ℕ → ℕ → ℕ → Type 0
+IsBlankSector run sector at = (at + sector ≤ length run) × RangeIsBlank run at (at + sector)
 
--- The piece that begins there is in the run area, and reads as the image, as far as the image goes.
-abbrev pub IsProgrammed : List ℕ → List ℕ → ℕ → Type 0
-IsProgrammed image run at = (at + 256 ≤ length run) × AreSame image run at (at + 256)
+-- The piece that begins at a place is in the run area, and reads as the image, as far as the image goes.
+abbrev pub PieceReadsAsImage : List ℕ → List ℕ → ℕ → Type 0
+PieceReadsAsImage image run at = (at + 256 ≤ length run) × RangeMatchesImage image run at (at + 256)
 
--- An operation at that place worked, as it reads.
-abbrev pub Worked : List ℕ → List ℕ → ℕ → Due → ℕ → Type 0
-Worked image run sector (Erase begins) at = (begins ≡ at) × IsErasedSector run sector at
-Worked image run sector (Program piece) at = (piece ≡ at) × IsProgrammed image run at
-Worked image run sector (Refuse refusal) at = ⊥
-Worked image run sector Start at = ⊥
+-- An operation at a place worked, by the bytes that are read.
+abbrev pub OperationWorked : List ℕ → List ℕ → ℕ → Due → ℕ → Type 0
+OperationWorked image run sector (Erase begins) at = (begins ≡ at) × IsBlankSector run sector at
+OperationWorked image run sector (Program piece) at = (piece ≡ at) × PieceReadsAsImage image run at
+OperationWorked image run sector (Refuse refusal) at = ⊥
+OperationWorked image run sector Start at = ⊥
 
--- The note of an operation of a run area is its place, if it did not fail and worked.
+-- Note of an operation: its place if it did not fail and its bytes are there, and none else.
 abbrev pub DueReported : List ℕ → List ℕ → ℕ → Due → Bool → Option ℕ → Type 0
-DueReported image run sector due failed (Some at) = (failed ≡ false) × IsRunArea (length run) sector × Worked image run sector due at
-DueReported image run sector due failed None = failed ≡ false → IsRunArea (length run) sector → (at : ℕ) → ¬ Worked image run sector due at
+DueReported image run sector due failed (Some at) =
+    (failed ≡ false) × IsRunArea (length run) sector × OperationWorked image run sector due at
+DueReported image run sector due failed None =
+    failed ≡ false → IsRunArea (length run) sector → (at : ℕ) → ¬ OperationWorked image run sector due at

@@ -1,31 +1,32 @@
--- Bytes that the slot store does not read of a medium: so marks change no image, whenever they are set, and whatever becomes of them.
+-- Bytes of a medium that the slot store does not read: marks are among them, and change no image, whatever becomes of them.
 use Rattle.std.specs.Prelude.{◌≡◌, ◌↔◌, ℕ, ◌≤◌, List, length}
 use Rattle.dfu_slots.specs.Medium.{MediumState}
 use Rattle.dfu_slots.specs.Layout.{ArePlaces}
-use Rattle.dfu_slots.specs.Image.{slot_of, IsSized, Active}
+use Rattle.dfu_slots.specs.Image.{slot_of, IsSizedMedium, Active}
 use Rattle.dfu_boot.specs.trial.Marks.{AreTries}
-use Rattle.dfu_boot.specs.trial.Calls.{sets}
-use Rattle.dfu_boot.specs.trial.Laws.{Carried}
+use Rattle.dfu_boot.specs.trial.Calls.{mark_op}
+use Rattle.dfu_boot.specs.trial.Laws.{OperationOutcome}
 
--- A medium changed only where the store reads nothing: gate, header and data of its two slots are as they were.
-pub record IsUnread (m now : MediumState) : Type 0 where
+-- A medium changed only where the store reads nothing: gate, header and data of both slots are as they were.
+pub record ChangedUnreadBytes (m now : MediumState) : Type 0 where
   pub size : length now.bytes ≡ length m.bytes
   pub grain : now.grain ≡ m.grain
   pub slots : (p q : ℕ) → ArePlaces m.bytes p q → slot_of now p ≡ slot_of m p
 
--- A mark of one of the two slots was set, for a confirmation or a start, of at most so many tries; it worked, failed, lied or was cut.
-pub record IsMarked (m : MediumState) (tries : ℕ) (now : MediumState) : Type 0 where
+-- A mark of one of the two slots was set, for a confirmation or a start; it worked, failed, lied or was cut.
+pub record MarkWasSet (m : MediumState) (tries : ℕ) (now : MediumState) : Type 0 where
   pub at : ℕ
   pub other : ℕ
   pub places : ArePlaces m.bytes at other
   pub mark : ℕ
   pub few : mark ≤ tries
-  pub carried : Carried m (sets m.grain at mark) now
+  pub carried : OperationOutcome m (mark_op m.grain at mark) now
 
--- A mark is not read by the store, on any medium of two slots with room for so many tries, whether or not an image is on trial.
+-- A mark is not read by the store, on any medium of two slots with room for the tries, on trial or not.
 abbrev pub MarksAreUnread : Type 0
-MarksAreUnread = (m now : MediumState) (tries : ℕ) → IsSized m → AreTries m.grain tries → IsMarked m tries now → IsUnread m now
+MarksAreUnread =
+    (m now : MediumState) (tries : ℕ) → IsSizedMedium m → AreTries m.grain tries → MarkWasSet m tries now → ChangedUnreadBytes m now
 
 -- A change of bytes that the store does not read changes no image: an image is active afterwards exactly if it was before.
 abbrev pub UnreadChangesNoImage : Type 0
-UnreadChangesNoImage = (m now : MediumState) (image : List ℕ) → IsUnread m now → Active now image ↔ Active m image
+UnreadChangesNoImage = (m now : MediumState) (image : List ℕ) → ChangedUnreadBytes m now → Active now image ↔ Active m image

@@ -1,13 +1,13 @@
 //! The sizes of a run area, and its blank parts.
 ghost use Rattle.std.specs.Prelude.{◌≡◌, ◌≤◌, length, IsTrue, ◌↔◌};
-ghost use Rattle.dfu_boot.specs.install.Area.{IsRunArea, AreBlank};
+ghost use Rattle.dfu_boot.specs.install.Area.{IsRunArea, RangeIsBlank};
 
-use dfu_slots::{MAX_SECTOR, PAGE};
+use dfu_slots::{MAX_SECTOR, PAGE, flash_byte_at};
 
 /// Bytes that are programmed at a time.
 pub(crate) const PROGRAM: u32 = 256;
 
-/// Returns whether a run area of so many bytes may have sectors of so many.
+/// Returns true if a run area of `len` bytes may have sectors of `sector` bytes.
 pub(crate) fn is_run_area(len: usize, sector: u32) -> bool
     ensures { IsTrue result ↔ IsRunArea len sector }
 {
@@ -18,15 +18,15 @@ pub(crate) fn is_run_area(len: usize, sector: u32) -> bool
         && len % sector as usize == 0
 }
 
-/// Returns whether the bytes from one place to before another are all FFh.
+/// Returns true if the bytes of `run` from `from` to before `to` are all FFh.
 pub fn are_blank(run: &[u8], from: u32, to: u32) -> bool
     requires order { from ≤ to }
     requires inside { to ≤ length run.now }
-    ensures { IsTrue result ↔ AreBlank run.now from to }
+    ensures { IsTrue result ↔ RangeIsBlank run.now from to }
 {
     let mut at = from;
     while at < to {
-        if run[at as usize] != 0xff {
+        if flash_byte_at(run, at as usize) != 0xff {
             return false;
         }
         at += 1;

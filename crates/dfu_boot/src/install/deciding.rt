@@ -1,7 +1,7 @@
-//! Operation that is due next.
+//! The choice of the operation that is due next.
 ghost use Rattle.std.specs.Prelude.{◌≡◌, ◌+◌, ◌-◌, ◌%◌, ◌<◌, ◌≤◌, ◌^◌, length, min, IsTrue, ◌↔◌};
 ghost use Rattle.dfu_boot.specs.install.Area.{IsRunArea, start_of};
-ghost use Rattle.dfu_boot.specs.install.Next.{IsNextDue, IsNext, IsReady, MayProgram, look_from};
+ghost use Rattle.dfu_boot.specs.install.Next.{IsNextDue, IsNextDifference, HasNoRefusal, MayProgram, search_start};
 
 use crate::install::area::{PROGRAM, are_blank, is_run_area};
 use crate::install::compare::next_difference;
@@ -10,7 +10,7 @@ use crate::install::due::{Due, Refusal};
 // Returns the place at which the search begins.
 fn look_from(image: &[u8], last: Option<u32>) -> u32
     requires { length image.now < 2 ^ 32 }
-    ensures value { result ≡ look_from image.now last }
+    ensures value { result ≡ search_start image.now last }
     ensures most { result ≤ length image.now }
 {
     match last {
@@ -38,8 +38,8 @@ fn may_program(run: &[u8], sector: u32, last: Option<u32>, piece: u32) -> bool
 
 // Returns the operation that is due of the sector in which that byte differs.
 fn mend(image: &[u8], run: &[u8], sector: u32, last: Option<u32>, at: u32) -> Due
-    requires ready { IsReady image.now run.now sector }
-    requires next { IsNext image.now run.now (look_from image.now last) at }
+    requires ready { HasNoRefusal image.now run.now sector }
+    requires next { IsNextDifference image.now run.now (search_start image.now last) at }
     ensures { IsNextDue image.now run.now sector last result }
 {
     let piece = at - at % PROGRAM;

@@ -3,7 +3,7 @@
 /// Refusals of an image that can't be started.
 #[derive(Clone, Copy, Drop)]
 pub enum Refusal {
-    /// The sectors are not of a multiple of 256 bytes up to 131,072, or the run area is not whole in them, or has 2^32 bytes or more.
+    /// The sectors are not of a multiple of 256 bytes up to 262,144, or the run area is not whole in them, or has 2^32 bytes or more.
     WrongSize,
     /// The image has no bytes.
     NoImage,

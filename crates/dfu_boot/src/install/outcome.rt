@@ -1,6 +1,6 @@
 //! Outcome of an operation.
 ghost use Rattle.std.specs.Prelude.{◌<◌, ◌^◌, ◌↔◌, length, IsTrue};
-ghost use Rattle.dfu_boot.specs.install.OperationReport.{DueReported, IsErasedSector, IsProgrammed};
+ghost use Rattle.dfu_boot.specs.install.OperationReport.{DueReported, IsBlankSector, PieceReadsAsImage};
 
 use crate::install::area::{PROGRAM, are_blank, is_run_area};
 use crate::install::compare::first_difference;
@@ -9,7 +9,7 @@ use crate::install::due::Due;
 // Returns whether all of the sector that begins there reads FFh.
 fn is_erased(run: &[u8], sector: u32, at: u32) -> bool
     requires { length run.now < 2 ^ 32 }
-    ensures { IsTrue result ↔ IsErasedSector run.now sector at }
+    ensures { IsTrue result ↔ IsBlankSector run.now sector at }
 {
     at as u64 + sector as u64 <= run.len() as u64 && are_blank(run, at, at + sector)
 }
@@ -17,7 +17,7 @@ fn is_erased(run: &[u8], sector: u32, at: u32) -> bool
 // Returns whether the piece that begins there reads as the image, as far as the image goes.
 fn is_programmed(image: &[u8], run: &[u8], at: u32) -> bool
     requires { length run.now < 2 ^ 32 }
-    ensures { IsTrue result ↔ IsProgrammed image.now run.now at }
+    ensures { IsTrue result ↔ PieceReadsAsImage image.now run.now at }
 {
     let end = at as u64 + PROGRAM as u64;
     if end > run.len() as u64 {

@@ -2,13 +2,15 @@
 ghost use Rattle.std.specs.Prelude.{◌≡◌, ◌+◌, ◌-◌, ◌≤◌, ◌++◌, replicate, length, slice_range, min};
 ghost use Rattle.dfu_boot.specs.install.Area.{program_piece};
 
-// Makes `out` these bytes, and FFh after them.
+use dfu_slots::read_flash;
+
+// Makes `out` these bytes of flash, and FFh after them.
 fn fill_up(bytes: &[u8], out: &mut [u8; 256])
     requires { length bytes.now ≤ 256 }
     ensures { out.new ≡ bytes.now ++ replicate (256 - length bytes.now) 255 }
 {
     *out = [0xff; 256];
-    out[..bytes.len()].copy_from_slice(bytes);
+    read_flash(bytes, &mut out[..bytes.len()]);
 }
 
 /// Makes `out` the 256 bytes that are programmed from that offset on: those of the image, and FFh after its end.

@@ -1,10 +1,10 @@
 //! A look that was handed on: the standing is found again without reading the images.
 ghost use Rattle.std.specs.Prelude.{◌≡◌, IfSome, IsTrue};
 ghost use Rattle.dfu_slots.specs.Layout.{ArePlaces};
-ghost use Rattle.dfu_slots.specs.Image.{IsSized, slot_of, Counts, IsNewest};
+ghost use Rattle.dfu_slots.specs.Image.{IsSizedMedium, slot_of, SlotCounts, IsNewest};
 ghost use Rattle.dfu_boot.specs.trial.Marks.{AreTries};
 ghost use Rattle.dfu_boot.specs.trial.Calls.{IsStanding, image_place};
-ghost use Rattle.dfu_boot.specs.trial.Again.{MatchesMedium, AreWhole};
+ghost use Rattle.dfu_boot.specs.trial.Again.{MatchesMedium, ImagesAreWhole};
 
 use crate::trial::marks::{is_set, starts};
 use crate::trial::{Settled, Standing, Trial};
@@ -12,7 +12,7 @@ use dfu_slots::{Medium, Places, capacity_of, data_at, generation, is_open, is_si
 
 // Returns the places of the slots, if the data of one begins there.
 fn places_by_data<M: Medium>(medium: &M, at: u32) -> Option<Places>
-    requires { IsSized (M.state medium.now) }
+    requires { IsSizedMedium (M.state medium.now) }
     ensures places { IfSome result (λ p. ArePlaces (M.state medium.now).bytes p.active p.spare) }
     ensures at { IfSome result (λ p. image_place (M.state medium.now).grain p.active ≡ at) }
 {
@@ -36,9 +36,9 @@ fn places_by_data<M: Medium>(medium: &M, at: u32) -> Option<Places>
 // Returns whether the gate of the first of two slots is open, and that of the second is not, or its header is one generation behind: the
 // first is the newest then, if it counts.
 fn is_ahead<M: Medium>(medium: &M, places: Places) -> bool
-    requires sized { IsSized (M.state medium.now) }
+    requires sized { IsSizedMedium (M.state medium.now) }
     requires places { ArePlaces (M.state medium.now).bytes places.active places.spare }
-    ensures { IsTrue result → Counts (slot_of (M.state medium.now) places.active) →
+    ensures { IsTrue result → SlotCounts (slot_of (M.state medium.now) places.active) →
         IsNewest (slot_of (M.state medium.now) places.active) (slot_of (M.state medium.now) places.spare) }
 {
     if !is_open(medium, places.active) {
@@ -53,7 +53,7 @@ fn is_ahead<M: Medium>(medium: &M, places: Places) -> bool
 /// whole. None if another slot may have the active image by now, or if an image may be on trial that the look didn't say: look anew then.
 pub fn look_again<M: Medium>(medium: &M, tries: u32, at: u32, base: Option<u32>) -> Option<Standing>
     requires tries { AreTries (M.state medium.now).grain tries }
-    ensures stands { IfSome result (λ s. AreWhole (M.state medium.now) at base → IsStanding (M.state medium.now) tries s) }
+    ensures stands { IfSome result (λ s. ImagesAreWhole (M.state medium.now) at base → IsStanding (M.state medium.now) tries s) }
     ensures fits { IfSome result (λ s. MatchesMedium (M.state medium.now) tries s) }
 {
     if !is_sized(medium) {

@@ -1,8 +1,8 @@
-//! A start that is carried out.
+//! A start that is carried out on a medium.
 ghost use Rattle.std.specs.Prelude.{◌≡◌, ◌<◌, OnOk, OnErr, IfOk, IfErr};
 ghost use Rattle.dfu_slots.specs.Medium.Fuse.{Whole};
 ghost use Rattle.dfu_slots.specs.Image.{HasImage};
-ghost use Rattle.dfu_slots.specs.Changes.{IsOpenFault};
+ghost use Rattle.dfu_slots.specs.Changes.{FirstOpenFault};
 ghost use Rattle.dfu_boot.specs.trial.Marks.{AreTries};
 ghost use Rattle.dfu_boot.specs.trial.Calls.{IsStanding};
 ghost use Rattle.dfu_boot.specs.trial.Laws.{HasBooted};
@@ -24,7 +24,7 @@ pub fn boot<M: Medium>(medium: &mut M, tries: u32) -> Result<u32, OpenFault>
     ensures tried { IfOk result (λ slot. (t : Trial) → IsStanding (M.state medium.old) tries (OnTrial t) → t.starts < tries →
         (M.state medium.old).fuse ≡ Whole → slot ≡ t.slot) }
     ensures image { OnOk result (HasImage (M.state medium.new)) }
-    ensures fault { IfErr result (λ fault. IsOpenFault fault (M.state medium.old)) }
+    ensures fault { IfErr result (λ fault. FirstOpenFault fault (M.state medium.old)) }
     ensures unchanged { OnErr result (M.state medium.new ≡ M.state medium.old) }
 {
     let standing = look(medium, tries)?;

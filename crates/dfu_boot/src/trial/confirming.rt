@@ -1,7 +1,7 @@
 //! Confirmation of a running image.
 ghost use Rattle.std.specs.Prelude.{◌≡◌, ◌+◌, ◌≤◌, length};
 ghost use Rattle.dfu_boot.specs.trial.Marks.{AreTries, mark_at};
-ghost use Rattle.dfu_boot.specs.trial.Calls.{IsStanding, ConfirmationAccepted, sets, confirm_of};
+ghost use Rattle.dfu_boot.specs.trial.Calls.{IsStanding, ConfirmationAccepted, mark_op, trial_confirmation};
 ghost use Rattle.dfu_boot.specs.declared.trial.confirming.Confirmation.TheVariants.{By};
 
 use crate::trial::marks::{mark_at, mark_size};
@@ -13,7 +13,7 @@ use dfu_slots::{Medium, data_at};
 pub enum Confirmation {
     /// By this operation.
     By(Operation),
-    /// It is confirmed.
+    /// The image is confirmed.
     Confirmed,
     /// No image that may run begins there.
     Elsewhere,
@@ -22,7 +22,7 @@ pub enum Confirmation {
 // The operation that sets the confirmation of the slot that begins there.
 fn by_mark<M: Medium>(medium: &M, slot: u32) -> Confirmation
     requires { mark_at (M.state medium.now).grain slot 0 ≤ length (M.state medium.now).bytes }
-    ensures { result ≡ By (sets (M.state medium.now).grain slot 0) }
+    ensures { result ≡ By (mark_op (M.state medium.now).grain slot 0) }
 {
     Confirmation::By(Operation::Mark(mark_at(medium, slot, 0), mark_size(medium)))
 }
@@ -33,7 +33,7 @@ impl Standing {
     pub fn confirm<M: Medium>(self, medium: &M, tries: u32, at: u32) -> Confirmation
         requires tries { AreTries (M.state medium.now).grain tries }
         requires stands { IsStanding (M.state medium.now) tries self }
-        ensures value { result ≡ confirm_of (M.state medium.now).grain self at }
+        ensures value { result ≡ trial_confirmation (M.state medium.now).grain self at }
         ensures taken { ConfirmationAccepted (M.state medium.now) result }
     {
         match self {

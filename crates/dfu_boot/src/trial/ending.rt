@@ -1,7 +1,7 @@
 //! End of a trial.
 ghost use Rattle.std.specs.Prelude.{◌≡◌, IfSome};
 ghost use Rattle.dfu_boot.specs.trial.Marks.{AreTries};
-ghost use Rattle.dfu_boot.specs.trial.Calls.{IsStanding, MediumAccepts, end_of_trial, upload_of};
+ghost use Rattle.dfu_boot.specs.trial.Calls.{IsStanding, MediumAccepts, end_of_trial, upload_operation};
 
 use crate::trial::{Operation, Standing};
 use dfu_slots::Medium;
@@ -27,7 +27,7 @@ impl Standing {
     pub fn upload<M: Medium>(self, _medium: &M, tries: u32) -> Option<Operation>
         requires tries { AreTries (M.state _medium.now).grain tries }
         requires stands { IsStanding (M.state _medium.now) tries self }
-        ensures value { result ≡ upload_of tries self }
+        ensures value { result ≡ upload_operation tries self }
         ensures taken { IfSome result (λ operation. MediumAccepts (M.state _medium.now) operation) }
     {
         match self {

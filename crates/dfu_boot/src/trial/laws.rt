@@ -3,11 +3,11 @@ ghost use Rattle.std.specs.Prelude.{◌≡◌, ◌⊎◌, ℕ, true, List};
 ghost use Rattle.dfu_slots.specs.Medium.{MediumState};
 ghost use Rattle.dfu_slots.specs.Image.{Active, HasImage};
 ghost use Rattle.dfu_boot.specs.trial.Marks.{AreTries};
-ghost use Rattle.dfu_boot.specs.trial.Calls.{IsStanding, sets, trial_start, runs_in, upload_of};
-ghost use Rattle.dfu_boot.specs.trial.Laws.{Carried, CarriedIf, TrialContinues, IsConfirmed, IsBack, Starts, Uploads, RunsNext, RunsOrIsNext};
+ghost use Rattle.dfu_boot.specs.trial.Calls.{IsStanding, mark_op, trial_start, runs_in, upload_operation};
+ghost use Rattle.dfu_boot.specs.trial.Laws.{OperationOutcome, AskedResult, TrialContinues, IsConfirmed, ConfirmedImageIsBack, StartOutcome, UploadOutcome, RunsAtNextStart, RunsOrIsNext};
 ghost use Rattle.dfu_boot.specs.trial.Trial.{image_at};
 ghost use Rattle.dfu_boot.specs.trial.Unread.{MarksAreUnread, UnreadChangesNoImage};
-ghost use Rattle.dfu_boot.specs.trial.Lists.{TrialStep, TrialCourse, Trust, Alone, Tried, AreTrusted, AllTrusted};
+ghost use Rattle.dfu_boot.specs.trial.Lists.{TrialStep, TrialCourse, TrustedImages, Alone, Tried, AreTrusted, AllTrusted};
 ghost use Rattle.dfu_boot.specs.declared.trial.standing.Settled.{Settled};
 ghost use Rattle.dfu_boot.specs.declared.trial.standing.Trial.{Trial};
 ghost use Rattle.dfu_boot.specs.declared.trial.standing.Standing.{Standing};
@@ -19,32 +19,33 @@ ghost use Rattle.dfu_boot.specs.declared.trial.operation.Operation.TheVariants.{
 /// image runs, and is back, or the trial is as it was. Some image is active afterwards.
 pub fn a_start_runs_one_of_two()
     ensures starts { (m now : MediumState) (tries : ℕ) (s : Standing) → AreTries m.grain tries → IsStanding m tries s →
-        CarriedIf m (trial_start m.grain tries s).operation now →
-        Starts m tries s now (runs_in now (trial_start m.grain tries s) (trial_start m.grain tries s).operation) }
+        AskedResult m (trial_start m.grain tries s).operation now →
+        StartOutcome m tries s now (runs_in now (trial_start m.grain tries s) (trial_start m.grain tries s).operation) }
     ensures image { (m now : MediumState) (tries : ℕ) (s : Standing) (ran : ℕ) → AreTries m.grain tries → IsStanding m tries s →
-        Starts m tries s now ran → HasImage now }
+        StartOutcome m tries s now ran → HasImage now }
 {}
 
 /// A confirmation of the image on trial, whatever becomes of the mark: it is the active one and confirmed, or the trial is as it was.
 pub fn a_confirmation_holds_or_the_trial_goes_on()
     ensures { (m now : MediumState) (tries : ℕ) (t : Trial) → AreTries m.grain tries → IsStanding m tries (OnTrial t) →
-        Carried m (sets m.grain t.slot 0) now → IsConfirmed m t now ⊎ TrialContinues m tries t now }
+        OperationOutcome m (mark_op m.grain t.slot 0) now → IsConfirmed m t now ⊎ TrialContinues m tries t now }
 {}
 
 /// The end of a trial, asked for or since no start was left, whatever becomes of the erase: the confirmed image is back, or the trial is as
 /// it was.
 pub fn a_trial_ends_or_goes_on()
     ensures { (m now : MediumState) (tries : ℕ) (t : Trial) → AreTries m.grain tries → IsStanding m tries (OnTrial t) →
-        Carried m (Close t.slot) now → TrialContinues m tries t now ⊎ IsBack m t now }
+        OperationOutcome m (Close t.slot) now → TrialContinues m tries t now ⊎ ConfirmedImageIsBack m t now }
 {}
 
 /// An upload, whatever becomes of what it asks for: the next start is to run the image that it gives, or the trial that was to end goes on.
 /// And the start of such an image, whatever becomes of its mark: it runs, or the mark does not read set, and it is still the next one.
 pub fn an_upload_gives_what_starts_next()
     ensures upload { (m now : MediumState) (tries : ℕ) (s : Standing) → AreTries m.grain tries → IsStanding m tries s →
-        CarriedIf m (upload_of tries s) now → Uploads m tries s now }
-    ensures start { (m now : MediumState) (tries : ℕ) (image : List ℕ) (s : Standing) → AreTries m.grain tries → RunsNext m tries image →
-        IsStanding m tries s → CarriedIf m (trial_start m.grain tries s).operation now →
+        AskedResult m (upload_operation tries s) now → UploadOutcome m tries s now }
+    ensures start { (m now : MediumState) (tries : ℕ) (image : List ℕ) (s : Standing) → AreTries m.grain tries
+        → RunsAtNextStart m tries image →
+        IsStanding m tries s → AskedResult m (trial_start m.grain tries s).operation now →
         RunsOrIsNext image tries (trial_start m.grain tries s).operation now
         (runs_in now (trial_start m.grain tries s) (trial_start m.grain tries s).operation) }
 {}
@@ -57,9 +58,9 @@ pub fn what_was_confirmed_runs_or_the_newest_on_trial()
         AreTrusted m tries (Alone (image_at m s.slot)) }
     ensures tried { (m : MediumState) (tries : ℕ) (t : Trial) (image : List ℕ) → IsStanding m tries (OnTrial t) → Active m image →
         AreTrusted m tries (Tried (image_at m t.base) image t.starts) }
-    ensures list { (m : MediumState) (tries : ℕ) (trust : Trust) (steps : List TrialStep) → AreTries m.grain tries →
+    ensures list { (m : MediumState) (tries : ℕ) (trust : TrustedImages) (steps : List TrialStep) → AreTries m.grain tries →
         AreTrusted m tries trust → TrialCourse tries m steps → AllTrusted tries trust m steps }
-    ensures image { (m : MediumState) (tries : ℕ) (trust : Trust) → AreTrusted m tries trust → HasImage m }
+    ensures image { (m : MediumState) (tries : ℕ) (trust : TrustedImages) → AreTrusted m tries trust → HasImage m }
 {}
 
 /// A mark of a start or a confirmation, of either slot, whether or not an image is on trial, and whatever becomes of it: the store reads

@@ -1,7 +1,7 @@
 //! Looks at the medium for an image on trial.
 ghost use Rattle.std.specs.Prelude.{OnOk, IfOk, IfErr};
 ghost use Rattle.dfu_slots.specs.Image.{HasImage};
-ghost use Rattle.dfu_slots.specs.Changes.{IsOpenFault};
+ghost use Rattle.dfu_slots.specs.Changes.{FirstOpenFault};
 ghost use Rattle.dfu_boot.specs.trial.Marks.{AreTries};
 ghost use Rattle.dfu_boot.specs.trial.Calls.{IsStanding};
 
@@ -18,7 +18,7 @@ pub fn look<M: Medium>(medium: &M, tries: u32) -> Result<Standing, OpenFault>
     requires tries { AreTries (M.state medium.now).grain tries }
     ensures standing { IfOk result (λ s. IsStanding (M.state medium.now) tries s) }
     ensures image { OnOk result (HasImage (M.state medium.now)) }
-    ensures fault { IfErr result (λ fault. IsOpenFault fault (M.state medium.now)) }
+    ensures fault { IfErr result (λ fault. FirstOpenFault fault (M.state medium.now)) }
 {
     let both = check_both(medium)?;
     let slot = both.places.active;

@@ -2,12 +2,12 @@
 ghost use Rattle.std.specs.Prelude.{◌≡◌, ◌+◌, ◌*◌, ◌≤◌, ◌<◌, length, slice_range};
 ghost use Rattle.std.specs.List.{list_all};
 ghost use Rattle.dfu_slots.specs.Layout.{slot_size};
-ghost use Rattle.dfu_slots.specs.Image.{IsSized};
-ghost use Rattle.dfu_boot.specs.trial.Marks.{mark_size, mark_at, is_erased, is_marked, is_set, starts, AreTries};
+ghost use Rattle.dfu_slots.specs.Image.{IsSizedMedium};
+ghost use Rattle.dfu_boot.specs.trial.Marks.{mark_size, mark_at, is_erased, is_marked, is_mark_set, recorded_starts, AreTries};
 
 use dfu_slots::{Medium, gate_of};
 
-/// Returns the bytes of a mark: a unit, and 16 at least.
+/// Returns the number of bytes of a mark: a unit, and 16 at least.
 pub(crate) fn mark_size<M: Medium>(medium: &M) -> u32
     ensures value { result ≡ mark_size (M.state medium.now).grain }
     ensures least { 16 ≤ result }
@@ -16,7 +16,7 @@ pub(crate) fn mark_size<M: Medium>(medium: &M) -> u32
     medium.unit().size().max(16)
 }
 
-/// Returns the place of that mark, of the slot that begins there.
+/// Returns the place of mark number `i` of the slot that begins at `at`.
 pub(crate) fn mark_at<M: Medium>(medium: &M, at: u32, i: u32) -> u32
     requires { mark_at (M.state medium.now).grain at i ≤ length (M.state medium.now).bytes }
     ensures { result ≡ mark_at (M.state medium.now).grain at i }
@@ -33,7 +33,7 @@ fn is_blank(bytes: &[u8]) -> bool
     bytes.iter().all(|byte| *byte == 0xff)
 }
 
-/// Returns whether one of so many bytes from there on, at most 256, is not FFh.
+/// Returns true if one of the `len` bytes from `at` on, at most 256, is not FFh.
 pub(crate) fn is_marked<M: Medium>(medium: &M, at: u32, len: u32) -> bool
     requires within { at + len ≤ length (M.state medium.now).bytes }
     requires most { len ≤ 256 }
@@ -45,20 +45,20 @@ pub(crate) fn is_marked<M: Medium>(medium: &M, at: u32, len: u32) -> bool
     !is_blank(bytes)
 }
 
-/// Returns whether that mark is set, of the slot that begins there.
+/// Returns true if mark number `i` of the slot that begins at `at` is set.
 pub(crate) fn is_set<M: Medium>(medium: &M, at: u32, i: u32) -> bool
     requires { let m = M.state medium.now in mark_at m.grain at i + mark_size m.grain ≤ length m.bytes }
-    ensures { result ≡ is_set (M.state medium.now) at i }
+    ensures { result ≡ is_mark_set (M.state medium.now) at i }
 {
     is_marked(medium, mark_at(medium, at, i), mark_size(medium))
 }
 
-/// Counts the recorded starts of the image in the slot that begins there.
+/// Returns the number of recorded starts of the image in the slot that begins at `at`.
 pub(crate) fn starts<M: Medium>(medium: &M, tries: u32, at: u32) -> u32
-    requires sized { IsSized (M.state medium.now) }
+    requires sized { IsSizedMedium (M.state medium.now) }
     requires tries { AreTries (M.state medium.now).grain tries }
     requires within { at + slot_size (M.state medium.now).bytes ≤ length (M.state medium.now).bytes }
-    ensures value { result ≡ starts (M.state medium.now) tries at }
+    ensures value { result ≡ recorded_starts (M.state medium.now) tries at }
     ensures most { result ≤ tries }
 {
     let mut done = 0;

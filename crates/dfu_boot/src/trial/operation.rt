@@ -1,31 +1,32 @@
 //! Operations that the calls ask of their caller.
 ghost use Rattle.std.specs.Prelude.{OnOk, OnErr};
 ghost use Rattle.dfu_boot.specs.trial.Calls.{MediumAccepts, MarkIsWithin};
-ghost use Rattle.dfu_boot.specs.trial.Laws.{Carried, HasWorked, HasFailed};
+ghost use Rattle.dfu_boot.specs.trial.Laws.{OperationOutcome, OperationReportedOk, OperationReportedFailed};
 
 use dfu_slots::{Failed, Medium};
 
-/// One operation on the medium, which the caller carries out. Whatever becomes of it, only the bytes of its range may change.
+/// One operation on the medium, which the caller must carry out. Whatever becomes of the operation, only the bytes of its range may
+/// change.
 #[derive(Clone, Copy, Drop)]
 pub enum Operation {
-    /// So many zeros, at most 256, are programmed from there on: a mark, all of whose bytes are FFh. Place, and length.
+    /// A program of zeros, at most 256, over a mark, all of whose bytes are FFh: the place of the first byte, and the number of bytes.
     Mark(u32, u32),
     /// The sector that begins there is erased: a gate is closed.
     Close(u32),
 }
 
 impl Operation {
-    /// Carries it out on a medium. Nothing is read back: the next look at the medium shows what became of it.
+    /// Performs the operation on `medium`. Nothing is read back: the next look at the medium shows what became of the operation.
     ///
     /// # Errors
     ///
-    /// The medium answered that it failed.
+    /// Failed if the medium answered that it failed.
     pub fn carry_out<M: Medium>(self, medium: &mut M) -> Result<(), Failed>
         requires taken { MediumAccepts (M.state medium.old) self }
         requires within { MarkIsWithin (M.state medium.old) self }
-        ensures carried { Carried (M.state medium.old) self (M.state medium.new) }
-        ensures worked { OnOk result (HasWorked (M.state medium.old) self (M.state medium.new)) }
-        ensures failed { OnErr result (HasFailed (M.state medium.old) self (M.state medium.new)) }
+        ensures carried { OperationOutcome (M.state medium.old) self (M.state medium.new) }
+        ensures worked { OnOk result (OperationReportedOk (M.state medium.old) self (M.state medium.new)) }
+        ensures failed { OnErr result (OperationReportedFailed (M.state medium.old) self (M.state medium.new)) }
     {
         match self {
             Operation::Mark(at, len) => medium.write(at, &[0; 256][..len as usize]),

@@ -1,4 +1,4 @@
-//! What starts.
+//! The image that starts: the choice at a power-on, and the operation that must come before it.
 ghost use Rattle.std.specs.Prelude.{◌≡◌, IfSome};
 ghost use Rattle.dfu_boot.specs.trial.Marks.{AreTries};
 ghost use Rattle.dfu_boot.specs.trial.Calls.{MediumAccepts, MarkIsWithin, trial_start, runs_in};

@@ -1,4 +1,4 @@
--- With what a program in C has its flash written, by the configuration of its device.
+-- Flash of two areas, by the configuration of the device in C.
 use Rattle.std.specs.Prelude.{◌≡◌, ℕ, ℤ, ◌^◌, ◌≤◌, List, length, negsuc}
 use Rattle.dfu_slots.specs.Medium.{MediumState}
 use Rattle.dfu_home.specs.declared.due.Progress.{Progress}
@@ -7,28 +7,28 @@ use Rattle.dfu_boot_c.specs.declared.trial.flash.DfuTries.{DfuTries}
 use Rattle.dfu_boot_c.specs.declared.trial.flash.Refusal.{Refusal}
 use Rattle.dfu_boot_c.specs.declared.trial.flash.Refusal.TheVariants.{NoConfig, Tries, NoMedium}
 use Rattle.dfu_boot_c.specs.declared.home.numbers.DfuHomeRecord.{DfuHomeRecord}
-use Rattle.dfu_boot_c.specs.trial.Tries.{flash_state, IsTriesPart}
-use Rattle.dfu_boot_c.specs.trial.Numbers.{trial_number}
+use Rattle.dfu_boot_c.specs.trial.Tries.{trial_medium_state, HasTriesUnitAndSector}
+use Rattle.dfu_boot_c.specs.trial.Numbers.{trial_refusal_number}
 use Rattle.dfu_boot_c.specs.install.Calls.{last_of}
 
--- Configuration of the flash, as a trial has it.
+-- Unit and sectors of the flash, as a trial has them.
 abbrev pub part_of : DfuConfig → DfuTries
 part_of c = record { unit = c.unit; sector = c.sector; tries = 0 }
 
--- The flash as it is written so.
-abbrev pub home_state : DfuConfig → List ℕ → MediumState
-home_state c flash = flash_state (part_of c) flash
+-- The flash as a medium with the unit and the sectors of the configuration.
+abbrev pub home_medium_state : DfuConfig → List ℕ → MediumState
+home_medium_state c flash = trial_medium_state (part_of c) flash
 
--- There is no medium for this reason: no unit has that size or there are no such sectors, or else the flash has 2^32 bytes or more.
+-- The flash is no medium, for a reason: no unit or sectors have the sizes of the configuration; or else the flash has 2^32 bytes or more.
 abbrev pub IsFlashRefused : Refusal → DfuConfig → List ℕ → Type 0
-IsFlashRefused NoConfig c flash = ¬ IsTriesPart (part_of c)
+IsFlashRefused NoConfig c flash = ¬ HasTriesUnitAndSector (part_of c)
 IsFlashRefused (Tries fault) c flash = ⊥
-IsFlashRefused NoMedium c flash = IsTriesPart (part_of c) × (2 ^ 32 ≤ length flash)
+IsFlashRefused NoMedium c flash = HasTriesUnitAndSector (part_of c) × (2 ^ 32 ≤ length flash)
 
--- A call with this number was refused by this.
+-- A call was refused with the number of the reason for which the flash is no medium.
 abbrev pub RefusesFlash : DfuConfig → List ℕ → ℤ → Type 0
-RefusesFlash c flash result = (why : Refusal) × IsFlashRefused why c flash × (result ≡ trial_number why)
+RefusesFlash c flash result = (why : Refusal) × IsFlashRefused why c flash × (result ≡ trial_refusal_number why)
 
--- Progress of a copy, by its record.
+-- Progress of a copy, as its record has it.
 abbrev pub progress_of : DfuHomeRecord → Progress
 progress_of r = record { last = last_of r.last; count = r.count }

@@ -1,20 +1,20 @@
--- Meaning of the numbers of a program in C.
+-- Meaning of the numbers in the calls of a run area.
 use Rattle.std.specs.Prelude.{ℕ, ℤ, negsuc, ◌==◌, if◌then◌else◌, Option, Some, None}
 use Rattle.dfu_boot.specs.declared.install.due.Due.{Due}
 use Rattle.dfu_boot.specs.declared.install.due.Due.TheVariants.{Erase, Program, Start}
 use Rattle.dfu_boot.specs.declared.install.due.Refusal.{Refusal}
 use Rattle.dfu_boot.specs.declared.install.due.Refusal.TheVariants.{WrongSize, NoImage, TooLarge}
 
--- The place that a number means: DFU_NOWHERE for none.
+-- The place of a number, and none for DFU_NOWHERE.
 abbrev pub last_of : ℕ → Option ℕ
 last_of number = if number == 4294967295 then None else Some number
 
--- The number of a place.
+-- The number of a place, and DFU_NOWHERE for none.
 abbrev pub number_of_place : Option ℕ → ℕ
 number_of_place None = 4294967295
 number_of_place (Some at) = at
 
--- The operation that a kind and a place describe; for another kind none, which the start has too.
+-- The operation of a kind at a place; any other kind stands for the start, which is no operation.
 abbrev pub due_of_kind : ℕ → ℕ → Due
 due_of_kind kind at = if kind == 1 then Erase at else if kind == 2 then Program at else Start
 

@@ -1,4 +1,4 @@
--- The numbers that a program in C gets of a trial.
+-- Numbers that the calls of a trial return to a program in C.
 use Rattle.std.specs.Prelude.{ℤ, negsuc}
 use Rattle.dfu_boot.specs.declared.trial.tries.TriesFault.TheVariants.{NoSectors, TooFew, TooMany}
 use Rattle.dfu_boot_c.specs.declared.trial.flash.Refusal.{Refusal}
@@ -9,9 +9,9 @@ abbrev pub ELSEWHERE : ℤ
 ELSEWHERE = negsuc 18
 
 -- The number of a refusal: DFU_NO_CONFIG, DFU_NO_SECTORS, DFU_FEW_TRIES, DFU_MANY_TRIES, DFU_NO_MEDIUM.
-abbrev pub trial_number : Refusal → ℤ
-trial_number NoConfig = negsuc 1
-trial_number (Tries NoSectors) = negsuc 15
-trial_number (Tries TooFew) = negsuc 16
-trial_number (Tries TooMany) = negsuc 17
-trial_number NoMedium = negsuc 2
+abbrev pub trial_refusal_number : Refusal → ℤ
+trial_refusal_number NoConfig = negsuc 1
+trial_refusal_number (Tries NoSectors) = negsuc 15
+trial_refusal_number (Tries TooFew) = negsuc 16
+trial_refusal_number (Tries TooMany) = negsuc 17
+trial_refusal_number NoMedium = negsuc 2

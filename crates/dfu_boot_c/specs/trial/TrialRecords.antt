@@ -1,4 +1,4 @@
--- Facts of a trial that a program in C gets to know.
+-- Records in which a program in C gets the facts of a trial.
 use Rattle.std.specs.Prelude.{◌≡◌, ℕ, ℤ, pos, ◌-◌, ◌+◌, ◌==◌, Bool, nat_le, ◌&&◌, List, length, replicate, slice_range, Option, Some, None, if◌then◌else◌}
 use Rattle.dfu_slots.specs.Medium.{MediumState}
 use Rattle.dfu_slots.specs.Layout.{header_length}
@@ -12,11 +12,11 @@ use Rattle.dfu_boot.specs.declared.trial.standing.Standing.TheVariants.{Settled,
 use Rattle.dfu_boot.specs.declared.trial.starting.Starting.{Starting}
 use Rattle.dfu_core.specs.declared.records.DfuAsk.{DfuAsk}
 use Rattle.dfu_core.specs.declared.records.DfuPlace.{DfuPlace}
-use Rattle.dfu_core.specs.Numbers.{ASKS}
+use Rattle.dfu_core.specs.Numbers.{WRITE_PENDING_NUMBER}
 use Rattle.dfu_boot_c.specs.declared.trial.told.DfuStanding.{DfuStanding}
 use Rattle.dfu_boot_c.specs.declared.trial.told.DfuStarting.{DfuStarting}
 
--- Place of the image in the slot that begins there, and its length by its header.
+-- Place of the image in the slot at a place, and its length by its header.
 abbrev pub image_in : MediumState → ℕ → DfuPlace
 image_in m slot = record { at = image_place m.grain slot; length = header_length (slot_of m slot) }
 
@@ -37,23 +37,23 @@ standing_told m tries (OnTrial t) = record {
   is_confirmed = 0;
 }
 
--- Image that runs, and the one that runs if the mark does not read set.
+-- Record of a start: the image to run, and the one to run instead if the mark of this start doesn't read back as set.
 abbrev pub starting_told : MediumState → Starting → DfuStarting
 starting_told m s = record { run = image_in m s.slot; otherwise = image_in m s.otherwise }
 
--- An operation gives DFU_WRITE_PENDING, and is written into what is asked for: zeros are programmed, or a sector of so many bytes is
--- erased. If there is none the number is 0, and nothing changes.
+-- An operation is written into the record of the operation, and the call returns DFU_WRITE_PENDING: zeros are programmed, or a sector of
+-- the given size is erased. If no operation is due the call returns 0, and the record of the operation stays.
 abbrev pub TrialOpInAsk : ℕ → Option Operation → ℤ → DfuAsk → DfuAsk → Type 0
 TrialOpInAsk sector None result before after = (result ≡ pos 0) × (after ≡ before)
 TrialOpInAsk sector (Some (Mark at len)) result before after =
-    (result ≡ ASKS) × (after ≡ record { kind = 2; at = at; length = len; bytes = replicate 256 0 })
+    (result ≡ WRITE_PENDING_NUMBER) × (after ≡ record { kind = 2; at = at; length = len; bytes = replicate 256 0 })
 TrialOpInAsk sector (Some (Close at)) result before after =
-    (result ≡ ASKS) × (after ≡ record { kind = 1; at = at; length = sector; bytes = before.bytes })
+    (result ≡ WRITE_PENDING_NUMBER) × (after ≡ record { kind = 1; at = at; length = sector; bytes = before.bytes })
 
--- True if the mark that was asked for reads set: its range lies within the flash, and one of its bytes is not FFh.
+-- True if the mark of an operation reads set: its range lies within the flash, and one of its bytes is not FFh.
 abbrev pub is_there : List ℕ → DfuAsk → Bool
 is_there flash ask = nat_le (ask.at + ask.length) (length flash) && is_marked (slice_range flash ask.at (ask.at + ask.length))
 
--- Image that runs once an operation was carried out or failed: of a program only if it reads set.
-abbrev pub run_record : List ℕ → DfuAsk → DfuStarting → DfuPlace
-run_record flash ask s = if ask.kind == 2 then (if is_there flash ask then s.run else s.otherwise) else s.run
+-- Image that runs once an operation was carried out or failed. After a program that does not read set, the other image runs.
+abbrev pub run_place_of_operation : List ℕ → DfuAsk → DfuStarting → DfuPlace
+run_place_of_operation flash ask s = if ask.kind == 2 then (if is_there flash ask then s.run else s.otherwise) else s.run

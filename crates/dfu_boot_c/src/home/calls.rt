@@ -1,9 +1,9 @@
 //! The calls for two areas, as a program in C makes them: `include/dfu_home_core.h` says each for a reader of C.
 ghost use Rattle.std.specs.Prelude.{◌≡◌, ◌⊎◌, ◌+◌, ◌-◌, ◌^◌, min, not, ◌==◌, pos, negsuc};
-ghost use Rattle.dfu_home.specs.OperationReport.{Noted};
+ghost use Rattle.dfu_home.specs.OperationReport.{NoteOfOperation};
 ghost use Rattle.dfu_boot_c.specs.install.Calls.{last_of};
-ghost use Rattle.dfu_boot_c.specs.home.Flash.{home_state, RefusesFlash};
-ghost use Rattle.dfu_boot_c.specs.home.DueRecords.{HomeResult, due_of_ask, AnswersDownload};
+ghost use Rattle.dfu_boot_c.specs.home.Flash.{home_medium_state, RefusesFlash};
+ghost use Rattle.dfu_boot_c.specs.home.DueRecords.{HomeNextResult, due_of_ask, HomeDownloadAnswer};
 ghost use Rattle.dfu_slots.specs.Image.{HasImage};
 
 use crate::home::flash::medium;
@@ -24,7 +24,7 @@ pub extern "C" fn dfu_core_home_next(
     flash: &[u8],
     ask: &mut DfuAsk,
 ) -> i32
-    ensures outcome { HomeResult config.now kept.now flash.now result ask.old ask.new
+    ensures outcome { HomeNextResult config.now kept.now flash.now result ask.old ask.new
         ⊎ (RefusesFlash config.now flash.now result × (ask.new ≡ ask.old)) }
 {
     let medium = match medium(config, flash) {
@@ -49,8 +49,8 @@ pub extern "C" fn dfu_core_home_next(
     }
 }
 
-/// The operation that `dfu_core_home_next` gave was carried out, or failed if `failed` is not 0; as `took` of dfu_home: 0, and `kept` has
-/// noted it.
+/// Takes the report that the operation that `dfu_core_home_next` gave was carried out, or that it failed if `failed` is not 0, as `took`
+/// of dfu_home. Returns 0, and `kept` has noted the report.
 #[unsafe(no_mangle)]
 pub extern "C" fn dfu_core_home_took(
     kept: &mut DfuHomeRecord,
@@ -59,7 +59,8 @@ pub extern "C" fn dfu_core_home_took(
     failed: u32,
 ) -> i32
     ensures result { result ≡ pos 0 }
-    ensures noted { Noted flash.now ask.now.length (due_of_ask ask.now) ask.now.bytes (not (failed == 0)) (last_of kept.new.last) }
+    ensures noted { NoteOfOperation flash.now ask.now.length (due_of_ask ask.now) ask.now.bytes (not (failed == 0))
+        (last_of kept.new.last) }
     ensures count { kept.new.count ≡ min (kept.old.count + 1) (2 ^ 32 - 1) }
 {
     let progress = took(
@@ -82,8 +83,8 @@ pub extern "C" fn dfu_core_home_took(
 /// more.
 #[unsafe(no_mangle)]
 pub extern "C" fn dfu_core_home_may_download(config: &DfuConfig, flash: &[u8]) -> i32
-    ensures outcome { AnswersDownload (home_state config.now flash.now) result
-        ⊎ (((¬ HasImage (home_state config.now flash.now)) × (result ≡ negsuc 2)) ⊎ RefusesFlash config.now flash.now result) }
+    ensures outcome { HomeDownloadAnswer (home_medium_state config.now flash.now) result
+        ⊎ (((¬ HasImage (home_medium_state config.now flash.now)) × (result ≡ negsuc 2)) ⊎ RefusesFlash config.now flash.now result) }
 {
     match medium(config, flash) {
         Ok(medium) => match is_home(&medium) {

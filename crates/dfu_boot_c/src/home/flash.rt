@@ -1,7 +1,7 @@
 //! The flash of a device as a medium, by its configuration.
 ghost use Rattle.std.specs.Prelude.{◌≡◌, IfOk, OnOk, IfErr};
-ghost use Rattle.dfu_asks.specs.Mapped.{grain_of as mapped_grain, mapped};
-ghost use Rattle.dfu_boot_c.specs.trial.Tries.{flash_state, IsTriesPart};
+ghost use Rattle.dfu_asks.specs.Mapped.{grain_of as mapped_grain, mapped_medium};
+ghost use Rattle.dfu_boot_c.specs.trial.Tries.{trial_medium_state, HasTriesUnitAndSector};
 ghost use Rattle.dfu_boot_c.specs.home.Flash.{part_of, IsFlashRefused};
 
 use crate::trial::flash::{DfuTries, Refusal, medium_of};
@@ -19,11 +19,15 @@ fn part_of(config: &DfuConfig) -> DfuTries
     }
 }
 
-/// The flash as a medium that is written as the configuration says, or why it is none: the first of `NoConfig`, if no unit has that size or
-/// there are no such sectors, and `NoMedium`, if it has 2^32 bytes or more.
+/// Returns `flash` as a medium that is written as `config` says.
+///
+/// # Errors
+///
+/// The first of `NoConfig`, if no unit has that size or there are no such sectors, and `NoMedium`, if the flash has 2^32 bytes or more.
 pub(crate) fn medium<'f>(config: &DfuConfig, flash: &'f [u8]) -> Result<Mapped<'f>, Refusal>
-    ensures state { IfOk result (λ m. mapped (mapped_grain m.unit m.sector) m.bytes.now ≡ flash_state (part_of config.now) flash.now) }
-    ensures part { OnOk result (IsTriesPart (part_of config.now)) }
+    ensures state { IfOk result (λ m. mapped_medium (mapped_grain m.unit m.sector) m.bytes.now ≡ trial_medium_state
+        (part_of config.now) flash.now) }
+    ensures part { OnOk result (HasTriesUnitAndSector (part_of config.now)) }
     ensures err { IfErr result (λ e. IsFlashRefused e config.now flash.now) }
 {
     let part = part_of(config);

@@ -13,11 +13,11 @@ use dfu_home::{Due, Progress, Refusal};
 pub struct DfuHomeRecord {
     /// Place of the last operation, if it worked and the power has not gone since; else FFFFFFFFh.
     pub last: u32,
-    /// Operations that came since the power came.
+    /// Number of operations that were taken since the last power-on.
     pub count: u32,
 }
 
-/// Returns the progress of a copy.
+/// Returns the progress of a copy that `kept` has.
 pub(crate) fn progress_of(kept: &DfuHomeRecord) -> Progress
     ensures { result ≡ progress_of kept.now }
 {
@@ -27,7 +27,7 @@ pub(crate) fn progress_of(kept: &DfuHomeRecord) -> Progress
     }
 }
 
-/// The operation that a program was asked for; for another kind none.
+/// Returns the operation that the program was asked for by `ask`; `Home`, which is none, for another kind.
 pub(crate) fn due_of(ask: &DfuAsk) -> Due
     ensures { result ≡ due_of_ask ask.now }
 {
@@ -41,7 +41,7 @@ pub(crate) fn due_of(ask: &DfuAsk) -> Due
     }
 }
 
-/// The number of a refusal: DFU_NO_SECTORS, DFU_NO_MEDIUM or DFU_NOT_WRITTEN.
+/// Returns the number of `refusal`: DFU_NO_SECTORS, DFU_NO_MEDIUM or DFU_NOT_WRITTEN.
 pub(crate) fn number_of(refusal: Refusal) -> i32
     ensures { result ≡ home_refusal_number refusal }
 {

@@ -6,13 +6,13 @@ ghost use Rattle.dfu_boot_c.specs.install.Calls.{last_of, number_of_place};
 #[repr(C)]
 #[derive(Drop)]
 pub struct DfuRunArea {
-    /// Bytes of a sector.
+    /// Number of bytes of a sector.
     pub sector: u32,
     /// Place of the last operation, if it worked and the power has not gone since; else FFFFFFFFh.
     pub last: u32,
 }
 
-/// The place that a number means: FFFFFFFFh for none.
+/// Returns the place that `number` means: None for FFFFFFFFh.
 pub(crate) fn last_of(number: u32) -> Option<u32>
     ensures { result ≡ last_of number }
 {
@@ -23,7 +23,7 @@ pub(crate) fn last_of(number: u32) -> Option<u32>
     }
 }
 
-/// The number of a place.
+/// Returns the number of the place `last`: FFFFFFFFh for None.
 pub(crate) fn number_of(last: Option<u32>) -> u32
     ensures { result ≡ number_of_place last }
 {

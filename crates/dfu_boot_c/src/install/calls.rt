@@ -4,7 +4,7 @@ ghost use Rattle.dfu_boot.specs.install.Next.{IsNextDue};
 ghost use Rattle.dfu_boot.specs.install.OperationReport.{DueReported};
 ghost use Rattle.dfu_boot.specs.declared.install.due.Due.{Due};
 ghost use Rattle.dfu_boot_c.specs.install.Calls.{last_of, due_of_kind};
-ghost use Rattle.dfu_boot_c.specs.install.DueRecords.{DueInAsk};
+ghost use Rattle.dfu_boot_c.specs.install.DueRecords.{InstallDueInAsk};
 
 use crate::install::area::{DfuRunArea, last_of, number_of};
 use crate::install::numbers::{due_of, number_of as refusal_number};
@@ -13,7 +13,7 @@ use dfu_core::{ASKS, DfuAsk, ERASE, PROGRAM};
 
 // Tells what is due.
 fn tell(due: Due, image: &[u8], sector: u32, ask: &mut DfuAsk) -> i32
-    ensures { DueInAsk image.now sector due result ask.old ask.new }
+    ensures { InstallDueInAsk image.now sector due result ask.old ask.new }
 {
     match due {
         Due::Refuse(refusal) => refusal_number(refusal),
@@ -45,13 +45,14 @@ pub extern "C" fn dfu_core_install_next(
     ask: &mut DfuAsk,
 ) -> i32
     ensures outcome { (due : Due) × (IsNextDue image.now run.now area.now.sector (last_of area.now.last) due
-        × DueInAsk image.now area.now.sector due result ask.old ask.new) }
+        × InstallDueInAsk image.now area.now.sector due result ask.old ask.new) }
 {
     let due = next(image, run, area.sector, last_of(area.last));
     tell(due, image, area.sector, ask)
 }
 
-/// The operation that `dfu_core_install_next` gave was carried out, or failed if `failed` is not 0; as `took`: 0, and `area` has noted it.
+/// Takes the report that the operation that `dfu_core_install_next` gave was carried out, or that it failed if `failed` is not 0, as
+/// `took`. Returns 0, and `area` has noted the report.
 #[unsafe(no_mangle)]
 pub extern "C" fn dfu_core_install_took(
     area: &mut DfuRunArea,

@@ -5,7 +5,7 @@ ghost use Rattle.dfu_boot_c.specs.install.Calls.{due_of_kind, install_refusal_nu
 use dfu_boot::install::{Due, Refusal};
 use dfu_core::{DfuAsk, ERASE, PROGRAM};
 
-/// The operation that a program was asked for; for another kind none, which the start has too.
+/// Returns the operation that the program was asked for by `ask`; the start for another kind.
 pub(crate) fn due_of(ask: &DfuAsk) -> Due
     ensures { result ≡ due_of_kind ask.now.kind ask.now.at }
 {
@@ -16,7 +16,7 @@ pub(crate) fn due_of(ask: &DfuAsk) -> Due
     }
 }
 
-/// The number of a refusal: DFU_WRONG_SIZE, DFU_NO_IMAGE or DFU_TOO_LARGE.
+/// Returns the number of `refusal`: DFU_WRONG_SIZE, DFU_NO_IMAGE or DFU_TOO_LARGE.
 pub(crate) fn number_of(refusal: Refusal) -> i32
     ensures { result ≡ install_refusal_number refusal }
 {

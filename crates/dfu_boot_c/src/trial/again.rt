@@ -1,11 +1,11 @@
 //! A start by the standing that a look before told.
 ghost use Rattle.std.specs.Prelude.{◌≡◌, ◌⊎◌, IfOk, OnOk, IfErr};
-ghost use Rattle.dfu_asks.specs.Mapped.{grain_of as mapped_grain, mapped};
+ghost use Rattle.dfu_asks.specs.Mapped.{grain_of as mapped_grain, mapped_medium};
 ghost use Rattle.dfu_boot.specs.trial.Marks.{AreTries};
-ghost use Rattle.dfu_boot.specs.trial.Again.{MatchesMedium, AreWhole};
-ghost use Rattle.dfu_boot_c.specs.trial.Tries.{tries_grain, flash_state, IsTriesPart, HasStanding, IsTrialRefused};
+ghost use Rattle.dfu_boot.specs.trial.Again.{MatchesMedium, ImagesAreWhole};
+ghost use Rattle.dfu_boot_c.specs.trial.Tries.{tries_grain, trial_medium_state, HasTriesUnitAndSector, HasStanding, IsTrialRefused};
 ghost use Rattle.dfu_boot_c.specs.trial.Again.{base_told};
-ghost use Rattle.dfu_boot_c.specs.trial.TrialCalls.{RefusesTrial, StartResult};
+ghost use Rattle.dfu_boot_c.specs.trial.TrialCalls.{RefusesTrial, TrialStartResult};
 
 use crate::trial::flash::{DfuTries, Flash, Refusal, looked, prepared};
 use crate::trial::told::{DfuStanding, DfuStarting, starting_told, tell};
@@ -29,11 +29,11 @@ fn looked_again<'f>(
     flash: &'f [u8],
     standing: &DfuStanding,
 ) -> Result<Flash<'f>, Refusal>
-    ensures state { IfOk result (λ l. mapped (mapped_grain l.medium.unit l.medium.sector) l.medium.bytes.now
-        ≡ flash_state tries.now flash.now) }
+    ensures state { IfOk result (λ l. mapped_medium (mapped_grain l.medium.unit l.medium.sector) l.medium.bytes.now
+        ≡ trial_medium_state tries.now flash.now) }
     ensures tries { OnOk result (AreTries (tries_grain tries.now) tries.now.tries) }
-    ensures fits { IfOk result (λ l. MatchesMedium (flash_state tries.now flash.now) tries.now.tries l.standing) }
-    ensures stands { IfOk result (λ l. AreWhole (flash_state tries.now flash.now) standing.now.active.at (base_told standing.now) →
+    ensures fits { IfOk result (λ l. MatchesMedium (trial_medium_state tries.now flash.now) tries.now.tries l.standing) }
+    ensures stands { IfOk result (λ l. ImagesAreWhole (trial_medium_state tries.now flash.now) standing.now.active.at (base_told standing.now) →
         HasStanding tries.now flash.now l.standing) }
     ensures err { IfErr result (λ e. IsTrialRefused e tries.now flash.now) }
 {
@@ -54,8 +54,8 @@ pub(crate) fn start_from(
     ask: &mut DfuAsk,
     told: &mut DfuStarting,
 ) -> i32
-    ensures outcome { AreWhole (flash_state tries.now flash.now) standing.now.active.at (base_told standing.now) →
-        StartResult tries.now flash.now result ask.old ask.new told.new
+    ensures outcome { ImagesAreWhole (trial_medium_state tries.now flash.now) standing.now.active.at (base_told standing.now) →
+        TrialStartResult tries.now flash.now result ask.old ask.new told.new
         ⊎ (RefusesTrial tries.now flash.now result × (ask.new ≡ ask.old) × (told.new ≡ told.old)) }
 {
     match looked_again(tries, flash, standing) {
@@ -81,8 +81,8 @@ pub extern "C" fn dfu_core_trial_start_from(
     ask: &mut DfuAsk,
     told: &mut DfuStarting,
 ) -> i32
-    ensures outcome { AreWhole (flash_state tries.now flash.now) standing.now.active.at (base_told standing.now) →
-        StartResult tries.now flash.now result ask.old ask.new told.new
+    ensures outcome { ImagesAreWhole (trial_medium_state tries.now flash.now) standing.now.active.at (base_told standing.now) →
+        TrialStartResult tries.now flash.now result ask.old ask.new told.new
         ⊎ (RefusesTrial tries.now flash.now result × (ask.new ≡ ask.old) × (told.new ≡ told.old)) }
 {
     start_from(tries, flash, standing, ask, told)

@@ -2,30 +2,31 @@
 ghost use Rattle.std.specs.Prelude.{◌≡◌, ◌⊎◌, pos};
 ghost use Rattle.std.specs.List.{list_all};
 ghost use Rattle.dfu_boot.specs.trial.Marks.{is_erased};
-ghost use Rattle.dfu_boot.specs.trial.Again.{AreWhole};
-ghost use Rattle.dfu_boot_c.specs.trial.Tries.{flash_state};
+ghost use Rattle.dfu_boot.specs.trial.Again.{ImagesAreWhole};
+ghost use Rattle.dfu_boot_c.specs.trial.Tries.{trial_medium_state};
 ghost use Rattle.dfu_boot_c.specs.trial.Again.{base_told};
-ghost use Rattle.dfu_boot_c.specs.trial.TrialRecords.{is_there, run_record};
-ghost use Rattle.dfu_boot_c.specs.trial.TrialCalls.{RefusesTrial, StandingResult, StartResult, ConfirmResult, TrialEndResult, UploadCallResult};
+ghost use Rattle.dfu_boot_c.specs.trial.TrialRecords.{is_there, run_place_of_operation};
+ghost use Rattle.dfu_boot_c.specs.trial.TrialCalls.{RefusesTrial, TrialLookResult, TrialStartResult, TrialConfirmResult, TrialEndResult, TrialUploadResult};
 
 use crate::trial::again::start_from;
 use crate::trial::flash::{DfuTries, looked};
 use crate::trial::told::{DfuStanding, DfuStarting, standing_told, tell};
 use dfu_boot::trial::Confirmation;
 use dfu_core::{DfuAsk, DfuPlace, PROGRAM};
+use dfu_slots::flash_byte_at;
 
 /// DFU_ELSEWHERE.
 const ELSEWHERE: i32 = -19;
 
-/// The standing of the images of the flash: 0, and `told` has it.
+/// Looks for the standing of the images of `flash`. Returns 0, and `told` has the standing.
 ///
 /// Refused, in this order: -2 if no unit has that size or there are no such sectors; -16 without sectors, -17 with fewer than two tries,
-/// -18 if a sector has no room for so many; -3 if the flash has no active image, or 2^32 bytes or more.
+/// -18 if a sector has no room for so many tries; -3 if the flash has no active image, or 2^32 bytes or more.
 #[unsafe(no_mangle)]
 pub extern "C" fn dfu_core_trial_look(tries: &DfuTries, flash: &[u8], told: &mut DfuStanding) -> i32
-    ensures outcome { StandingResult tries.now flash.now result told.new
+    ensures outcome { TrialLookResult tries.now flash.now result told.new
         ⊎ (RefusesTrial tries.now flash.now result × (told.new ≡ told.old)) }
-    ensures whole { result ≡ pos 0 → AreWhole (flash_state tries.now flash.now) told.new.active.at (base_told told.new) }
+    ensures whole { result ≡ pos 0 → ImagesAreWhole (trial_medium_state tries.now flash.now) told.new.active.at (base_told told.new) }
 {
     match looked(tries, flash) {
         Ok(looked) => {
@@ -47,7 +48,7 @@ pub extern "C" fn dfu_core_trial_start(
     ask: &mut DfuAsk,
     told: &mut DfuStarting,
 ) -> i32
-    ensures outcome { StartResult tries.now flash.now result ask.old ask.new told.new
+    ensures outcome { TrialStartResult tries.now flash.now result ask.old ask.new told.new
         ⊎ (RefusesTrial tries.now flash.now result × (ask.new ≡ ask.old) × (told.new ≡ told.old)) }
 {
     // No image begins at 0, so this looks anew.
@@ -62,11 +63,18 @@ pub extern "C" fn dfu_core_trial_start(
     start_from(tries, flash, &none, ask, told)
 }
 
-// Returns whether all bytes are FFh.
-fn is_blank(bytes: &[u8]) -> bool
-    ensures { result ≡ list_all is_erased bytes.now }
+// Returns whether all bytes of flash are FFh.
+fn is_blank(flash: &[u8]) -> bool
+    ensures { result ≡ list_all is_erased flash.now }
 {
-    bytes.iter().all(|byte| *byte == 0xff)
+    let mut rest = flash;
+    while !rest.is_empty() {
+        if flash_byte_at(rest, 0) != 0xff {
+            return false;
+        }
+        rest = &rest[1..];
+    }
+    true
 }
 
 // Returns whether the mark that was asked for reads set.
@@ -88,7 +96,7 @@ pub extern "C" fn dfu_core_trial_runs(
     place: &mut DfuPlace,
 ) -> i32
     ensures result { result ≡ pos 0 }
-    ensures place { place.new ≡ run_record flash.now ask.now starting.now }
+    ensures place { place.new ≡ run_place_of_operation flash.now ask.now starting.now }
 {
     *place = if ask.kind == PROGRAM && !is_there(flash, ask) {
         starting.otherwise
@@ -109,7 +117,7 @@ pub extern "C" fn dfu_core_trial_confirm(
     at: u32,
     ask: &mut DfuAsk,
 ) -> i32
-    ensures outcome { ConfirmResult tries.now flash.now at result ask.old ask.new
+    ensures outcome { TrialConfirmResult tries.now flash.now at result ask.old ask.new
         ⊎ (RefusesTrial tries.now flash.now result × (ask.new ≡ ask.old)) }
 {
     match looked(tries, flash) {
@@ -145,7 +153,7 @@ pub extern "C" fn dfu_core_trial_end(tries: &DfuTries, flash: &[u8], ask: &mut D
 /// Refused as `dfu_core_trial_look`.
 #[unsafe(no_mangle)]
 pub extern "C" fn dfu_core_trial_upload(tries: &DfuTries, flash: &[u8], ask: &mut DfuAsk) -> i32
-    ensures outcome { UploadCallResult tries.now flash.now result ask.old ask.new
+    ensures outcome { TrialUploadResult tries.now flash.now result ask.old ask.new
         ⊎ (RefusesTrial tries.now flash.now result × (ask.new ≡ ask.old)) }
 {
     match looked(tries, flash) {

@@ -1,9 +1,9 @@
 //! A flash is looked at, with the unit, the sector and the number of tries that a program in C hands in; or that is refused.
 ghost use Rattle.std.specs.Prelude.{◌≡◌, ◌≤◌, ◌^◌, ℕ, List, IfSome, IfNone, IfOk, OnOk, IfErr, length};
-ghost use Rattle.dfu_asks.specs.Mapped.{grain_of as mapped_grain, mapped};
+ghost use Rattle.dfu_asks.specs.Mapped.{grain_of as mapped_grain, mapped_medium};
 ghost use Rattle.dfu_boot.specs.trial.Marks.{AreTries};
-ghost use Rattle.dfu_boot_c.specs.trial.Numbers.{trial_number};
-ghost use Rattle.dfu_boot_c.specs.trial.Tries.{unit_sized, tries_grain, flash_state, IsTriesPart, HasStanding, IsTrialRefused};
+ghost use Rattle.dfu_boot_c.specs.trial.Numbers.{trial_refusal_number};
+ghost use Rattle.dfu_boot_c.specs.trial.Tries.{unit_sized, tries_grain, trial_medium_state, HasTriesUnitAndSector, HasStanding, IsTrialRefused};
 
 use dfu_asks::Mapped;
 use dfu_boot::trial::{Standing, TriesFault, check_tries, look};
@@ -16,14 +16,14 @@ use dfu_slots::laws::active_image_is_one;
 pub struct DfuTries {
     /// Bytes that are programmed at a time: 1, 16, 64 or 256.
     pub unit: u32,
-    /// Bytes that are erased at a time: a multiple of 256 up to 131,072, not 0.
+    /// Bytes that are erased at a time: a multiple of 256 up to 262,144, not 0.
     pub sector: u32,
     /// Starts of a new image before the one before it comes back: 2 or more. In a sector (tries + 2) units of at least 16 bytes have room.
     pub tries: u32,
 }
 
-/// The largest unit of at most so many bytes; for 0 the byte. (Comparisons for order: of powers of two by equality LLVM makes a count of
-/// zero bits.)
+/// Returns the largest unit of at most `size` bytes; the byte for 0. (Comparisons for order: of powers of two by equality LLVM makes a
+/// count of zero bits.)
 #[inline(never)]
 #[tactic(auto, unfolding(crate::specs::trial::Tries::unit_sized))]
 pub(crate) fn unit_sized(size: u32) -> Unit
@@ -45,16 +45,16 @@ pub(crate) fn unit_sized(size: u32) -> Unit
 pub enum Refusal {
     /// No unit has that size, or there are no such sectors.
     NoConfig,
-    /// So many tries are refused: there are no sectors, or they are too few or too many.
+    /// The number of tries is refused: there are no sectors, or the tries are too few or too many.
     Tries(TriesFault),
     /// The flash has no active image, or 2^32 bytes or more.
     NoMedium,
 }
 
 impl Refusal {
-    /// The number of the refusal, which is negative.
+    /// Returns the number of the refusal, which is negative.
     pub(crate) fn number(self) -> i32
-        ensures { result ≡ trial_number self }
+        ensures { result ≡ trial_refusal_number self }
     {
         match self {
             Refusal::NoConfig => -2,
@@ -73,11 +73,11 @@ pub(crate) struct Flash<'f> {
     pub(crate) standing: Standing,
 }
 
-/// The flash as a medium; None if no unit has that size, if there are no such sectors, or if it has 2^32 bytes or more.
+/// Returns `flash` as a medium; None if no unit has that size, if there are no such sectors, or if it has 2^32 bytes or more.
 pub(crate) fn medium_of<'f>(tries: &DfuTries, flash: &'f [u8]) -> Option<Mapped<'f>>
-    ensures state { IfSome result (λ m. mapped (mapped_grain m.unit m.sector) m.bytes.now ≡ flash_state tries.now flash.now) }
-    ensures part { IfSome result (λ m. IsTriesPart tries.now) }
-    ensures none { IfNone result (IsTriesPart tries.now → 2 ^ 32 ≤ length flash.now) }
+    ensures state { IfSome result (λ m. mapped_medium (mapped_grain m.unit m.sector) m.bytes.now ≡ trial_medium_state tries.now flash.now) }
+    ensures part { IfSome result (λ m. HasTriesUnitAndSector tries.now) }
+    ensures none { IfNone result (HasTriesUnitAndSector tries.now → 2 ^ 32 ≤ length flash.now) }
 {
     let unit = unit_sized(tries.unit);
     if unit.size() != tries.unit {
@@ -89,7 +89,7 @@ pub(crate) fn medium_of<'f>(tries: &DfuTries, flash: &'f [u8]) -> Option<Mapped<
 // Returns the refusal of so many tries, or None if the flash can have them.
 fn refused(tries: &DfuTries) -> Option<Refusal>
     ensures some { IfSome result (λ e. (flash : List ℕ) → IsTrialRefused e tries.now flash) }
-    ensures none { IfNone result (IsTriesPart tries.now × AreTries (tries_grain tries.now) tries.now.tries) }
+    ensures none { IfNone result (HasTriesUnitAndSector tries.now × AreTries (tries_grain tries.now) tries.now.tries) }
 {
     let Some(sizes) = medium_of(tries, &[]) else {
         return Some(Refusal::NoConfig);
@@ -100,10 +100,14 @@ fn refused(tries: &DfuTries) -> Option<Refusal>
     }
 }
 
-/// The flash as a medium that can have so many tries, or why it is none: the first of the refusals, in their order.
+/// Returns `flash` as a medium that can have the number of tries in `tries`.
+///
+/// # Errors
+///
+/// The first of the refusals, in their order.
 pub(crate) fn prepared<'f>(tries: &DfuTries, flash: &'f [u8]) -> Result<Mapped<'f>, Refusal>
-    ensures state { IfOk result (λ m. mapped (mapped_grain m.unit m.sector) m.bytes.now ≡ flash_state tries.now flash.now) }
-    ensures part { OnOk result (IsTriesPart tries.now) }
+    ensures state { IfOk result (λ m. mapped_medium (mapped_grain m.unit m.sector) m.bytes.now ≡ trial_medium_state tries.now flash.now) }
+    ensures part { OnOk result (HasTriesUnitAndSector tries.now) }
     ensures tries { OnOk result (AreTries (tries_grain tries.now) tries.now.tries) }
     ensures err { IfErr result (λ e. IsTrialRefused e tries.now flash.now) }
 {
@@ -116,10 +120,14 @@ pub(crate) fn prepared<'f>(tries: &DfuTries, flash: &'f [u8]) -> Result<Mapped<'
     }
 }
 
-/// The standing of the images of the flash, or why there is none: the first of the refusals, in their order.
+/// Returns the standing of the images of `flash`.
+///
+/// # Errors
+///
+/// The first of the refusals, in their order.
 pub(crate) fn looked<'f>(tries: &DfuTries, flash: &'f [u8]) -> Result<Flash<'f>, Refusal>
-    ensures state { IfOk result (λ l. mapped (mapped_grain l.medium.unit l.medium.sector) l.medium.bytes.now
-        ≡ flash_state tries.now flash.now) }
+    ensures state { IfOk result (λ l. mapped_medium (mapped_grain l.medium.unit l.medium.sector) l.medium.bytes.now
+        ≡ trial_medium_state tries.now flash.now) }
     ensures ok { IfOk result (λ l. HasStanding tries.now flash.now l.standing) }
     ensures err { IfErr result (λ e. IsTrialRefused e tries.now flash.now) }
 {

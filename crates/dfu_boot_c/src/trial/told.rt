@@ -1,7 +1,7 @@
 //! Facts of a trial that a program in C gets to know: the standing of the images, the one that starts, and the operation that it is to do.
 ghost use Rattle.std.specs.Prelude.{◌≡◌, ◌+◌, ◌≤◌, length};
 ghost use Rattle.dfu_slots.specs.Layout.{slot_size};
-ghost use Rattle.dfu_slots.specs.Image.{IsSized};
+ghost use Rattle.dfu_slots.specs.Image.{IsSizedMedium};
 ghost use Rattle.dfu_boot.specs.trial.Marks.{AreTries};
 ghost use Rattle.dfu_boot.specs.trial.Calls.{IsStanding};
 ghost use Rattle.dfu_boot_c.specs.trial.TrialRecords.{image_in, standing_told, starting_told, TrialOpInAsk};
@@ -26,9 +26,9 @@ pub struct DfuStanding {
     pub is_confirmed: u32,
 }
 
-/// Returns the place of the image of the slot that begins there, and its length by the slot's header.
+/// Returns the place of the image of the slot that begins at `slot`, and its length by the slot's header.
 pub(crate) fn image_in<M: Medium>(medium: &M, slot: u32) -> DfuPlace
-    requires sized { IsSized (M.state medium.now) }
+    requires sized { IsSizedMedium (M.state medium.now) }
     requires within { slot + slot_size (M.state medium.now).bytes ≤ length (M.state medium.now).bytes }
     ensures { result ≡ image_in (M.state medium.now) slot }
 {
@@ -38,7 +38,7 @@ pub(crate) fn image_in<M: Medium>(medium: &M, slot: u32) -> DfuPlace
     }
 }
 
-/// The record of a standing.
+/// Returns the record of `standing`, that of the images of `medium`.
 pub(crate) fn standing_told<M: Medium>(medium: &M, tries: u32, standing: Standing) -> DfuStanding
     requires tries { AreTries (M.state medium.now).grain tries }
     requires stands { IsStanding (M.state medium.now) tries standing }
@@ -69,15 +69,15 @@ pub(crate) fn standing_told<M: Medium>(medium: &M, tries: u32, standing: Standin
 #[repr(C)]
 #[derive(Drop)]
 pub struct DfuStarting {
-    /// What runs.
+    /// Place of the image that runs.
     pub run: DfuPlace,
     /// Image that runs if the operation is a mark, and it does not read set.
     pub otherwise: DfuPlace,
 }
 
-/// The record of what starts.
+/// Returns the record of `starting`, which says what starts.
 pub(crate) fn starting_told<M: Medium>(medium: &M, starting: Starting) -> DfuStarting
-    requires sized { IsSized (M.state medium.now) }
+    requires sized { IsSizedMedium (M.state medium.now) }
     requires run { starting.slot + slot_size (M.state medium.now).bytes ≤ length (M.state medium.now).bytes }
     requires otherwise { starting.otherwise + slot_size (M.state medium.now).bytes ≤ length (M.state medium.now).bytes }
     ensures { result ≡ starting_told (M.state medium.now) starting }
@@ -88,7 +88,7 @@ pub(crate) fn starting_told<M: Medium>(medium: &M, starting: Starting) -> DfuSta
     }
 }
 
-/// Writes an operation, if there is one, into what is asked for.
+/// Writes `operation`, if it is given, into `ask`.
 pub(crate) fn tell(operation: Option<Operation>, sector: u32, ask: &mut DfuAsk) -> i32
     ensures { TrialOpInAsk sector operation result ask.old ask.new }
 {

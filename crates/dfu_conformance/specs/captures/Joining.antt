@@ -2,8 +2,8 @@
 use Rattle.std.specs.Prelude.{◌≡◌}
 use Rattle.dfu_conformance.specs.declared.captures.event.UsbEvent.{UsbEvent}
 
--- Two events have the same id on the same bus. An id is in use once: it is the address of a kernel's object, which the next transfer of any
--- device may have again.
+-- Two events have the same id on the same bus. An id is in use once at a time: as the address of an object of the kernel it may be used
+-- again by the next transfer of any device.
 abbrev pub HasSameId : UsbEvent → UsbEvent → Type 0
 HasSameId one other = (one.id ≡ other.id) × (one.address.bus ≡ other.address.bus)
 

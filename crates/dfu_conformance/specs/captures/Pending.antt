@@ -5,15 +5,15 @@ use Rattle.dfu_conformance.specs.captures.Joining.{HasSameId, IsSameTransfer}
 use Rattle.dfu_conformance.specs.declared.captures.event.UsbEvent.{UsbEvent}
 use Rattle.dfu_conformance.specs.declared.captures.pending.Pending.{Pending}
 
--- No transfer has the id of this event on its bus.
+-- No pending transfer has the id of the event on its bus.
 abbrev pub LacksId : UsbEvent → List Pending → Type 0
 LacksId event all = (i : ℕ) (p : Pending) → slice_get all i ≡ Some p → HasSameId p.submission event → ⊥
 
--- A transfer is taken: it was one of these, the last of which has its place now.
+-- The transfer is taken off the list, and the last one gets its place.
 abbrev pub PendingWithout : Pending → (before after : List Pending) → Type 0
 PendingWithout p before after = (i : ℕ) × (slice_get before i ≡ Some p) × (after ≡ swap_remove before i p)
 
--- No transfer has the id of this event, and nothing is taken; or one that has it is taken, of which the event is none.
-abbrev pub LacksSame : UsbEvent → (before after : List Pending) → Type 0
-LacksSame event before after =
+-- No transfer has the id of the event, and nothing is taken; or a transfer that has it is taken, because the event shows that it is over.
+abbrev pub LacksSameTransfer : UsbEvent → (before after : List Pending) → Type 0
+LacksSameTransfer event before after =
     (LacksId event before × (after ≡ before)) ⊎ ((p : Pending) × PendingWithout p before after × ¬ IsSameTransfer p.submission event)

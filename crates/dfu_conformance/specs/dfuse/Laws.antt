@@ -5,7 +5,7 @@ use Rattle.dfu_conformance.specs.declared.event.LogEvent.{LogEvent}
 use Rattle.dfu_conformance.specs.MayAnswer.{Run as StandardRun}
 use Rattle.dfu_conformance.specs.dfuse.Runs.{dfuse_attributes, dfuse_habits, DfuseRun}
 
--- A run of a device of USB DFU 1.1 that has the bmAttributes and habits of a DfuSe device is one of a DfuSe device.
+-- A run of a device of USB DFU 1.1 that has the bmAttributes and habits of a DfuSe device is a run of a DfuSe device.
 abbrev pub StandardIsIncluded : Type 0
 StandardIsIncluded =
     (events : List LogEvent) (from last : StandardState) → StandardRun dfuse_attributes dfuse_habits from events last

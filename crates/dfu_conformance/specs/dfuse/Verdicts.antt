@@ -6,23 +6,23 @@ use Rattle.dfu_conformance.specs.declared.verdict.Departure.{Departure}
 use Rattle.dfu_conformance.specs.RowMatches.{place_number}
 use Rattle.dfu_conformance.specs.dfuse.Runs.{DfuseCanAnswer, DfuseMayBeAt}
 
--- A device may be at this place.
+-- The list says that a device may be at the place.
 abbrev pub is_candidate : List Bool → StandardState → Bool
 is_candidate at p = slice_index_or at (place_number p) false
 
--- These are exactly the places where a DfuSe device may be after these events.
+-- The list has exactly the places where a DfuSe device may be after the events.
 abbrev pub PlacesExact : List Bool → List LogEvent → Type 0
 PlacesExact at events = (p : StandardState) → (is_candidate at p ≡ true) ↔ DfuseMayBeAt events p
 
--- After these events another one is a departure: a DfuSe device might be at these places, and after it none may be anywhere; from then on
--- it may be anywhere again.
+-- A further event is a departure: a DfuSe device might be at the places of `d` before it, and none may have answered it; from then on a
+-- device may be anywhere again.
 pub record DfuseDeparts (events : List LogEvent) (d : Departure) (since : List Bool) : Type 0 where
   pub before : PlacesExact d.before events
   pub none : DfuseCanAnswer (events ++ d.event ∷ []) → ⊥
   pub anew : PlacesExact since []
 
--- The event at this place of the list is its first departure: a DfuSe device may have answered those before it, and might then be at these
--- places, and none may have answered it too.
+-- The event at `number` is the first departure of the list: a DfuSe device may have answered the events before it, and might then be at the
+-- places of `d`, and none may have answered it too.
 pub record IsFirstDeparture (events : List LogEvent) (number : ℕ) (d : Departure) : Type 0 where
   pub below : number < length events
   pub kept : DfuseCanAnswer (take number events)

@@ -1,10 +1,10 @@
-//! The devices that get requests of DFU.
+//! The devices of a capture that get requests of DFU.
 
 use crate::captures::address::Address;
 use crate::captures::fault::CaptureFault;
 use std::alloc::Global;
 
-/// The most addresses that are kept. A bus has 127.
+/// Largest number of addresses that are kept. A bus has 127.
 const MAX_DEVICES: usize = 4096;
 
 /// The addresses that get requests of DFU in a capture.
@@ -14,14 +14,14 @@ pub struct Devices {
 }
 
 impl Devices {
-    /// None.
+    /// Returns a set with no address.
     pub(crate) fn new(alloc: Global) -> Devices {
         Devices {
             all: Vec::new(alloc),
         }
     }
 
-    /// Whether this address is one of them.
+    /// Returns true if `address` is one of the set.
     pub(crate) fn has(&self, address: Address) -> bool {
         for one in &self.all {
             if *one == address {
@@ -31,7 +31,11 @@ impl Devices {
         false
     }
 
-    /// Adds an address. ManyDevices if there is no room for it.
+    /// Adds `address` to the set.
+    ///
+    /// # Errors
+    ///
+    /// ManyDevices if there is no room for it.
     pub(crate) fn add(&mut self, address: Address) -> Result<(), CaptureFault> {
         if self.has(address) {
             return Ok(());

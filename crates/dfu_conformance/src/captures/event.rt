@@ -2,29 +2,29 @@
 
 use crate::captures::address::Address;
 
-/// Part of a transfer that a packet is.
+/// The part of a transfer that one packet is.
 #[derive(Clone, Copy)]
 pub enum PacketKind {
-    /// It submits the transfer.
+    /// The packet submits the transfer.
     Submits,
-    /// It has the bytes of a transfer that was submitted without them.
+    /// The packet has the bytes of a transfer that was submitted without them.
     Carries,
-    /// It completes the transfer, and has the bytes of the device, if there are any.
+    /// The packet completes the transfer, and has the bytes of the device, if there are any.
     Completes,
-    /// It completes the transfer, unless a packet with bytes of the device did so before: such bytes are not in this one.
+    /// The packet completes the transfer, unless a packet with bytes of the device did so before; it has none itself.
     Ends,
-    /// None of these.
+    /// The packet is no part of a transfer.
     Other,
 }
 
-/// Ending of a transfer.
+/// The way in which a transfer ended.
 #[derive(Clone, Copy)]
 pub enum Ending {
-    /// It was done.
+    /// The transfer was done.
     Done,
-    /// The device stalled it.
+    /// The device stalled the transfer.
     Stalled,
-    /// It failed in another way, or has not ended.
+    /// The transfer failed in another way, or has not ended.
     Failed,
 }
 
@@ -33,13 +33,13 @@ pub enum Ending {
 pub struct UsbEvent<'c> {
     /// Part of the transfer.
     pub kind: PacketKind,
-    /// The id of the transfer: no two that are pending on a bus have the same, and the next transfer of any device may have it again.
+    /// Id of the transfer: no two transfers that are pending on a bus have the same, and the next transfer of any device may have it again.
     pub id: [u8; 8],
     /// Address of the device.
     pub address: Address,
-    /// Tells whether the transfer's data goes to the host, if each of its packets says so.
+    /// True if the transfer's data goes to the host; None if the packets don't say the direction.
     pub is_in: Option<bool>,
-    /// Of a submission: the eight bytes that begin the request.
+    /// The eight bytes that begin the request, of a submission.
     pub setup: Option<[u8; 8]>,
     /// Ending of the transfer, if the packet completes it.
     pub ending: Ending,
@@ -47,12 +47,12 @@ pub struct UsbEvent<'c> {
     pub moved: Option<u32>,
     /// The bytes of the transfer that were captured.
     pub data: &'c [u8],
-    /// Not all of its bytes were captured.
+    /// Not all bytes of the transfer were captured.
     pub is_cut: bool,
 }
 
 impl UsbEvent<'_> {
-    /// The event without its bytes.
+    /// Returns the event without its bytes of `data`.
     pub(crate) fn head(&self) -> UsbEvent<'static> {
         UsbEvent {
             kind: self.kind,

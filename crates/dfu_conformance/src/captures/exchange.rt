@@ -2,7 +2,7 @@
 
 use crate::captures::address::Address;
 
-/// Answer that was seen.
+/// The answer that was seen.
 #[derive(Clone, Copy)]
 pub(crate) enum Seen<'c> {
     Stall,
@@ -13,35 +13,35 @@ pub(crate) enum Seen<'c> {
 /// The bytes that the host sends with a request.
 #[derive(Clone, Copy)]
 pub(crate) enum Body<'c> {
-    /// These.
+    /// The bytes themselves.
     Bytes(&'c [u8]),
-    /// So many, which were not kept. A judge asks no more.
+    /// The number of bytes, which were not kept because a judge asks for no more.
     Count(usize),
 }
 
 /// A request and its answer.
 #[derive(Clone, Copy)]
 pub(crate) struct Exchange<'c> {
-    /// The number of the packet that completed it, from 1 on.
+    /// The number of the packet that completed the request, from 1 on.
     pub packet: usize,
     pub address: Address,
     pub setup: [u8; 8],
     pub body: Body<'c>,
     pub seen: Seen<'c>,
-    /// The address that the device gets by it, if it shows that the bus was reset.
+    /// The address that the device gets by the request, if the request shows that the bus was reset.
     pub given: Option<Address>,
-    /// Not all of its bytes were captured.
+    /// Not all bytes of the request and its answer were captured.
     pub is_cut: bool,
 }
 
 impl Exchange<'_> {
-    /// Returns whether it is a request of the class to an interface.
+    /// Returns whether the request is one of the class to an interface.
     pub(crate) fn is_class(&self) -> bool {
         let [kind, ..] = self.setup;
         kind == 0x21 || kind == 0xa1
     }
 
-    /// Returns whether only a device of DFU gets it, at this interface: DETACH, GETSTATUS of 6 bytes, or GETSTATE of 1.
+    /// Returns true if only a device of DFU gets the request, at `interface`: DETACH, GETSTATUS of 6 bytes, or GETSTATE of 1.
     pub(crate) fn tells_dfu(&self, interface: u8) -> bool {
         let [kind, request, _, _, low, high, length, length_high] = self.setup;
         low == interface

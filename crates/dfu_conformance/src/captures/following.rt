@@ -4,7 +4,7 @@ use crate::captures::address::Address;
 use crate::captures::exchange::Exchange;
 use crate::captures::fault::CaptureFault;
 
-/// Whose requests are logged: those of one address, or of the only device that speaks DFU, whose address changes at a reset.
+/// Device whose requests are logged: that of one address, or the only device that speaks DFU, whose address changes at a reset.
 #[derive(Drop)]
 pub(crate) struct Followed {
     only: Option<Address>,
@@ -14,7 +14,7 @@ pub(crate) struct Followed {
 }
 
 impl Followed {
-    /// That of this address, or the only one, of which nothing came yet.
+    /// Returns the device before the first exchange: the one at `only`, or if `only` is None the only one.
     pub(crate) fn new(only: Option<Address>) -> Followed {
         Followed {
             only,
@@ -23,7 +23,7 @@ impl Followed {
         }
     }
 
-    /// Whether an address that a device gets is one of the device.
+    /// Returns true if `address`, which a device gets, is one of the device.
     fn gets(&mut self, address: Address) -> bool {
         let is_it = match self.only {
             Some(only) => only == address,
@@ -35,7 +35,11 @@ impl Followed {
         is_it
     }
 
-    /// Whether a request to this address is one to the device. ManyDevices if it is to another one.
+    /// Returns true if a request to `address` is one to the device.
+    ///
+    /// # Errors
+    ///
+    /// ManyDevices if no device was asked for, and the request goes to another device.
     fn takes(&mut self, address: Address) -> Result<bool, CaptureFault> {
         if let Some(only) = self.only {
             return Ok(only == address);
@@ -51,7 +55,11 @@ impl Followed {
         Ok(true)
     }
 
-    /// Whether an exchange has a line. ManyDevices if it is one of another device, CutPacket if not all of it was captured.
+    /// Returns true if `exchange` has a line.
+    ///
+    /// # Errors
+    ///
+    /// ManyDevices if the exchange is one of another device, CutPacket if not all of it was captured.
     pub(crate) fn shows(&mut self, exchange: &Exchange<'_>) -> Result<bool, CaptureFault> {
         if let Some(address) = exchange.given {
             return Ok(self.gets(address));

@@ -1,4 +1,4 @@
-//! Submissions and completions are joined.
+//! Joining of submissions and their completions.
 
 ghost use Rattle.std.specs.Prelude.{◌≡◌, ◌≤◌, length, false, true, Err, OnOk};
 ghost use Rattle.dfu_conformance.specs.captures.Packets.{is_capture_front};
@@ -18,7 +18,11 @@ use std::alloc::Global;
 /// The link type of USBPcap.
 const USBPCAP: u16 = 249;
 
-/// Returns the content of a packet, by its link type. NotUsbmon if that is another one.
+/// Returns the event that `packet` shows, by its link type; None if it shows none.
+///
+/// # Errors
+///
+/// NotUsbmon if the link type is none of usbmon or USBPcap.
 pub(crate) fn event_of<'c>(packet: &Packet<'c>) -> Result<Option<UsbEvent<'c>>, CaptureFault> {
     if packet.link == USBPCAP {
         return Ok(recorded_event(packet.bytes));
@@ -29,8 +33,9 @@ pub(crate) fn event_of<'c>(packet: &Packet<'c>) -> Result<Option<UsbEvent<'c>>, 
     }
 }
 
-/// The address that a device gets by a request: that of SET_ADDRESS. USBPcap shows none, so SET_CONFIGURATION is taken for it, which
-/// Windows sends once after each reset.
+/// Returns the address that a device gets by a request with `setup`: that of SET_ADDRESS, on the bus of `address`. USBPcap (`link`) shows
+/// no SET_ADDRESS. There SET_CONFIGURATION is taken for it, with `address`, because Windows sends one after each reset. None for every
+/// other request.
 fn given_by(setup: &[u8; 8], address: Address, link: u16) -> Option<Address> {
     match *setup {
         [0, 5, device, ..] => Some(Address {
@@ -42,7 +47,7 @@ fn given_by(setup: &[u8; 8], address: Address, link: u16) -> Option<Address> {
     }
 }
 
-/// Returns the answer that was seen to a transfer, by its completion.
+/// Returns the answer that was seen to a transfer with `setup`, by `event`, its completion.
 fn seen_of<'c>(setup: &[u8; 8], event: &UsbEvent<'c>) -> Seen<'c> {
     let [kind, _, _, _, _, _, low, high] = *setup;
     let wanted = u16::from_le_bytes([low, high]) as u32;
@@ -57,8 +62,9 @@ fn seen_of<'c>(setup: &[u8; 8], event: &UsbEvent<'c>) -> Seen<'c> {
 /// The request of the class that reads the image (DFU 1.1, 6.2). Its answer may have no bytes.
 const UPLOAD: u8 = 2;
 
-/// Returns whether a completion may be that of this request, as far as its bytes go. One that moved more than the setup asks for completes
-/// another request, whose submission is missing. If the status alone tells of a read that must have bytes, their packet is missing.
+/// Returns true if completion `event` may be that of the request with `setup`, as far as its bytes go. A completion that moved more than
+/// the setup asks for completes another request, whose submission is missing. If the status alone tells of a read that must have bytes,
+/// their packet is missing.
 fn fits(setup: &[u8; 8], event: &UsbEvent<'_>) -> bool {
     let [kind, request, _, _, _, _, low, high] = *setup;
     let wanted = u16::from_le_bytes([low, high]);
@@ -71,7 +77,8 @@ fn fits(setup: &[u8; 8], event: &UsbEvent<'_>) -> bool {
     }
 }
 
-/// What a completion says of the transfer that it completes, in packet N; nothing if it completes another one, or that is of no use here.
+/// Returns the exchange that completion `event` in packet number `packet` makes of transfer `began`. None if the event completes another
+/// transfer, or if the transfer is of no use for a log.
 pub(crate) fn exchange_of<'c>(
     packet: usize,
     began: &Pending<'c>,
@@ -95,7 +102,7 @@ pub(crate) fn exchange_of<'c>(
     Some(exchange)
 }
 
-/// The transfer that an event submits, with the bytes that go with it if they are for the device.
+/// Returns the transfer that `event` submits with `setup`: with `body` if it goes to the device, and else with no bytes.
 pub(crate) fn submitted<'c>(event: &UsbEvent<'c>, setup: [u8; 8], body: Body<'c>) -> Pending<'c> {
     let [kind, ..] = setup;
     Pending {
@@ -106,7 +113,7 @@ pub(crate) fn submitted<'c>(event: &UsbEvent<'c>, setup: [u8; 8], body: Body<'c>
     }
 }
 
-/// Transfers, as they come.
+/// Transfers that are joined as their events come.
 #[derive(Drop)]
 struct Joining<'c> {
     // Number of packets that came.
@@ -116,14 +123,15 @@ struct Joining<'c> {
 }
 
 impl<'c> Joining<'c> {
-    /// A transfer is submitted. One that had its id before is over, though its completion is missing.
+    /// Takes submission `event` with `setup`. A transfer that had the same id before is over, though its completion is missing.
     fn submit(&mut self, event: &UsbEvent<'c>, setup: [u8; 8]) -> Result<(), CaptureFault> {
         let _over = self.pending.take(event);
         self.pending
             .put(submitted(event, setup, Body::Bytes(event.data)))
     }
 
-    /// The bytes of a transfer that was submitted without them come. One whose bytes come from the device has none, so it is over.
+    /// Takes the bytes of a transfer that was submitted without them. A transfer whose bytes come from the device has none, so that it is
+    /// over.
     fn carry(&mut self, event: &UsbEvent<'c>) -> Result<(), CaptureFault> {
         let Some(mut began) = self.pending.take_same(event) else {
             return Ok(());
@@ -137,7 +145,7 @@ impl<'c> Joining<'c> {
         self.pending.put(began)
     }
 
-    /// A transfer is completed, by a packet of this link type.
+    /// Takes completion `event`, in a packet of link type `link`.
     fn complete(&mut self, event: &UsbEvent<'c>, link: u16) -> Result<(), CaptureFault> {
         let Some(began) = self.pending.take_same(event) else {
             return Ok(());
@@ -151,7 +159,7 @@ impl<'c> Joining<'c> {
         }
     }
 
-    /// An event comes, in a packet of this link type.
+    /// Takes `event`, in a packet of link type `link`.
     fn come(&mut self, event: &UsbEvent<'c>, link: u16) -> Result<(), CaptureFault> {
         match (event.kind, event.setup) {
             (PacketKind::Submits, Some(setup)) => self.submit(event, setup),
@@ -162,11 +170,13 @@ impl<'c> Joining<'c> {
     }
 }
 
-/// The requests of the class and those that show a reset, with their answers, in the order of the completions. A completion without a
-/// submission of the same transfer is passed over, as at the begin of a capture or after packets that are missing, and so is a submission
-/// without a completion.
+/// Returns the requests of the class and the requests that show a reset, with their answers, in the order of the completions in `capture`.
+/// A completion without a submission of the same transfer is passed over, as at the start of a capture or after packets that are missing,
+/// and so is a submission without a completion.
 ///
-/// NotUsbmon if it is no capture, or a packet has another link type; NoMemory if an allocation was refused.
+/// # Errors
+///
+/// NotUsbmon if the bytes are no capture, or a packet has another link type; NoMemory if an allocation was refused.
 pub(crate) fn exchanges_of(alloc: Global, capture: &[u8]) -> Result<Vec<Exchange<'_>>, CaptureFault>
     ensures none { is_capture_front capture.now ≡ false → result ≡ Err CaptureFault.NotUsbmon }
     ensures some { OnOk result (is_capture_front capture.now ≡ true) }

@@ -1,4 +1,4 @@
-//! The log of a device.
+//! The log of a device, from a whole capture.
 
 ghost use Rattle.std.specs.Prelude.{◌≡◌, false, true, Err, OnOk};
 ghost use Rattle.dfu_conformance.specs.captures.Packets.{is_capture_front};
@@ -13,14 +13,14 @@ use crate::captures::records::form_of;
 use crate::captures::text::Log;
 use std::alloc::Global;
 
-/// Returns whether bytes begin as a capture does: pcap of either order, or pcapng. Four bytes are enough.
+/// Returns true if `bytes` begin as a capture does: pcap of either order, or pcapng. Four bytes are enough.
 pub fn is_capture(bytes: &[u8]) -> bool
     ensures { result ≡ is_capture_front bytes.now }
 {
     form_of(bytes).is_some()
 }
 
-/// Returns whether this address gets a request of DFU.
+/// Returns true if `address` gets a request of DFU at `interface`, by `exchanges`.
 fn is_dfu(exchanges: &[Exchange<'_>], interface: u8, address: Address) -> bool {
     for exchange in exchanges {
         if exchange.address == address && exchange.tells_dfu(interface) {
@@ -30,7 +30,7 @@ fn is_dfu(exchanges: &[Exchange<'_>], interface: u8, address: Address) -> bool {
     false
 }
 
-/// Adds what an exchange says of the device.
+/// Adds the address of the device of an exchange, if it gets requests of DFU.
 fn log_one(
     log: &mut Log,
     exchange: &Exchange<'_>,
@@ -42,7 +42,7 @@ fn log_one(
     log.is_whole()
 }
 
-/// Adds what exchanges say of the device that speaks DFU at this interface.
+/// Adds to `log` the lines of those of `exchanges` whose device speaks DFU at `interface`.
 fn log_all(
     log: &mut Log,
     exchanges: &[Exchange<'_>],
@@ -58,7 +58,11 @@ fn log_all(
     Ok(())
 }
 
-/// The log of exchanges.
+/// Returns the log of `exchanges`, at `interface`, of the device at `only` if it is given.
+///
+/// # Errors
+///
+/// As `log_of`, but for NotUsbmon.
 fn text_of(
     alloc: Global,
     exchanges: &[Exchange<'_>],
@@ -73,14 +77,14 @@ fn text_of(
     }
 }
 
-/// The log of a capture. Line N is what packet N says, counted from 1 as other programs do: a request of the class to the device, if the
-/// packet completes it; `reset`, if the packet shows that the bus was reset; and else it is empty. The device is the one at `only`, or
-/// the one that gets requests of DFU at this interface.
+/// Returns the log of `capture`. Line N is that of packet N, counted from 1 as other programs do: a request of the class to the device, if
+/// the packet completes it; `reset`, if the packet shows that the bus was reset; and else it is empty. The device is the one at `only`, or
+/// if `only` is None the one that gets requests of DFU at `interface`.
 ///
 /// # Errors
 ///
-/// NotUsbmon if it is no capture of usbmon or USBPcap; ManyDevices and CutPacket at the first request for which they are true; NoDevice if
-/// there is none; NoMemory if an allocation was refused.
+/// NotUsbmon if the bytes are no capture of usbmon or USBPcap; ManyDevices and CutPacket at the first request for which they are true;
+/// NoDevice if no device is found; NoMemory if an allocation was refused.
 pub fn log_of(
     alloc: Global,
     capture: &[u8],

@@ -1,9 +1,9 @@
 //! Numbers of a capture, in the order of bytes of the computer that made it.
 
 ghost use Rattle.std.specs.Prelude.{◌≡◌, drop, take, slice_index_or};
-ghost use Rattle.dfu_conformance.specs.captures.Packets.{two_in, four_in, eight_in};
+ghost use Rattle.dfu_conformance.specs.captures.Packets.{number_of_two, number_of_four, first_eight_bytes};
 
-/// The byte at a place, or 0 after the end.
+/// Returns the byte of `bytes` at index `at`, or 0 after the end.
 pub(crate) fn byte_at(bytes: &[u8], at: usize) -> u8
     ensures { result ≡ slice_index_or bytes.now at 0 }
 {
@@ -13,7 +13,7 @@ pub(crate) fn byte_at(bytes: &[u8], at: usize) -> u8
     }
 }
 
-/// The bytes from a place on; none if the place is after the end.
+/// Returns the bytes of `bytes` from index `at` on; none if `at` is after the end.
 pub(crate) fn from(bytes: &[u8], at: usize) -> &[u8]
     ensures { result.now ≡ drop at bytes.now }
 {
@@ -23,9 +23,9 @@ pub(crate) fn from(bytes: &[u8], at: usize) -> &[u8]
     }
 }
 
-/// The number of two bytes at the beginning.
+/// Returns the number in the first two bytes, the high byte first if `is_big`. A byte after the end counts as 0.
 pub(crate) fn two(bytes: &[u8], is_big: bool) -> u16
-    ensures { result ≡ two_in is_big bytes.now }
+    ensures { result ≡ number_of_two is_big bytes.now }
 {
     let first = byte_at(bytes, 0) as u16;
     let second = byte_at(bytes, 1) as u16;
@@ -36,9 +36,9 @@ pub(crate) fn two(bytes: &[u8], is_big: bool) -> u16
     }
 }
 
-/// The number of four bytes at the beginning.
+/// Returns the number in the first four bytes, the high byte first if `is_big`. A byte after the end counts as 0.
 pub(crate) fn four(bytes: &[u8], is_big: bool) -> u32
-    ensures { result ≡ four_in is_big bytes.now }
+    ensures { result ≡ number_of_four is_big bytes.now }
 {
     let first = byte_at(bytes, 0) as u32;
     let second = byte_at(bytes, 1) as u32;
@@ -51,9 +51,9 @@ pub(crate) fn four(bytes: &[u8], is_big: bool) -> u32
     }
 }
 
-/// Eight bytes from a place on.
+/// Returns the eight bytes of `bytes` from index `at` on, with 0 for each byte after the end.
 pub(crate) fn eight(bytes: &[u8], at: usize) -> [u8; 8]
-    ensures { result ≡ eight_in (drop at bytes.now) }
+    ensures { result ≡ first_eight_bytes (drop at bytes.now) }
 {
     let rest = from(bytes, at);
     [
@@ -68,7 +68,7 @@ pub(crate) fn eight(bytes: &[u8], at: usize) -> [u8; 8]
     ]
 }
 
-/// This many bytes from the start; all if there are fewer.
+/// Returns the first `count` bytes of `bytes`; all bytes if there are fewer.
 pub(crate) fn front(bytes: &[u8], count: usize) -> &[u8]
     ensures { result.now ≡ take count bytes.now }
 {

@@ -1,8 +1,8 @@
-//! Transfers that were submitted and aren't completed, by their ids.
+//! Transfers that were submitted and aren't completed, each with its id.
 
 ghost use Rattle.std.specs.Prelude.{◌≡◌, ◌↔◌, ◌++◌, [], ◌∷◌, IsTrue, IfNone, IfOk, IfSome};
 ghost use Rattle.dfu_conformance.specs.captures.Joining.{IsSameTransfer, HasSameId};
-ghost use Rattle.dfu_conformance.specs.captures.Pending.{LacksId, LacksSame, PendingWithout};
+ghost use Rattle.dfu_conformance.specs.captures.Pending.{LacksId, LacksSameTransfer, PendingWithout};
 
 use crate::captures::event::UsbEvent;
 use crate::captures::exchange::Body;
@@ -12,24 +12,25 @@ use std::alloc::Global;
 /// A transfer that was submitted and isn't completed.
 #[derive(Clone, Copy)]
 pub(crate) struct Pending<'c> {
-    /// The event that submitted it.
+    /// The event that submitted the transfer.
     pub submission: UsbEvent<'c>,
     /// The eight bytes that begin the request.
     pub setup: [u8; 8],
-    /// The bytes that the host sends with it.
+    /// The bytes that the host sends with the request.
     pub body: Body<'c>,
-    /// Not all of these were captured.
+    /// Not all bytes that the host sends were captured.
     pub is_cut: bool,
 }
 
-/// Returns whether two events are of transfers with the same id on the same bus.
+/// Returns true if `one` and `other` are events of transfers with the same id on the same bus.
 fn has_same_id(one: &UsbEvent<'_>, other: &UsbEvent<'_>) -> bool
     ensures { IsTrue result ↔ HasSameId one.now other.now }
 {
     one.id == other.id && one.address.bus == other.address.bus
 }
 
-/// Returns whether two events may be of one transfer: they have the same id, bus, device and direction. Their endpoint is always 0.
+/// Returns true if `one` and `other` may be events of one transfer: they have the same id, bus, device and direction. Their endpoint is
+/// always 0.
 fn is_same_transfer(one: &UsbEvent<'_>, other: &UsbEvent<'_>) -> bool
     ensures { IsTrue result ↔ IsSameTransfer one.now other.now }
 {
@@ -43,7 +44,7 @@ pub(crate) struct PendingTransfers<'c> {
 }
 
 impl<'c> PendingTransfers<'c> {
-    /// None.
+    /// Returns a list of no transfers.
     pub(crate) fn new(alloc: Global) -> PendingTransfers<'c>
         ensures { result.all.items ≡ [] }
     {
@@ -52,19 +53,19 @@ impl<'c> PendingTransfers<'c> {
         }
     }
 
-    /// How many they are.
+    /// Returns the number of transfers.
     pub(crate) fn count(&self) -> usize {
         self.all.len()
     }
 
-    /// Forgets the one in the first place, if there is one.
+    /// Removes the transfer in the first place, if there is one.
     pub(crate) fn forget_first(&mut self) {
         if !self.all.is_empty() {
             let _first = self.all.swap_remove(0);
         }
     }
 
-    /// Adds a transfer, after the one with its id was taken.
+    /// Adds the transfer `new`, once the transfer with its id was taken.
     pub(crate) fn put(&mut self, new: Pending<'c>) -> Result<(), CaptureFault>
         ensures { IfOk result (λ done. self.new.all.items ≡ self.old.all.items ++ (new.entry ∷ [])) }
     {
@@ -74,8 +75,8 @@ impl<'c> PendingTransfers<'c> {
         }
     }
 
-    /// The transfer that has the id of this event on its bus, whatever its device, which is taken: an id is in use once, so an event of
-    /// another transfer shows that it is over.
+    /// Takes the transfer that has the id of `event` on its bus, whatever its device, because an id is in use once at a time: an event of
+    /// another transfer shows that the transfer is over. None if there is no such transfer.
     pub(crate) fn take(&mut self, event: &UsbEvent<'c>) -> Option<Pending<'c>>
         ensures some { IfSome result (λ p. HasSameId p.submission event.now × PendingWithout p self.old.all.items self.new.all.items) }
         ensures none { IfNone result (LacksId event.now self.old.all.items × (self.new.all.items ≡ self.old.all.items)) }
@@ -90,11 +91,11 @@ impl<'c> PendingTransfers<'c> {
         None
     }
 
-    /// The transfer that this event carries on or completes, which is taken; `None` if that was submitted before the capture, or its
+    /// Takes the transfer that the event carries on or completes; `None` if the transfer was submitted before the capture, or its
     /// submission is missing.
     pub(crate) fn take_same(&mut self, event: &UsbEvent<'c>) -> Option<Pending<'c>>
         ensures some { IfSome result (λ p. IsSameTransfer p.submission event.now × PendingWithout p self.old.all.items self.new.all.items) }
-        ensures none { IfNone result (LacksSame event.now self.old.all.items self.new.all.items) }
+        ensures none { IfNone result (LacksSameTransfer event.now self.old.all.items self.new.all.items) }
     {
         let old = self.take(event)?;
         if is_same_transfer(&old.submission, event) {

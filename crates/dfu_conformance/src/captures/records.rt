@@ -1,11 +1,11 @@
 //! The records of a capture: pcap, and pcapng as Wireshark writes it.
 
 ghost use Rattle.std.specs.Prelude.{◌≡◌, ◌<◌, ◌≤◌, ◌+◌, drop, take, is_some, true, IfSome, IsNone, length};
-ghost use Rattle.dfu_conformance.specs.captures.Packets.{is_capture_front, captured_in};
+ghost use Rattle.dfu_conformance.specs.captures.Packets.{is_capture_front, captured_byte_count};
 
 use crate::captures::numbers::{byte_at, four, from, two};
 
-/// Number of interfaces of a capture that are known.
+/// Largest number of interfaces of a capture that are known.
 const LINKS: usize = 16;
 
 /// Form of a capture: pcap or pcapng, the order of its bytes, and the link type of each interface.
@@ -17,7 +17,7 @@ pub(crate) struct Form {
     count: usize,
 }
 
-/// A packet: its link type, and its bytes; `is_big` says in which order its numbers are.
+/// A packet: its link type, and its bytes; `is_big` gives the order of the bytes of its numbers.
 #[derive(Clone, Copy)]
 pub(crate) struct Packet<'c> {
     pub link: u16,
@@ -25,7 +25,8 @@ pub(crate) struct Packet<'c> {
     pub bytes: &'c [u8],
 }
 
-/// A record: the packet that it has, if any, whether it counts as one, as each does that other programs show, and how many bytes it takes.
+/// A record: its packet, if any, whether it counts as a packet, as those do that other programs show, and the number of bytes that it
+/// takes.
 #[derive(Clone, Copy)]
 pub(crate) struct Record<'c> {
     pub is_counted: bool,
@@ -33,7 +34,7 @@ pub(crate) struct Record<'c> {
     pub size: usize,
 }
 
-/// The form of a capture, by its first bytes; `None` if it is not a capture.
+/// Returns the form of a capture that begins with `bytes`; None if they are not the front of a capture.
 pub(crate) fn form_of(bytes: &[u8]) -> Option<Form>
     ensures { is_some result ≡ is_capture_front bytes.now }
 {
@@ -56,12 +57,12 @@ pub(crate) fn form_of(bytes: &[u8]) -> Option<Form>
     Some(form)
 }
 
-/// Returns the number of bytes that precede the first record.
+/// Returns the number of bytes that precede the first record of a capture of `form`.
 pub(crate) fn head_of(form: &Form) -> usize {
     if form.is_ng { 0 } else { 24 }
 }
 
-/// This many bytes from a place on; `None` if there are fewer.
+/// Returns the `count` bytes of `bytes` from index `at` on; None if there are fewer.
 fn part(bytes: &[u8], at: usize, count: usize) -> Option<&[u8]>
     ensures some { IfSome result (λ p. (p.now ≡ take count (drop at bytes.now)) × (at + count ≤ length bytes.now)) }
     ensures none { IsNone result → length bytes.now < at + count }
@@ -71,7 +72,7 @@ fn part(bytes: &[u8], at: usize, count: usize) -> Option<&[u8]>
 }
 
 impl Form {
-    /// The link type of an interface; 0 if it isn't known.
+    /// Returns the link type of interface number `interface`; 0 if the interface isn't known.
     fn link(&self, interface: u32) -> u16 {
         match self.links.get(interface as usize) {
             Some(link) => *link,
@@ -79,13 +80,13 @@ impl Form {
         }
     }
 
-    /// The record of pcap that begins the bytes; `None` if it isn't whole.
+    /// Returns the record of pcap at the front of `bytes`; None if the record isn't whole.
     fn plain_record<'c>(&self, bytes: &'c [u8]) -> Option<Record<'c>>
-        ensures size { IfSome result (λ r. (r.size ≡ 16 + captured_in self.now.is_big bytes.now) × (r.size ≤ length bytes.now)) }
+        ensures size { IfSome result (λ r. (r.size ≡ 16 + captured_byte_count self.now.is_big bytes.now) × (r.size ≤ length bytes.now)) }
         ensures packet { IfSome result (λ r. IfSome r.packet (λ p. (p.is_big ≡ self.now.is_big)
-            × (p.bytes.now ≡ take (captured_in self.now.is_big bytes.now) (drop 16 bytes.now)))) }
+            × (p.bytes.now ≡ take (captured_byte_count self.now.is_big bytes.now) (drop 16 bytes.now)))) }
         ensures counted { IfSome result (λ r. (r.is_counted ≡ true) × (is_some r.packet ≡ true)) }
-        ensures none { IsNone result → length bytes.now < 16 + captured_in self.now.is_big bytes.now }
+        ensures none { IsNone result → length bytes.now < 16 + captured_byte_count self.now.is_big bytes.now }
     {
         let count = four(from(bytes, 8), self.is_big) as usize;
         let packet = Packet {
@@ -100,7 +101,7 @@ impl Form {
         })
     }
 
-    /// The packet of an enhanced packet block.
+    /// Returns the packet of the enhanced packet block `block`; None if the block ends before the packet does.
     fn block_packet<'c>(&self, block: &'c [u8]) -> Option<Packet<'c>> {
         let count = four(from(block, 20), self.is_big) as usize;
         Some(Packet {
@@ -110,7 +111,7 @@ impl Form {
         })
     }
 
-    /// An interface is described.
+    /// Adds `link`, the link type of an interface that a block describes.
     fn add_link(&mut self, link: u16) {
         if let Some(slot) = self.links.get_mut(self.count) {
             *slot = link;
@@ -118,8 +119,8 @@ impl Form {
         }
     }
 
-    /// The block of pcapng that begins the bytes; `None` if it isn't whole. A section's head says the order of bytes and forgets the
-    /// interfaces.
+    /// Reads the block of pcapng at the front of `bytes`; None if the block isn't whole. The head of a section gives the order of bytes,
+    /// and the interfaces before it are forgotten.
     fn block<'c>(&mut self, bytes: &'c [u8]) -> Option<Record<'c>>
         ensures { IfSome result (λ r. 0 < r.size) }
     {
@@ -149,7 +150,7 @@ impl Form {
         })
     }
 
-    /// The record that begins the bytes; `None` at the end of the capture, and if it ends in the middle.
+    /// Reads the record at the front of `bytes`; None at the end of the capture, and if the capture ends in the middle of the record.
     pub(crate) fn record<'c>(&mut self, bytes: &'c [u8]) -> Option<Record<'c>>
         ensures { IfSome result (λ r. 0 < r.size) }
     {

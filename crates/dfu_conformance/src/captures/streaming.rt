@@ -1,5 +1,5 @@
-//! A capture that comes in pieces. It is read three times: for the devices in it, for a fault, and for the log. No more is kept than a
-//! record, a line, which transfers are pending, and the addresses of the devices.
+//! A capture that comes in pieces. The capture is read three times: for the devices in it, for a fault, and for the log. No more is kept
+//! than a record, a line, the transfers that are pending, and the addresses of the devices.
 
 use crate::captures::address::Address;
 use crate::captures::devices::Devices;
@@ -13,16 +13,16 @@ use crate::captures::window::Window;
 use std::alloc::Global;
 use std::io::{self, ErrorKind, Read};
 
-/// How many bytes say what a capture is.
+/// Number of bytes that show the form of a capture.
 const HEAD: usize = 24;
 
-/// The most bytes of a record.
+/// Largest number of bytes of a record.
 const MAX_RECORD: usize = 1_048_576;
 
-/// The most records of a capture.
+/// Largest number of records of a capture.
 const MAX_RECORDS: u64 = 1_099_511_627_776;
 
-/// A capture that comes in pieces. As a reader it gives the log of a device.
+/// A capture that comes in pieces. As a reader, the stream gives the log of a device.
 #[derive(Drop)]
 pub struct CaptureStream<R> {
     window: Window<R>,
@@ -30,12 +30,12 @@ pub struct CaptureStream<R> {
     packets: usize,
     transfers: Transfers,
     telling: Telling,
-    // How many bytes of the text were given.
+    // Number of bytes of the text that were given.
     given: usize,
 }
 
 impl<R> CaptureStream<R> {
-    /// A capture of which nothing was read.
+    /// Returns the stream of a capture before the first byte is read from `reader`.
     fn new(alloc: Global, reader: R, telling: Telling) -> CaptureStream<R> {
         CaptureStream {
             window: Window::new(alloc, reader),
@@ -47,7 +47,7 @@ impl<R> CaptureStream<R> {
         }
     }
 
-    /// A record comes, which the window begins with.
+    /// Takes the record at the front of the window.
     fn come(&mut self) -> Result<(), CaptureFault> {
         let Some(form) = &mut self.form else {
             return Err(CaptureFault::NotUsbmon);
@@ -92,7 +92,7 @@ impl<R: Read> CaptureStream<R> {
         }
     }
 
-    /// Reads on until the window begins with a whole record, and returns its size; 0 at the end. NoMemory if it has too many bytes.
+    /// Reads on until the window begins with a whole record, and returns its size; 0 at the end. NoMemory if the record has too many bytes.
     fn size(&mut self) -> io::Result<Result<usize, CaptureFault>> {
         for _piece in 0..MAX_RECORD {
             let Some(mut form) = self.form else {
@@ -111,7 +111,11 @@ impl<R: Read> CaptureStream<R> {
         Ok(Ok(0))
     }
 
-    /// Goes on by a record, and returns whether there was one.
+    /// Takes the next record of the capture, in place of the text of before. Returns false if there was none left.
+    ///
+    /// # Errors
+    ///
+    /// The error of the reader; or, inside Ok, the fault of the capture.
     fn go_on(&mut self) -> io::Result<Result<bool, CaptureFault>> {
         self.telling.forget_text();
         self.given = 0;
@@ -135,7 +139,11 @@ impl<R: Read> CaptureStream<R> {
         Ok(Ok(true))
     }
 
-    /// Goes on until there is text to give, and returns whether there is.
+    /// Takes records until there is text to give. Returns false if the capture ends before.
+    ///
+    /// # Errors
+    ///
+    /// The error of the reader, and InvalidData for a fault of the capture.
     fn reach_text(&mut self) -> io::Result<bool> {
         for _record in 0..MAX_RECORDS {
             if !from(self.telling.text(), self.given).is_empty() {
@@ -150,7 +158,11 @@ impl<R: Read> CaptureStream<R> {
         Ok(false)
     }
 
-    /// Goes on to the end.
+    /// Takes all records up to the end of the capture.
+    ///
+    /// # Errors
+    ///
+    /// The error of the reader; or, inside Ok, the fault of the capture.
     fn finish(&mut self) -> io::Result<Result<(), CaptureFault>> {
         for _record in 0..MAX_RECORDS {
             match self.go_on()? {
@@ -164,7 +176,8 @@ impl<R: Read> CaptureStream<R> {
 }
 
 impl<R: Read + Drop> CaptureStream<R> {
-    /// The log of one of these devices, of the one at `only` if there is one, in a capture of which nothing was read.
+    /// Returns the stream of the log of a capture, before the first byte is read from `reader`: of one of `devices`, of the one at `only`
+    /// if `only` is given.
     pub fn of_log(
         alloc: Global,
         reader: R,
@@ -176,7 +189,7 @@ impl<R: Read + Drop> CaptureStream<R> {
 }
 
 impl<R: Read> Read for CaptureStream<R> {
-    /// Gives the log. At a fault of the capture it fails, which it does only if another reader of the same bytes finds one.
+    /// Gives the log. At a fault of the capture the stream fails, which happens only if another reader of the same bytes finds one.
     fn read(&mut self, buf: &mut [u8]) -> io::Result<usize> {
         if !self.reach_text()? {
             return Ok(0);
@@ -189,14 +202,10 @@ impl<R: Read> Read for CaptureStream<R> {
     }
 }
 
-/// The devices that get requests of DFU at an interface, in the capture that a reader gives.
-pub fn devices_in<R: Read + Drop>(
-    alloc: Global,
-    reader: R,
-    interface: u8,
+/// Reads `stream` to its end and returns the devices that were found, or the fault of the capture.
+fn devices_of<R: Read + Drop>(
+    mut stream: CaptureStream<R>,
 ) -> io::Result<Result<Devices, CaptureFault>> {
-    let telling = Telling::of_devices(alloc, interface);
-    let mut stream = CaptureStream::new(alloc, reader, telling);
     match stream.finish()? {
         Ok(()) => {
             let CaptureStream { telling, .. } = stream;
@@ -206,7 +215,18 @@ pub fn devices_in<R: Read + Drop>(
     }
 }
 
-/// The same devices, if the capture that a reader gives has a log of one of them, of the one at `only` if there is one.
+/// Returns the devices that get requests of DFU at `interface`, in the capture that `reader` gives, or the fault of the capture.
+pub fn devices_in<R: Read + Drop>(
+    alloc: Global,
+    reader: R,
+    interface: u8,
+) -> io::Result<Result<Devices, CaptureFault>> {
+    let telling = Telling::of_devices(alloc, interface);
+    devices_of(CaptureStream::new(alloc, reader, telling))
+}
+
+/// Checks that the capture that `reader` gives has a log of one of `devices`, of the one at `only` if `only` is given. Returns `devices`,
+/// or the fault of the capture.
 pub fn checked<R: Read + Drop>(
     alloc: Global,
     reader: R,
@@ -214,12 +234,5 @@ pub fn checked<R: Read + Drop>(
     only: Option<Address>,
 ) -> io::Result<Result<Devices, CaptureFault>> {
     let telling = Telling::of_log(alloc, devices, only);
-    let mut stream = CaptureStream::new(alloc, reader, telling);
-    match stream.finish()? {
-        Ok(()) => {
-            let CaptureStream { telling, .. } = stream;
-            Ok(Ok(telling.devices()))
-        }
-        Err(fault) => Ok(Err(fault)),
-    }
+    devices_of(CaptureStream::new(alloc, reader, telling))
 }

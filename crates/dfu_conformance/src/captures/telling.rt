@@ -1,4 +1,4 @@
-//! What the exchanges of a capture that comes in pieces say: which devices get requests of DFU, or the log of one.
+//! Exchanges of a capture that comes in pieces: the devices that get requests of DFU, or the log of one.
 
 use crate::captures::address::Address;
 use crate::captures::devices::Devices;
@@ -8,10 +8,10 @@ use crate::captures::following::Followed;
 use crate::captures::text::Log;
 use std::alloc::Global;
 
-/// What exchanges said so far.
+/// Devices or log that the exchanges gave so far.
 #[derive(Drop)]
 pub(crate) struct Telling {
-    // Where requests of DFU are looked for; in a log, nowhere.
+    // Interface at which requests of DFU are looked for; in a log, none.
     interface: Option<u8>,
     devices: Devices,
     followed: Followed,
@@ -20,7 +20,7 @@ pub(crate) struct Telling {
 }
 
 impl Telling {
-    /// Devices that get requests of DFU at this interface are looked for.
+    /// Returns a telling that looks for the devices that get requests of DFU at `interface`.
     pub(crate) fn of_devices(alloc: Global, interface: u8) -> Telling {
         Telling {
             interface: Some(interface),
@@ -31,7 +31,7 @@ impl Telling {
         }
     }
 
-    /// The log of one of these devices, of the one at this address if there is one.
+    /// Returns a telling of the log, before its first line: of one of `devices`, of the one at `only` if `only` is given.
     pub(crate) fn of_log(alloc: Global, devices: Devices, only: Option<Address>) -> Telling {
         Telling {
             interface: None,
@@ -42,13 +42,13 @@ impl Telling {
         }
     }
 
-    /// The devices that were found.
+    /// Returns the devices that were found.
     pub(crate) fn devices(self) -> Devices {
         let Telling { devices, .. } = self;
         devices
     }
 
-    /// Whether an exchange has a line of the log.
+    /// Returns true if `exchange` has a line of the log.
     fn shows(&mut self, exchange: &Exchange<'_>) -> Result<bool, CaptureFault> {
         if let Some(interface) = self.interface {
             if exchange.tells_dfu(interface) {
@@ -62,7 +62,7 @@ impl Telling {
         self.followed.shows(exchange)
     }
 
-    /// A packet comes that completes this exchange, if any.
+    /// Takes the next packet, which completes `exchange`, if it is given.
     pub(crate) fn come(&mut self, exchange: &Option<Exchange<'_>>) -> Result<(), CaptureFault> {
         match exchange {
             Some(exchange) if self.shows(exchange)? => {
@@ -74,17 +74,17 @@ impl Telling {
         self.log.is_whole()
     }
 
-    /// The text since it was forgotten.
+    /// Returns the text since the last call of `forget_text`.
     pub(crate) fn text(&self) -> &[u8] {
         self.log.bytes()
     }
 
-    /// Forgets the text.
+    /// Removes the text that `text` returns.
     pub(crate) fn forget_text(&mut self) {
         self.log.clear();
     }
 
-    /// The end comes. NoDevice if a log has no line of a device.
+    /// Takes the end of the capture. NoDevice if a log has no line of a device.
     pub(crate) fn end(&self) -> Result<(), CaptureFault> {
         if self.interface.is_none() && !self.has_line {
             Err(CaptureFault::NoDevice)

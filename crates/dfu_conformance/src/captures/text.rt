@@ -4,7 +4,7 @@ use crate::captures::exchange::{Body, Exchange, Seen};
 use crate::captures::fault::CaptureFault;
 use std::alloc::Global;
 
-/// A hexadecimal digit of a value below 16.
+/// Returns the lower-case hexadecimal digit of `value`, which is below 16.
 fn digit(value: u8) -> u8 {
     if value < 10 {
         b'0' + value
@@ -23,7 +23,7 @@ pub(crate) struct Log {
 }
 
 impl Log {
-    /// No line.
+    /// Returns a log of no line.
     pub(crate) fn new(alloc: Global) -> Log {
         Log {
             text: Vec::new(alloc),
@@ -32,21 +32,21 @@ impl Log {
         }
     }
 
-    /// Adds bytes.
+    /// Adds `bytes` to the text.
     fn put(&mut self, bytes: &[u8]) {
         if self.text.extend_from_slice(bytes).is_err() {
             self.is_torn = true;
         }
     }
 
-    /// Adds bytes as digits.
+    /// Adds `bytes` to the text as hexadecimal digits.
     fn put_hex(&mut self, bytes: &[u8]) {
         for byte in bytes {
             self.put(&[digit(*byte / 16), digit(*byte % 16)]);
         }
     }
 
-    /// Adds the bytes that the host sent.
+    /// Adds `body`, the bytes that the host sent.
     fn put_body(&mut self, body: Body<'_>) {
         match body {
             Body::Bytes([]) | Body::Count(0) => self.put(b"-"),
@@ -59,7 +59,7 @@ impl Log {
         }
     }
 
-    /// Adds an answer.
+    /// Adds the answer `seen`.
     fn put_seen(&mut self, seen: Seen<'_>) {
         match seen {
             Seen::Stall => self.put(b"stall"),
@@ -69,7 +69,7 @@ impl Log {
         }
     }
 
-    /// Adds the line of a request and its answer.
+    /// Adds the line of `exchange`, a request and its answer.
     fn put_exchange(&mut self, exchange: &Exchange<'_>) {
         self.put_hex(&exchange.setup);
         self.put(b" ");
@@ -79,7 +79,7 @@ impl Log {
         self.put(b"\n");
     }
 
-    /// Adds the line of a packet that says this.
+    /// Adds the line of a packet that gives `exchange`.
     pub(crate) fn push_line(&mut self, exchange: &Exchange<'_>) {
         if exchange.given.is_some() {
             self.put(b"reset\n");
@@ -88,12 +88,12 @@ impl Log {
         }
     }
 
-    /// Adds the line of a packet that says nothing.
+    /// Adds the line of a packet that gives no exchange, which is empty.
     pub(crate) fn push_empty(&mut self) {
         self.put(b"\n");
     }
 
-    /// Adds the line of an exchange after empty lines for the packets before it.
+    /// Adds the line of `exchange` after empty lines for the packets before it.
     pub(crate) fn push(&mut self, exchange: &Exchange<'_>) {
         for _line in self.lines.saturating_add(1)..exchange.packet {
             self.push_empty();
@@ -102,17 +102,21 @@ impl Log {
         self.push_line(exchange);
     }
 
-    /// The text so far.
+    /// Returns the text so far.
     pub(crate) fn bytes(&self) -> &[u8] {
         &self.text
     }
 
-    /// Forgets the text.
+    /// Removes the text.
     pub(crate) fn clear(&mut self) {
         self.text.clear();
     }
 
-    /// NoMemory if memory was refused for a part of the text.
+    /// Checks that memory was refused for no part of the text.
+    ///
+    /// # Errors
+    ///
+    /// NoMemory if it was.
     pub(crate) fn is_whole(&self) -> Result<(), CaptureFault> {
         if self.is_torn {
             Err(CaptureFault::NoMemory)
@@ -121,7 +125,11 @@ impl Log {
         }
     }
 
-    /// The text, unless memory was refused for it or no line was added.
+    /// Returns the text.
+    ///
+    /// # Errors
+    ///
+    /// NoMemory if memory was refused for a part of the text; else NoDevice if the text is empty.
     pub(crate) fn whole(self) -> Result<Vec<u8>, CaptureFault> {
         let Log { text, is_torn, .. } = self;
         if is_torn {

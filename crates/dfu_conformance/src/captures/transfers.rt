@@ -1,4 +1,4 @@
-//! Submissions and completions are joined, and no bytes of a transfer are kept between them.
+//! Joining of submissions and their completions, without the bytes of a transfer between them.
 
 use crate::captures::event::{PacketKind, UsbEvent};
 use crate::captures::exchange::{Body, Exchange};
@@ -7,25 +7,25 @@ use crate::captures::joining::{exchange_of, submitted};
 use crate::captures::pending::{Pending, PendingTransfers};
 use std::alloc::Global;
 
-/// The most transfers that are pending at once. Endpoint 0 of a device has one at a time, so that there are more only if completions are
+/// The most transfers that are pending at once. Endpoint 0 of a device has one at a time, so that more are pending only if completions are
 /// missing; then one of them is forgotten.
 const MAX_PENDING: usize = 1024;
 
-/// Transfers, as they come.
+/// Transfers that are joined as their events come.
 #[derive(Drop)]
 pub(crate) struct Transfers {
     pending: PendingTransfers<'static>,
 }
 
 impl Transfers {
-    /// None.
+    /// Returns a value with no transfer under way.
     pub(crate) fn new(alloc: Global) -> Transfers {
         Transfers {
             pending: PendingTransfers::new(alloc),
         }
     }
 
-    /// Adds a transfer.
+    /// Adds the transfer `new`.
     fn put(&mut self, new: Pending<'static>) -> Result<(), CaptureFault> {
         if self.pending.count() >= MAX_PENDING {
             self.pending.forget_first();
@@ -33,7 +33,8 @@ impl Transfers {
         self.pending.put(new)
     }
 
-    /// A transfer is submitted, with so many bytes. One that had its id before is over, though its completion is missing.
+    /// Takes submission `head` with `setup` and `count` bytes. A transfer that had the same id before is over, though its completion is
+    /// missing.
     fn submit(
         &mut self,
         head: &UsbEvent<'static>,
@@ -44,7 +45,8 @@ impl Transfers {
         self.put(submitted(head, setup, Body::Count(count)))
     }
 
-    /// So many bytes come of a transfer that was submitted without them. One whose bytes come from the device has none, so it is over.
+    /// Takes `count`, the number of bytes of the transfer `head` that was submitted without them. A transfer whose bytes come from the
+    /// device has none, so that it is over.
     fn carry(&mut self, head: &UsbEvent<'static>, count: usize) -> Result<(), CaptureFault> {
         let Some(mut began) = self.pending.take_same(head) else {
             return Ok(());
@@ -58,7 +60,8 @@ impl Transfers {
         self.put(began)
     }
 
-    /// An event comes, in packet N of this link type. If it completes a transfer, what that says.
+    /// Takes `event`, in packet number `packet` of link type `link`, and returns the exchange if the event completes a transfer; else
+    /// None.
     pub(crate) fn come<'e>(
         &mut self,
         packet: usize,

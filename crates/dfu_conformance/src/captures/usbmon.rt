@@ -1,15 +1,15 @@
 //! The packets of usbmon (link types 189 and 220).
 
 ghost use Rattle.std.specs.Prelude.{◌≡◌, drop, take, length, nat_le, nat_lt, not, is_none, Some, IfSome};
-ghost use Rattle.dfu_conformance.specs.captures.Packets.{byte, two_in, four_in, eight_in, head_in, is_control, kind_in, setup_in_packet, ending_in};
+ghost use Rattle.dfu_conformance.specs.captures.Packets.{byte_or_zero, number_of_two, number_of_four, first_eight_bytes, header_length_of, is_control, packet_kind_of, setup_in_packet, transfer_ending_of};
 
 use crate::captures::address::Address;
 use crate::captures::event::{Ending, PacketKind, UsbEvent};
 use crate::captures::numbers::{byte_at, eight, four, from, front, two};
 
-/// Returns the ending of a transfer: byte 28 on has 0, or -32 of a stall.
+/// Returns the ending of the transfer of packet `bytes`, by the status in bytes 28 to 31: 0, or -32 of a stall.
 fn ending_of(bytes: &[u8], is_big: bool) -> Ending
-    ensures { result ≡ ending_in is_big bytes.now }
+    ensures { result ≡ transfer_ending_of is_big bytes.now }
 {
     match four(from(bytes, 28), is_big) {
         0 => Ending::Done,
@@ -20,7 +20,7 @@ fn ending_of(bytes: &[u8], is_big: bool) -> Ending
 
 /// Returns the number of bytes that precede the data, by the link type; `None` if it is not a link type of usbmon.
 pub(crate) fn head_of(link: u16) -> Option<usize>
-    ensures { result ≡ head_in link }
+    ensures { result ≡ header_length_of link }
 {
     match link {
         189 => Some(48),
@@ -31,7 +31,7 @@ pub(crate) fn head_of(link: u16) -> Option<usize>
 
 /// Returns whether an event submits a transfer or completes one.
 fn kind_of(bytes: &[u8]) -> PacketKind
-    ensures { result ≡ kind_in bytes.now }
+    ensures { result ≡ packet_kind_of bytes.now }
 {
     match byte_at(bytes, 8) {
         b'S' => PacketKind::Submits,
@@ -40,7 +40,7 @@ fn kind_of(bytes: &[u8]) -> PacketKind
     }
 }
 
-/// The setup, if there is one.
+/// Returns the setup of the packet `bytes`; None if the packet says that it has none.
 fn setup_of(bytes: &[u8]) -> Option<[u8; 8]>
     ensures { result ≡ setup_in_packet bytes.now }
 {
@@ -51,20 +51,21 @@ fn setup_of(bytes: &[u8]) -> Option<[u8; 8]>
     }
 }
 
-/// Returns the content of a packet that has this many bytes before its data; `None` if it is no control transfer to endpoint 0, or hasn't a
-/// whole head. The bytes of each number are in the order that is given: bytes 0 to 7 are the id, bit 7 of byte 10 the direction, byte 11
-/// the device, 12 and 13 the bus, 28 to 31 the status, 32 to 35 the length, and 36 to 39 how many bytes of data follow the head.
+/// Returns the content of a packet whose data begin behind `head` bytes; `None` if it is no control transfer to endpoint 0, or its head
+/// isn't whole. The bytes of each number are in the given order: bytes 0 to 7 are the id, bit 7 of byte 10 the direction, byte 11 the
+/// device, 12 and 13 the bus, 28 to 31 the status, 32 to 35 the length, and 36 to 39 the number of bytes of data behind the head.
 pub fn packet_event(bytes: &[u8], head: usize, is_big: bool) -> Option<UsbEvent<'_>>
     ensures none { is_none result ≡ not (is_control head bytes.now) }
-    ensures kind { IfSome result (λ e. e.kind ≡ kind_in bytes.now) }
-    ensures id { IfSome result (λ e. e.id ≡ eight_in (drop 0 bytes.now)) }
-    ensures address { IfSome result (λ e. (e.address.bus ≡ two_in is_big (drop 12 bytes.now)) × (e.address.device ≡ byte bytes.now 11)) }
-    ensures direction { IfSome result (λ e. e.is_in ≡ Some (nat_le 128 (byte bytes.now 10))) }
+    ensures kind { IfSome result (λ e. e.kind ≡ packet_kind_of bytes.now) }
+    ensures id { IfSome result (λ e. e.id ≡ first_eight_bytes (drop 0 bytes.now)) }
+    ensures address { IfSome result (λ e. (e.address.bus ≡ number_of_two is_big (drop 12 bytes.now))
+        × (e.address.device ≡ byte_or_zero bytes.now 11)) }
+    ensures direction { IfSome result (λ e. e.is_in ≡ Some (nat_le 128 (byte_or_zero bytes.now 10))) }
     ensures setup { IfSome result (λ e. e.setup ≡ setup_in_packet bytes.now) }
-    ensures ending { IfSome result (λ e. e.ending ≡ ending_in is_big bytes.now) }
-    ensures moved { IfSome result (λ e. e.moved ≡ Some (four_in is_big (drop 32 bytes.now))) }
-    ensures data { IfSome result (λ e. e.data.now ≡ take (four_in is_big (drop 36 bytes.now)) (drop head bytes.now)) }
-    ensures cut { IfSome result (λ e. e.is_cut ≡ nat_lt (length e.data.now) (four_in is_big (drop 32 bytes.now))) }
+    ensures ending { IfSome result (λ e. e.ending ≡ transfer_ending_of is_big bytes.now) }
+    ensures moved { IfSome result (λ e. e.moved ≡ Some (number_of_four is_big (drop 32 bytes.now))) }
+    ensures data { IfSome result (λ e. e.data.now ≡ take (number_of_four is_big (drop 36 bytes.now)) (drop head bytes.now)) }
+    ensures cut { IfSome result (λ e. e.is_cut ≡ nat_lt (length e.data.now) (number_of_four is_big (drop 32 bytes.now))) }
 {
     if bytes.len() < head || byte_at(bytes, 9) != 2 || byte_at(bytes, 10) % 128 != 0 {
         return None;

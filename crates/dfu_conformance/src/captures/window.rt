@@ -4,20 +4,20 @@ use crate::captures::numbers::from;
 use std::alloc::Global;
 use std::io::{self, ErrorKind, Read};
 
-/// How many bytes are read at once.
-const PIECE: usize = 65_536;
+/// Number of bytes of a capture for which a reader is asked at a time.
+const CAPTURE_READ_BYTES: usize = 65_536;
 
-/// A reader, and the bytes of it that were read and not taken.
+/// A reader, and the bytes that were read of it and not taken.
 #[derive(Drop)]
 pub(crate) struct Window<R> {
     reader: R,
     bytes: Vec<u8>,
-    // Those before this place were taken.
+    // The bytes before this place were taken.
     taken: usize,
 }
 
 impl<R> Window<R> {
-    /// A reader of which nothing was read.
+    /// Returns a window before the first byte is read from `reader`.
     pub(crate) fn new(alloc: Global, reader: R) -> Window<R> {
         Window {
             reader,
@@ -26,17 +26,17 @@ impl<R> Window<R> {
         }
     }
 
-    /// The bytes that were read and not taken.
+    /// Returns the bytes that were read and not taken.
     pub(crate) fn rest(&self) -> &[u8] {
         from(&self.bytes, self.taken)
     }
 
-    /// Takes so many bytes.
+    /// Takes the first `count` bytes.
     pub(crate) fn take(&mut self, count: usize) {
         self.taken = self.taken.saturating_add(count);
     }
 
-    /// Forgets the bytes that were taken.
+    /// Removes the bytes that were taken.
     fn forget_taken(&mut self) {
         if self.taken >= self.bytes.len() {
             self.bytes.clear();
@@ -50,10 +50,10 @@ impl<R> Window<R> {
 }
 
 impl<R: Read> Window<R> {
-    /// Reads on, and returns whether there was more.
+    /// Reads on, and returns whether there were more bytes.
     pub(crate) fn read_on(&mut self) -> io::Result<bool> {
         self.forget_taken();
-        let mut piece = [0u8; PIECE];
+        let mut piece = [0u8; CAPTURE_READ_BYTES];
         let count = self.reader.read(&mut piece)?;
         match self.bytes.extend_from_slice(&piece[..count]) {
             Ok(()) => Ok(count > 0),

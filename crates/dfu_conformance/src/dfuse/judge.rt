@@ -1,4 +1,4 @@
-//! The judge.
+//! The judge of a DfuSe device.
 
 ghost use Rattle.std.specs.Prelude.{◌≡◌, List, IsNone, IfSome, [], ◌∷◌, ◌++◌};
 
@@ -21,14 +21,15 @@ impl DfuseJudge {
     ghost use Rattle.dfu_conformance.specs.dfuse.Verdicts.{PlacesExact, DfuseDeparts};
     ghost use Rattle.dfu_conformance.specs.declared.event.LogEvent.{LogEvent};
 
-    /// A judge of a device about which nothing is known: it may be anywhere.
+    /// Returns a judge before the first event, of a device about which nothing is known, and which may be at every place.
     pub fn new() -> DfuseJudge
         ensures { PlacesExact result.at [] }
     {
         DfuseJudge { at: EVERYWHERE }
     }
 
-    /// An event comes. If no DfuSe device is left, it returns the departure, and from then on the device may be anywhere again.
+    /// Takes the next event. Returns the departure if no DfuSe device is left after `event`, and from then on the device may be anywhere
+    /// again.
     pub fn take(&mut self, event: &LogEvent) -> Option<Departure>
         ensures kept { IsNone result → (es : List LogEvent) → PlacesExact self.old.at es
             → DfuseCanAnswer (es ++ event.now ∷ []) × PlacesExact self.new.at (es ++ event.now ∷ []) }

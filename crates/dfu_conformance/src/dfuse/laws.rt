@@ -1,4 +1,4 @@
-//! A law of the table. It is the contract of a function with an empty body, which is proved and not to be called.
+//! A law of the table. The law is the contract of a function with an empty body, which is proved and not to be called.
 
 ghost use Rattle.dfu_conformance.specs.dfuse.Laws.{StandardIsIncluded};
 

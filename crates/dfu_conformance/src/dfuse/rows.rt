@@ -9,7 +9,7 @@ use crate::StandardState::{
 };
 use crate::When::Always;
 
-// The rows of a device at a place: one for each request that it answers so.
+// The rows of a device at a place: one for each request to which it gives this answer.
 macro_rules! rows {
     ($($from:ident, $($asked:ident)|+ => $gives:ident, $next:ident, $source:ident;)+) => {
         [$($(Row {
@@ -23,13 +23,13 @@ macro_rules! rows {
     };
 }
 
-/// Answers that a DfuSe device may give beyond USB DFU 1.1: where it is, what it is asked, what it answers, where it is then. `Habit` marks
-/// what each such device does, `Open` what they are known to do or may do.
+/// Answers that a DfuSe device may give beyond USB DFU 1.1: where the device is, what comes, what it answers, and where it is then. `Habit`
+/// marks what each such device does, `Open` what devices are known to do or may do.
 #[rattlefmt::skip]
 pub static DFUSE: [Row; 12] = rows!(
-    // DNLOAD of no bytes asks the device to leave, from dfuIDLE too.
+    // DNLOAD of no bytes asks the device to leave, also from dfuIDLE.
     DfuIdle, Close => Ack, ManifestSync, Habit;
-    // UPLOAD is answered by the number of its block, so a short answer need not be the last.
+    // UPLOAD is answered by the number of its block, so that a short answer need not be the last.
     UploadIdle, Upload => Short, UploadIdle, Open;
     // While an order is carried out, or the device leaves, GETSTATUS and GETSTATE may be stalled, and nothing changes.
     DownloadBusy, GetStatus | GetState => Stall, DownloadBusy, Open;

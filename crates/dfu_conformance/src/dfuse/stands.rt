@@ -3,9 +3,9 @@
 ghost use Rattle.std.specs.Prelude.{◌≡◌, ◌||◌, ◌&&◌, ◌==◌};
 ghost use Rattle.std.specs.List.{list_any};
 ghost use Rattle.dfu_conformance.specs.RowMatches.{place_number};
-ghost use Rattle.dfu_conformance.specs.dfuse.Runs.{of_dfuse, rests};
+ghost use Rattle.dfu_conformance.specs.dfuse.Runs.{of_dfuse, dfuse_device_stays};
 ghost use Rattle.dfu_conformance.specs.dfuse.Verdicts.{is_candidate};
-ghost use Rattle.dfu_conformance.specs.inside.DfuseStep.{is_somewhere, moves_to, leads_to, after_event};
+ghost use Rattle.dfu_conformance.specs.inside.DfuseStep.{has_any_place, drift_leads_to, row_leads_to, may_be_at_after_event};
 
 use crate::dfuse::rows::DFUSE;
 use crate::dfuse::speaks::{is_of_dfuse, may_rest};
@@ -13,10 +13,10 @@ use crate::{
     DRIFTS, Drift, HABITS, LogEvent, MARKS, Row, STANDARD, StandardState, When, speaks_of,
 };
 
-/// By place, whether a device may be there.
+/// For each place, by its number, true if a device may be there.
 pub(crate) type Places = [bool; 12];
 
-/// A device is led from one place to another, if it may be at the first and is one of those.
+/// Adds place `to` to `after`, if a device may be at `from` by `before` and `when` is true for a DfuSe device.
 fn lead(before: &Places, from: StandardState, when: When, after: &mut Places, to: StandardState)
     ensures { (n : StandardState) → is_candidate after.new n
         ≡ (is_candidate after.old n || ((place_number to == place_number n) && (is_candidate before.now from && of_dfuse when))) }
@@ -25,27 +25,29 @@ fn lead(before: &Places, from: StandardState, when: When, after: &mut Places, to
     after[to] = after[to] || before[from.number()] && is_of_dfuse(when);
 }
 
-/// Adds the place to which a row leads.
+/// Adds to `after` the place to which `row` leads from `before` by `event`.
 fn go(row: &Row, before: &Places, event: &LogEvent, after: &mut Places)
-    ensures { (n : StandardState) → is_candidate after.new n ≡ (is_candidate after.old n || leads_to before.now event.now n row.now) }
+    ensures { (n : StandardState) → is_candidate after.new n ≡ (is_candidate after.old n || row_leads_to before.now event.now n row.now) }
 {
     if speaks_of(row, event) {
         lead(before, row.from, row.when, after, row.next);
     }
 }
 
-/// Adds the places to which one of these rows leads.
+/// Adds to `after` the places to which `rows` lead from `before` by `event`.
 fn pass(rows: &[Row], before: &Places, event: &LogEvent, after: &mut Places)
-    ensures { (n : StandardState) → is_candidate after.new n ≡ (is_candidate after.old n || list_any (leads_to before.now event.now n) rows.now) }
+    ensures { (n : StandardState) → is_candidate after.new n ≡
+        (is_candidate after.old n || list_any (row_leads_to before.now event.now n) rows.now) }
 {
     for row in rows {
         go(row, before, event, after);
     }
 }
 
-/// Adds the places to which one of these moves leads.
+/// Returns the places of `before`, and those to which `moves` lead from them.
 fn drift(moves: &[Drift], before: &Places) -> Places
-    ensures { (n : StandardState) → is_candidate result n ≡ (is_candidate before.now n || list_any (moves_to before.now n) moves.now) }
+    ensures { (n : StandardState) → is_candidate result n ≡
+        (is_candidate before.now n || list_any (drift_leads_to before.now n) moves.now) }
 {
     let mut after = *before;
     for one in moves {
@@ -54,9 +56,9 @@ fn drift(moves: &[Drift], before: &Places) -> Places
     after
 }
 
-/// The places where a device may have stayed.
+/// Returns the places of `before` where a device may have stayed at `event`.
 fn rest(before: &Places, event: &LogEvent) -> Places
-    ensures { (n : StandardState) → is_candidate result n ≡ (rests event.now && is_candidate before.now n) }
+    ensures { (n : StandardState) → is_candidate result n ≡ (dfuse_device_stays event.now && is_candidate before.now n) }
 {
     if may_rest(event) {
         *before
@@ -65,9 +67,9 @@ fn rest(before: &Places, event: &LogEvent) -> Places
     }
 }
 
-/// The places where a device may be after an event, if it might be at these before it.
+/// Returns the places where a device may be after `event`, if it was at one of those of `before`.
 pub(crate) fn step(before: &Places, event: &LogEvent) -> Places
-    ensures { (n : StandardState) → is_candidate result n ≡ after_event before.now event.now n }
+    ensures { (n : StandardState) → is_candidate result n ≡ may_be_at_after_event before.now event.now n }
 {
     let mut after = rest(before, event);
     pass(&STANDARD, before, event, &mut after);
@@ -77,9 +79,9 @@ pub(crate) fn step(before: &Places, event: &LogEvent) -> Places
     drift(&DRIFTS, &after)
 }
 
-/// Returns whether a device may be anywhere.
+/// Returns true if a device may be at any place, by `at`.
 pub(crate) fn is_anywhere(at: &Places) -> bool
-    ensures { result ≡ is_somewhere at.now }
+    ensures { result ≡ has_any_place at.now }
 {
     let mut is_some = false;
     for n in 0..12 {

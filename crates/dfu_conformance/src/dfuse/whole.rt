@@ -7,8 +7,8 @@ ghost use Rattle.dfu_conformance.specs.dfuse.Verdicts.{IsFirstDeparture};
 use crate::dfuse::judge::DfuseJudge;
 use crate::{Departure, LogEvent};
 
-/// The first event that no DfuSe device may have answered so, if nothing is known of it before them: its place in the list, counted
-/// from 0, and the departure. `None` if a DfuSe device may have answered all.
+/// Returns the first departure of `events`, for a DfuSe device about which nothing is known: the index of the event in the list, counted
+/// from 0, and the departure. None if a DfuSe device may have answered all events.
 pub fn first_departure(events: &[LogEvent]) -> Option<(usize, Departure)>
     ensures kept { IsNone result → DfuseCanAnswer events.now }
     ensures departs { IfSome result (λ f. IsFirstDeparture events.now f.0 f.1 × (DfuseCanAnswer events.now → ⊥)) }

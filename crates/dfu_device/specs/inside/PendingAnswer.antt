@@ -9,37 +9,37 @@ use Rattle.dfu_device.specs.declared.decision.Reply.TheVariants as reply
 use Rattle.dfu_device.specs.Stage.{Reply, Ack, Data, StateOf, Stall, state_of, status_of}
 use Rattle.dfu_device.specs.Table.{Plan}
 use Rattle.dfu_device.specs.DeviceView.{DeviceView, profile}
-use Rattle.dfu_device.specs.Rows.{Answers, Done, Handles}
+use Rattle.dfu_device.specs.Rows.{ReplyAnswer, Done, Handles}
 
--- The pending answer of a reply to a request for so many bytes.
+-- The pending answer of a reply to a request for `asked` bytes.
 abbrev pub pending_answer_of : (asked : ℕ) → ReplyRead → PendingAnswer
 pending_answer_of asked reply.Ack = pending_answer.Ack
 pending_answer_of asked reply.Status = pending_answer.Status asked
 pending_answer_of asked reply.State = pending_answer.State asked
 pending_answer_of asked reply.Stall = pending_answer.Stall
 
--- The reply that a pending answer is, of a device that has gone on.
-abbrev pub reply_of : PendingAnswer → DeviceView → Reply
-reply_of pending_answer.Ack w = Ack
-reply_of (pending_answer.Status asked) w = status_of (profile w) w.stage
-reply_of (pending_answer.State asked) w = StateOf (state_of w.stage)
-reply_of (pending_answer.Piece place asked) w = Data (take asked (drop place (image_of w.slots)))
-reply_of pending_answer.Stall w = Stall
+-- The reply of a pending answer, by the device after the row.
+abbrev pub reply_of_pending : PendingAnswer → DeviceView → Reply
+reply_of_pending pending_answer.Ack w = Ack
+reply_of_pending (pending_answer.Status asked) w = status_of (profile w) w.stage
+reply_of_pending (pending_answer.State asked) w = StateOf (state_of w.stage)
+reply_of_pending (pending_answer.Piece place asked) w = Data (take asked (drop place (image_of w.slots)))
+reply_of_pending pending_answer.Stall w = Stall
 
--- Bytes of a status or of a state that it was asked for.
+-- Bytes of a status or a state for which a pending answer was asked.
 abbrev pub asked_of : PendingAnswer → ℕ
 asked_of (pending_answer.Status asked) = asked
 asked_of (pending_answer.State asked) = asked
 asked_of d = 0
 
--- An answer with its bytes says what the pending answer says.
+-- An answer in bytes says what the pending answer says.
 abbrev pub AnswersPending : PendingAnswer → DeviceView → Answer → List ℕ → Type 0
-AnswersPending d w a out = Answers (asked_of d) (reply_of d w) a out
+AnswersPending d w a out = ReplyAnswer (asked_of d) (reply_of_pending d w) a out
 
--- A plan was carried out, but for its reply, which is drafted.
+-- A plan was carried out, and its reply is still pending.
 abbrev pub CarriedOutPending : Plan → ℕ → DeviceView → PendingAnswer → DeviceView → Type 0
 CarriedOutPending p len w d w' = (a : Answer) (out : List ℕ) → AnswersPending d w' a out → Done p len w a out w'
 
--- The row of a setup with its body, with its answer drafted.
+-- The row of a setup with its body was made, and its answer is still pending.
 abbrev pub HandledPending : List ℕ → List ℕ → DeviceView → PendingAnswer → DeviceView → Type 0
 HandledPending setup body w d w' = (a : Answer) (out : List ℕ) → AnswersPending d w' a out → Handles setup body w a out w'

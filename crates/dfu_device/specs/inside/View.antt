@@ -1,9 +1,9 @@
--- View that a contract has of the core of a device.
+-- The core of a device as contracts see it.
 use Rattle.dfu_slots.specs.declared.medium.Medium.{Ghosts}
 use Rattle.dfu_device.specs.declared.device_core.DeviceCore.{DeviceCore}
 use Rattle.dfu_device.specs.DeviceView.{DeviceView}
-use Rattle.dfu_device.specs.Parts.{shows}
+use Rattle.dfu_device.specs.Parts.{view_of_parts}
 
--- The core's configuration, its slot store, and the stage of its mode.
-abbrev pub shown : {M : Type 0} {ops : Ghosts M} → DeviceCore M ops → DeviceView
-shown d = shows d.config d.slots d.mode d.block.items
+-- View of a core: its configuration, its slot store, and the stage of its mode.
+abbrev pub view_of_core : {M : Type 0} {ops : Ghosts M} → DeviceCore M ops → DeviceView
+view_of_core d = view_of_parts d.config d.slots d.mode d.block.items

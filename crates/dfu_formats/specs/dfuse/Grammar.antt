@@ -7,14 +7,14 @@ use Rattle.dfu_suffix.specs.Grammar.{before_crc}
 use Rattle.dfu_formats.specs.declared.dfuse.fault.FileFault.{FileFault}
 use Rattle.dfu_formats.specs.dfuse.Reading.{Target, Suffixed, DfuseContent, file_at}
 
--- Four bytes that have this number, the low one first.
-abbrev pub four : ℕ → List ℕ
-four n = to_le_bytes w32 n
+-- The four bytes of a number, the low one first.
+abbrev pub four_bytes_of : ℕ → List ℕ
+four_bytes_of n = to_le_bytes w32 n
 
--- Elements follow one another, each as its address, the number of its bytes, and these.
+-- Bytes of elements, one after the other: for each its address, the number of its bytes, and its bytes.
 unfoldable pub spelled_elements : List Piece → List ℕ
 spelled_elements [] = []
-spelled_elements (e ∷ es) = four e.address ++ (four (length e.bytes) ++ (e.bytes ++ spelled_elements es))
+spelled_elements (e ∷ es) = four_bytes_of e.address ++ (four_bytes_of (length e.bytes) ++ (e.bytes ++ spelled_elements es))
 
 -- An element has at least one byte, and ends by the last address of 32 bits.
 pub record ElementInRange (e : Piece) : Type 0 where
@@ -22,7 +22,7 @@ pub record ElementInRange (e : Piece) : Type 0 where
   pub size_fits : length e.bytes < 2 ^ 32
   pub within : e.address + length e.bytes ≤ 2 ^ 32
 
--- Each of these elements fits so.
+-- Each element has bytes, and ends by the last address of 32 bits.
 unfoldable pub ElementsInRange : List Piece → Type 0
 ElementsInRange [] = Unit {0}
 ElementsInRange (e ∷ es) = ElementInRange e × ElementsInRange es
@@ -31,14 +31,16 @@ ElementsInRange (e ∷ es) = ElementInRange e × ElementsInRange es
 abbrev pub target_letters : List ℕ
 target_letters = 84 ∷ 97 ∷ 114 ∷ 103 ∷ 101 ∷ 116 ∷ []
 
--- Targets follow one another, each as the letters, the setting, the name, the size of its elements, their number, and these.
+-- Bytes of targets, one after the other: for each the letters Target, its setting, its name, the size of its elements, their number, and
+-- the elements.
 unfoldable pub spelled_targets : List Target → List ℕ
 spelled_targets [] = []
 spelled_targets (t ∷ ts) =
-    target_letters ++ (t.setting ∷ (four t.named ++ (t.name ++ (four (length (spelled_elements t.elements)) ++ (four (length t.elements)
+    target_letters ++ (t.setting ∷ (four_bytes_of t.named ++
+    (t.name ++ (four_bytes_of (length (spelled_elements t.elements)) ++ (four_bytes_of (length t.elements)
     ++ (spelled_elements t.elements ++ spelled_targets ts))))))
 
--- The parts of a target fit their bytes.
+-- The fields of a target fit their bytes.
 pub record TargetInRange (t : Target) : Type 0 where
   pub setting_fits : t.setting < 256
   pub named_fits : t.named < 2 ^ 32
@@ -47,30 +49,30 @@ pub record TargetInRange (t : Target) : Type 0 where
   pub count_fits : length t.elements < 2 ^ 32
   pub elements_fit : ElementsInRange t.elements
 
--- The parts of each of these targets fit.
+-- The fields of each target fit their bytes.
 unfoldable pub TargetsInRange : List Target → Type 0
 TargetsInRange [] = Unit {0}
 TargetsInRange (t ∷ ts) = TargetInRange t × TargetsInRange ts
 
 -- The letters DfuSe, and the version.
-abbrev pub opening : List ℕ
-opening = 68 ∷ 102 ∷ 117 ∷ 83 ∷ 101 ∷ 1 ∷ []
+abbrev pub dfuse_opening : List ℕ
+dfuse_opening = 68 ∷ 102 ∷ 117 ∷ 83 ∷ 101 ∷ 1 ∷ []
 
--- These are the bytes before the suffix of a file, which has so many bytes with it: the opening, the size without the suffix or with it, and
--- one to 255 targets.
+-- `bytes` is the body of a file of `whole` bytes, which is all but the suffix: the opening, the size without the suffix or with it, and one
+-- to 255 targets.
 pub record IsBody (targets : List Target) (whole : ℕ) (bytes : List ℕ) : Type 0 where
   pub size : ℕ
-  pub spelled : bytes ≡ opening ++ (four size ++ (length targets ∷ spelled_targets targets))
+  pub spelled : bytes ≡ dfuse_opening ++ (four_bytes_of size ++ (length targets ∷ spelled_targets targets))
   pub size_is : (size ≡ length bytes) ⊎ (size ≡ whole)
   pub size_fits : size < 2 ^ 32
   pub some : 1 ≤ length targets
   pub few : length targets < 256
   pub fit : TargetsInRange targets
 
--- The bytes are a payload, and a suffix with these identifiers and bcdDFU 011Ah (USB DFU 1.1, appendix B).
+-- The bytes are a payload, and a suffix with its identifiers and bcdDFU 011Ah (USB DFU 1.1, appendix B).
 pub record SuffixedFile (bytes : List ℕ) (s : Suffixed) : Type 0 where
   pub extra : List ℕ
-  pub spelled : bytes ≡ before_crc s.payload s.ids 0x011A extra ++ four (register (before_crc s.payload s.ids 0x011A extra))
+  pub spelled : bytes ≡ before_crc s.payload s.ids 0x011A extra ++ four_bytes_of (register (before_crc s.payload s.ids 0x011A extra))
   pub extra_fits : length extra ≤ 239
   pub device_fits : s.ids.device < 2 ^ 16
   pub product_fits : s.ids.product < 2 ^ 16
@@ -83,6 +85,6 @@ pub record IsDfuSe (f : DfuseContent) (bytes : List ℕ) : Type 0 where
   pub suffix : SuffixedFile bytes (record { payload = payload; ids = f.ids })
   pub body : IsBody f.targets (length bytes) payload
 
--- This is the first fault of bytes that are not a DfuSe file.
+-- First fault of bytes that are not a DfuSe file.
 abbrev pub FirstFileFault : FileFault → List ℕ → Type 0
 FirstFileFault fault bytes = file_at bytes ≡ Err fault

@@ -10,20 +10,20 @@ use Rattle.dfu_formats.specs.dfuse.Reading.{Target}
 use Rattle.dfu_formats.specs.dfuse.Found.{piece_of}
 
 -- A target that is handed out.
-abbrev pub handed_out : made.Target → Target
-handed_out t = record { setting = t.setting; named = t.named; name = t.name.now; elements = t.elements }
+abbrev pub handed_out_target : made.Target → Target
+handed_out_target t = record { setting = t.setting; named = t.named; name = t.name.now; elements = t.elements }
 
--- Each target is for this setting.
-unfoldable pub all_for : (setting : ℕ) → List Target → Bool
-all_for setting [] = true
-all_for setting (t ∷ ts) = (t.setting == setting) && all_for setting ts
+-- All targets are for the setting.
+unfoldable pub all_targets_for : (setting : ℕ) → List Target → Bool
+all_targets_for setting [] = true
+all_targets_for setting (t ∷ ts) = (t.setting == setting) && all_targets_for setting ts
 
 -- The setting that all targets are for.
 abbrev pub one_setting : List Target → Option ℕ
 one_setting [] = None
-one_setting (t ∷ ts) = if all_for t.setting ts then Some t.setting else None
+one_setting (t ∷ ts) = if all_targets_for t.setting ts then Some t.setting else None
 
--- A target is for this setting.
+-- A target for the setting is there.
 unfoldable pub has_setting : (setting : ℕ) → List Target → Bool
 has_setting setting [] = false
 has_setting setting (t ∷ ts) = (t.setting == setting) || has_setting setting ts
@@ -33,27 +33,27 @@ unfoldable pub elements_for : (setting : ℕ) → List Target → List Piece
 elements_for setting [] = []
 elements_for setting (t ∷ ts) = if t.setting == setting then t.elements ++ elements_for setting ts else elements_for setting ts
 
--- Fault for which there is no image of a setting in so many places.
+-- Fault for which a room for `room` elements gets no image of the setting.
 unfoldable pub image_fault : (room : ℕ) → (setting : ℕ) → List Target → Option ImageFault
 image_fault room setting targets =
     if not (has_setting setting targets) then Some NoSuchSetting
     else if nat_lt room (length (elements_for setting targets)) then Some TooManyElements
     else None
 
--- None begins before the one before it does; the first one not before this address.
+-- Each element begins at `from` or later, and not before the one before it.
 abbrev pub ascends_from : ℕ → List Element → Bool
 ascends_from start [] = true
 ascends_from start (e ∷ es) = nat_le start e.address && ascends_from e.address es
 
--- The first places have these elements, by their addresses.
+-- The first `count` places of the room have the wanted elements, by their addresses.
 pub record IsImage (wanted : List Piece) (count : ℕ) (room : List Element) : Type 0 where
   pub number : count ≡ length wanted
   pub within : count ≤ length room
   pub same : IsPermutation wanted (map piece_of (take count room))
   pub sorted : ascends_from 0 (take count room) ≡ true
 
--- These elements follow the first places of what was there, and so many are there then; or there is no room for them.
-abbrev pub ListsBehind : (from : ℕ) → List Piece → (old : List Element) → Option ℕ → (new : List Element) → Type 0
-ListsBehind from wanted old (Some count) new =
+-- The elements follow the first `from` places of the room, and the count includes them; or the room is too small for them.
+abbrev pub ElementsListedBehind : (from : ℕ) → List Piece → (old : List Element) → Option ℕ → (new : List Element) → Type 0
+ElementsListedBehind from wanted old (Some count) new =
     (count ≡ from + length wanted) × (count ≤ length new) × (map piece_of (take count new) ≡ map piece_of (take from old) ++ wanted)
-ListsBehind from wanted old None new = length old < from + length wanted
+ElementsListedBehind from wanted old None new = length old < from + length wanted

@@ -8,7 +8,7 @@ use Rattle.dfu_formats.specs.declared.dfuse.raw.RawFault.{RawFault}
 use Rattle.dfu_formats.specs.declared.dfuse.raw.RawFault.TheVariants.{TooLarge, BadLength, BadCrc, HasAddresses, Empty, AddressPastTheEnd}
 use Rattle.dfu_formats.specs.dfuse.Reading.{is_prefixed}
 
--- Refusal of a file with this fault of dfu_suffix, if it is refused.
+-- Refusal of a file for which dfu_suffix finds this fault; for some faults there is none.
 abbrev pub raw_refusal : SuffixFault → Option RawFault
 raw_refusal suffix.TooLarge = Some TooLarge
 raw_refusal suffix.BadLength = Some BadLength
@@ -17,14 +17,15 @@ raw_refusal suffix.DfuSe = Some HasAddresses
 raw_refusal other = None
 
 -- The whole file, unless it is refused.
-abbrev pub whole_or : List ℕ → Option RawFault → Result (List ℕ) RawFault
-whole_or bytes None = Ok bytes
-whole_or bytes (Some fault) = Err fault
+abbrev pub whole_file_or : List ℕ → Option RawFault → Result (List ℕ) RawFault
+whole_file_or bytes None = Ok bytes
+whole_file_or bytes (Some fault) = Err fault
 
--- Bytes before a suffix, by the first fault of dfu_suffix. A file that is too short for one, or isn't signed, has no suffix.
+-- Bytes before a suffix, by the first fault of dfu_suffix. A file without a suffix, because it is too short for one or isn't signed, is
+-- taken whole.
 unfoldable pub payload_by : Option SuffixFault → List ℕ → Result (List ℕ) RawFault
 payload_by None bytes = Ok (take (length bytes - slice_index (tail_of bytes) 11) bytes)
-payload_by (Some fault) bytes = whole_or bytes (raw_refusal fault)
+payload_by (Some fault) bytes = whole_file_or bytes (raw_refusal fault)
 
 -- A file begins with the letters DfuSe.
 abbrev pub has_prefix : List ℕ → Bool
@@ -38,11 +39,11 @@ placed_at address bytes =
     else if nat_lt (2 ^ 32) (address + length bytes) then Err AddressPastTheEnd
     else Ok (record { address = address; bytes = bytes })
 
--- The bytes that were read, at an address.
-abbrev pub raw_by : (address : ℕ) → Result (List ℕ) RawFault → Result Piece RawFault
-raw_by address (Err fault) = Err fault
-raw_by address (Ok bytes) = placed_at address bytes
+-- An element of the bytes that were read, at an address.
+abbrev pub raw_element_by : (address : ℕ) → Result (List ℕ) RawFault → Result Piece RawFault
+raw_element_by address (Err fault) = Err fault
+raw_element_by address (Ok bytes) = placed_at address bytes
 
 -- A file at an address, or its first fault.
-abbrev pub raw_at : (address : ℕ) → List ℕ → Result Piece RawFault
-raw_at address bytes = raw_by address (payload_by (find (has_fault bytes) fault_order) bytes)
+abbrev pub raw_element_at : (address : ℕ) → List ℕ → Result Piece RawFault
+raw_element_at address bytes = raw_element_by address (payload_by (find (has_fault bytes) fault_order) bytes)

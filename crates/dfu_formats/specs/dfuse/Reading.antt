@@ -23,12 +23,12 @@ number_at place bytes = from_le_bytes w32 (take 4 (drop place bytes))
 -- ---- an element
 
 -- An element, and the bytes after it.
-pub record Split : Type 0 where
+pub record SplitElement : Type 0 where
   pub element : Piece
   pub rest : List ℕ
 
--- An element at the front: its address, its size, and so many bytes.
-unfoldable pub front_element : List ℕ → Result Split FileFault
+-- An element at the front of bytes: its address, its size, and its bytes.
+unfoldable pub front_element : List ℕ → Result SplitElement FileFault
 front_element bytes =
     if nat_lt (length bytes) 8 then Err ElementPastTheTarget
     else if nat_lt (length (drop 8 bytes)) (number_at 4 bytes) then Err ElementPastTheTarget
@@ -40,14 +40,14 @@ front_element bytes =
     })
 
 -- An element before others.
-abbrev pub before_elements : Piece → Result (List Piece) FileFault → Result (List Piece) FileFault
-before_elements element more = more >>= λ elements. Ok (element ∷ elements)
+abbrev pub element_before_others : Piece → Result (List Piece) FileFault → Result (List Piece) FileFault
+element_before_others element more = more >>= λ elements. Ok (element ∷ elements)
 
--- So many elements, and nothing after them.
+-- `count` elements, and nothing after them.
 unfoldable pub elements_at : (count : ℕ) → List ℕ → Result (List Piece) FileFault
 elements_at zero [] = Ok []
 elements_at zero (b ∷ bytes) = Err BadTargetSize
-elements_at (suc n) bytes = front_element bytes >>= λ s. before_elements s.element (elements_at n s.rest)
+elements_at (suc n) bytes = front_element bytes >>= λ s. element_before_others s.element (elements_at n s.rest)
 
 -- ---- a target
 
@@ -63,7 +63,7 @@ abbrev pub is_target : List ℕ → Bool
 is_target b = (slice_index b 0 == 84) && ((slice_index b 1 == 97) && ((slice_index b 2 == 114) && ((slice_index b 3 == 103)
     && ((slice_index b 4 == 101) && (slice_index b 5 == 116)))))
 
--- Fields of a target before its elements, the bytes of these, and the bytes after the target.
+-- Fields of a target before its elements, the bytes of the elements, and the bytes after the target.
 pub record Heading : Type 0 where
   pub setting : ℕ
   pub named : ℕ
@@ -87,22 +87,22 @@ heading_at bytes =
       rest = drop (number_at 266 bytes) (drop 274 bytes);
     })
 
--- A target with these elements.
-abbrev pub target_of : Heading → List Piece → Target
-target_of h elements = record { setting = h.setting; named = h.named; name = h.name; elements = elements }
+-- A target of a heading and its elements.
+abbrev pub target_with_elements : Heading → List Piece → Target
+target_with_elements h elements = record { setting = h.setting; named = h.named; name = h.name; elements = elements }
 
 -- A target before others.
-abbrev pub before_targets : Target → Result (List Target) FileFault → Result (List Target) FileFault
-before_targets target more = more >>= λ targets. Ok (target ∷ targets)
+abbrev pub target_before_others : Target → Result (List Target) FileFault → Result (List Target) FileFault
+target_before_others target more = more >>= λ targets. Ok (target ∷ targets)
 
--- So many targets, each with its elements, and nothing after them.
+-- `count` targets, each with its elements, and nothing after them.
 unfoldable pub targets_at : (count : ℕ) → List ℕ → Result (List Target) FileFault
 targets_at zero [] = Ok []
 targets_at zero (b ∷ bytes) = Err Trailing
 targets_at (suc n) bytes =
     heading_at bytes
     >>= λ h. elements_at h.count h.content
-    >>= λ elements. before_targets (target_of h elements) (targets_at n h.rest)
+    >>= λ elements. target_before_others (target_with_elements h elements) (targets_at n h.rest)
 
 -- ---- the prefix
 
@@ -145,22 +145,22 @@ abbrev pub is_dfuse : SuffixFault → Bool
 is_dfuse suffix.DfuSe = true
 is_dfuse other = false
 
--- Fault for which a file with another fault is not a DfuSe file; if its CRC is wrong, it is of another version.
-abbrev pub refusal : SuffixFault → FileFault
-refusal suffix.TooLarge = TooLarge
-refusal suffix.TooShort = TooShort
-refusal suffix.NoSignature = NoSignature
-refusal suffix.BadLength = BadLength
-refusal other = NotDfuSe
+-- Refusal of a file with another fault than `DfuSe`; a wrong CRC says that the file is of another version.
+abbrev pub suffix_refusal : SuffixFault → FileFault
+suffix_refusal suffix.TooLarge = TooLarge
+suffix_refusal suffix.TooShort = TooShort
+suffix_refusal suffix.NoSignature = NoSignature
+suffix_refusal suffix.BadLength = BadLength
+suffix_refusal other = NotDfuSe
 
 -- A suffix with bcdDFU 011Ah, whose CRC is looked at.
-abbrev pub signed_by : List ℕ → Result Suffixed FileFault
-signed_by bytes = if has_fault bytes suffix.BadCrc then Err BadCrc else Ok (suffixed_by bytes)
+abbrev pub suffix_with_checked_crc : List ℕ → Result Suffixed FileFault
+suffix_with_checked_crc bytes = if has_fault bytes suffix.BadCrc then Err BadCrc else Ok (suffixed_by bytes)
 
 -- The suffix, by the first fault of dfu_suffix.
 unfoldable pub suffix_by : Option SuffixFault → List ℕ → Result Suffixed FileFault
 suffix_by None bytes = Err NotDfuSe
-suffix_by (Some fault) bytes = if is_dfuse fault then signed_by bytes else Err (refusal fault)
+suffix_by (Some fault) bytes = if is_dfuse fault then suffix_with_checked_crc bytes else Err (suffix_refusal fault)
 
 abbrev pub suffix_at : List ℕ → Result Suffixed FileFault
 suffix_at bytes = suffix_by (find (has_fault bytes) fault_order) bytes
@@ -172,10 +172,10 @@ pub record DfuseContent : Type 0 where
   pub ids : Ids
   pub targets : List Target
 
--- A file of these targets.
-abbrev pub of_targets : Ids → Result (List Target) FileFault → Result DfuseContent FileFault
-of_targets ids targets = targets >>= λ ts. Ok (record { ids = ids; targets = ts })
+-- A file of targets, or their fault.
+abbrev pub file_of_targets : Ids → Result (List Target) FileFault → Result DfuseContent FileFault
+file_of_targets ids targets = targets >>= λ ts. Ok (record { ids = ids; targets = ts })
 
--- A file, or its first fault.
+-- A DfuSe file, or its first fault.
 unfoldable pub file_at : List ℕ → Result DfuseContent FileFault
-file_at bytes = suffix_at bytes >>= λ s. of_targets s.ids (body_at (length bytes) s.payload)
+file_at bytes = suffix_at bytes >>= λ s. file_of_targets s.ids (body_at (length bytes) s.payload)

@@ -3,7 +3,7 @@ use Rattle.std.specs.Prelude.{ℕ, ◌+◌, ◌/◌, ◌%◌, ◌^◌, ◌==◌,
 use Rattle.dfu_formats.specs.declared.images.fault.ImageFault.{ImageFault}
 use Rattle.dfu_formats.specs.declared.images.fault.ImageFault.TheVariants.{BadSize, BadMagic, BadBlock, BadNumber, FileContainer, OtherFamily, PastTheEnd}
 use Rattle.dfu_formats.specs.images.Numbers.{le32}
-use Rattle.dfu_formats.specs.images.Elements.{Piece, Gathering, added, elements_by_part}
+use Rattle.dfu_formats.specs.images.Elements.{Piece, Gathering, bytes_added, elements_by_part}
 
 -- The three marks of a block.
 abbrev pub is_uf2_block : List ℕ → Bool
@@ -18,13 +18,13 @@ abbrev pub family_of : List ℕ → ℕ
 family_of block = if has_flag block 0x2000 then le32 block 28 else 0
 
 -- The data of a block goes to its address; a block that isn't for the main flash says nothing.
-unfoldable pub flashed : (family index : ℕ) → Gathering → List ℕ → Result Gathering ImageFault
-flashed family index g block =
+unfoldable pub block_gathered : (family index : ℕ) → Gathering → List ℕ → Result Gathering ImageFault
+block_gathered family index g block =
     if has_flag block 1 then Ok g
     else if has_flag block 0x1000 then Err (FileContainer index)
     else if not (family_of block == family) then Err (OtherFamily index)
     else if nat_lt (2 ^ 32) (le32 block 12 + le32 block 16) then Err (PastTheEnd index)
-    else added index g (record { address = le32 block 12; bytes = take (le32 block 16) (drop 32 block) })
+    else bytes_added index g (record { address = le32 block 12; bytes = take (le32 block 16) (drop 32 block) })
 
 -- A block has its marks, up to 476 bytes of data, its number, and the count of all.
 unfoldable pub block_read : (total family index : ℕ) → Gathering → List ℕ → Result Gathering ImageFault
@@ -32,9 +32,9 @@ block_read total family index g block =
     if not (is_uf2_block block) then Err (BadMagic index)
     else if nat_lt 476 (le32 block 16) then Err (BadBlock index)
     else if not ((le32 block 20 == index) && (le32 block 24 == total)) then Err (BadNumber index)
-    else flashed family index g block
+    else block_gathered family index g block
 
--- The elements that a file has, or its first fault. It is for the family that its first block names.
+-- The elements of a UF2 file, or its first fault. The file is for the family that its first block names.
 unfoldable pub uf2_elements_of : List ℕ → Result (List Piece) ImageFault
 uf2_elements_of file =
     if (length file == 0) || not (length file % 512 == 0) then Err BadSize

@@ -2,7 +2,7 @@
 use Rattle.std.specs.Prelude.{ℕ, ◌+◌, ◌-◌, ◌*◌, ◌&&◌, nat_lt, nat_le, if◌then◌else◌, List, [], ◌∷◌, length, Option, Some, None, Result, Err}
 use Rattle.dfu_formats.specs.declared.images.fault.ImageFault.{ImageFault}
 use Rattle.dfu_formats.specs.declared.images.fault.ImageFault.TheVariants.{BadDigit, BadLength}
-use Rattle.dfu_formats.specs.images.Reading.{or}
+use Rattle.dfu_formats.specs.images.Reading.{image_value_or}
 
 -- The value of a digit of either case; 16 for a byte that is not a digit.
 abbrev pub hex_value : ℕ → ℕ
@@ -12,17 +12,19 @@ hex_value b =
     else if nat_le 65 b && nat_le b 70 then b - 55
     else 16
 
--- A byte before others, if the others are there.
-abbrev pub before : ℕ → Option (List ℕ) → Option (List ℕ)
-before b None = None
-before b (Some bs) = Some (b ∷ bs)
+-- A byte before the bytes of the other pairs, if those spell bytes.
+abbrev pub byte_before_pairs : ℕ → Option (List ℕ) → Option (List ℕ)
+byte_before_pairs b None = None
+byte_before_pairs b (Some bs) = Some (b ∷ bs)
 
 -- The bytes that digits spell, two digits for each, the high one first.
-unfoldable pub pairs : List ℕ → Option (List ℕ)
-pairs [] = Some []
-pairs (a ∷ []) = None
-pairs (a ∷ b ∷ bs) = if nat_lt (hex_value a) 16 && nat_lt (hex_value b) 16 then before (16 * hex_value a + hex_value b) (pairs bs) else None
+unfoldable pub bytes_of_pairs : List ℕ → Option (List ℕ)
+bytes_of_pairs [] = Some []
+bytes_of_pairs (a ∷ []) = None
+bytes_of_pairs (a ∷ b ∷ bs) =
+    if nat_lt (hex_value a) 16 && nat_lt (hex_value b) 16 then byte_before_pairs (16 * hex_value a + hex_value b) (bytes_of_pairs bs) else
+    None
 
--- The bytes of a record, of which there are 260 at most.
+-- The bytes of a record, at most 260.
 unfoldable pub bytes_at : (at : ℕ) → List ℕ → Result (List ℕ) ImageFault
-bytes_at at digits = if nat_lt 520 (length digits) then Err (BadLength at) else or (BadDigit at) (pairs digits)
+bytes_at at digits = if nat_lt 520 (length digits) then Err (BadLength at) else image_value_or (BadDigit at) (bytes_of_pairs digits)

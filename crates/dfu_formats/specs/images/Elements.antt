@@ -15,77 +15,77 @@ pub record Piece : Type 0 where
 abbrev pub end_of_piece : Piece → ℕ
 end_of_piece p = p.address + length p.bytes
 
--- Elements that are complete, by address; the one that still grows, which has no byte at first; and how many bytes all have.
+-- Elements that are complete, by address; the element that still grows, which has no byte at first; and the number of bytes of all.
 pub record Gathering : Type 0 where
   pub complete : List Piece
   pub growing : Piece
   pub total : ℕ
 
--- Nothing yet.
-abbrev pub nothing : Gathering
-nothing = record { complete = []; growing = record { address = 0; bytes = [] }; total = 0 }
+-- Nothing is gathered yet.
+abbrev pub empty_gathering : Gathering
+empty_gathering = record { complete = []; growing = record { address = 0; bytes = [] }; total = 0 }
 
--- Number of elements that have an address up to that of this one, counted from the front.
+-- Number of elements, counted from the front, that begin at the address or before it.
 unfoldable pub element_place : (address : ℕ) → List Piece → ℕ
 element_place address [] = 0
 element_place address (q ∷ qs) = if nat_lt address q.address then 0 else suc (element_place address qs)
 
 -- An element among others by its address.
-abbrev pub placed : Piece → List Piece → List Piece
-placed p qs = insert qs (element_place p.address qs) p
+abbrev pub elements_with_inserted : Piece → List Piece → List Piece
+elements_with_inserted p qs = insert qs (element_place p.address qs) p
 
--- The elements once the one that grows is complete.
-unfoldable pub completed : List Piece → (growing : Piece) → List Piece
-completed complete p = if length p.bytes == 0 then complete else placed p complete
+-- The elements once the growing one is complete.
+unfoldable pub completed_elements : List Piece → (growing : Piece) → List Piece
+completed_elements complete p = if length p.bytes == 0 then complete else elements_with_inserted p complete
 
--- Bytes begin an element, of which there are 1,024 at most.
-unfoldable pub begun : (at total : ℕ) → (complete : List Piece) → Piece → Result Gathering ImageFault
-begun at total complete p =
+-- Bytes begin an element; there may be 1,024 elements.
+unfoldable pub element_begun : (at total : ℕ) → (complete : List Piece) → Piece → Result Gathering ImageFault
+element_begun at total complete p =
     if nat_le 1024 (length complete) then Err (TooManyElements at)
     else Ok (record { complete = complete; growing = p; total = total })
 
--- Bytes that begin where the last ones end belong to their element, and others begin one.
-unfoldable pub grown : (at : ℕ) → Gathering → Piece → Result Gathering ImageFault
-grown at g p =
+-- Bytes that begin where the last ones end join their element, and others begin one.
+unfoldable pub element_grown : (at : ℕ) → Gathering → Piece → Result Gathering ImageFault
+element_grown at g p =
     if end_of_piece g.growing == p.address then Ok (record {
       complete = g.complete;
       growing = record { address = g.growing.address; bytes = g.growing.bytes ++ p.bytes };
       total = g.total + length p.bytes;
     })
-    else begun at (g.total + length p.bytes) (completed g.complete g.growing) p
+    else element_begun at (g.total + length p.bytes) (completed_elements g.complete g.growing) p
 
--- Bytes at an address, of which all together may have 16,777,216. No bytes change nothing.
-unfoldable pub added : (at : ℕ) → Gathering → Piece → Result Gathering ImageFault
-added at g p =
+-- Bytes are added at an address; all together may have 16,777,216. No bytes change nothing.
+unfoldable pub bytes_added : (at : ℕ) → Gathering → Piece → Result Gathering ImageFault
+bytes_added at g p =
     if length p.bytes == 0 then Ok g
     else if nat_lt 16777216 (g.total + length p.bytes) then Err (TooLarge at)
-    else grown at g p
+    else element_grown at g p
 
 -- The first address that lies before the end of the element before it.
-unfoldable pub shared : (end : ℕ) → List Piece → Option ℕ
-shared end [] = None
-shared end (p ∷ ps) = if nat_lt p.address end then Some p.address else shared (end_of_piece p) ps
+unfoldable pub shared_address : (end : ℕ) → List Piece → Option ℕ
+shared_address end [] = None
+shared_address end (p ∷ ps) = if nat_lt p.address end then Some p.address else shared_address (end_of_piece p) ps
 
 -- Elements that share no address.
-abbrev pub unless_shared : List Piece → Option ℕ → Result (List Piece) ImageFault
-unless_shared all None = Ok all
-unless_shared all (Some address) = Err (Overlaps address)
+abbrev pub elements_unless_shared : List Piece → Option ℕ → Result (List Piece) ImageFault
+elements_unless_shared all None = Ok all
+elements_unless_shared all (Some address) = Err (Overlaps address)
 
--- The elements of all that was gathered, no two of which share an address.
-unfoldable pub gathered : Gathering → Result (List Piece) ImageFault
-gathered g = let all = completed g.complete g.growing in unless_shared all (shared 0 all)
+-- The elements of what was gathered, of which no two share an address.
+unfoldable pub gathered_elements : Gathering → Result (List Piece) ImageFault
+gathered_elements g = let all = completed_elements g.complete g.growing in elements_unless_shared all (shared_address 0 all)
 
--- The elements that so many parts of this size have, or their first fault.
+-- The elements of a file of `total` parts of `size` bytes, or its first fault.
 abbrev pub elements_by_part : (size : ℕ) → (read : ℕ → Gathering → List ℕ → Result Gathering ImageFault) → (total : ℕ) → List ℕ →
     Result (List Piece) ImageFault
-elements_by_part size read total bytes = parts_read size read total 0 nothing bytes >>= gathered
+elements_by_part size read total bytes = parts_read size read total 0 empty_gathering bytes >>= gathered_elements
 
--- Elements by address, each of which begins at this one or after it, and at the end of the one before or after that.
+-- Each element begins at `from` or later, and at the end of the one before it or later.
 unfoldable pub AreApart : (from : ℕ) → List Piece → Type 0
 AreApart from [] = Unit {0}
 AreApart from (p ∷ ps) = (from ≤ p.address) × AreApart (end_of_piece p) ps
 
--- A call gives these elements, unless memory ran out.
-abbrev pub Lists : Result (Vec Piece Global) ImageFault → Result (List Piece) ImageFault → Type 0
-Lists (Ok elements) read = read ≡ Ok elements.items
-Lists (Err fault) read = FailsToRead fault read
+-- A call gives the elements or their fault, unless memory ran out.
+abbrev pub GivesElements : Result (Vec Piece Global) ImageFault → Result (List Piece) ImageFault → Type 0
+GivesElements (Ok elements) read = read ≡ Ok elements.items
+GivesElements (Err fault) read = FailsToRead fault read

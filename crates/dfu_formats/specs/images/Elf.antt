@@ -3,7 +3,7 @@ use Rattle.std.specs.Prelude.{ℕ, ◌+◌, ◌*◌, ◌^◌, ◌==◌, ◌&&◌
 use Rattle.dfu_formats.specs.declared.images.fault.ImageFault.{ImageFault}
 use Rattle.dfu_formats.specs.declared.images.fault.ImageFault.TheVariants.{NotElf, CutHeader, CutSegment, PastTheEnd}
 use Rattle.dfu_formats.specs.images.Numbers.{le16, le32}
-use Rattle.dfu_formats.specs.images.Elements.{Piece, Gathering, nothing, added, gathered, elements_by_part}
+use Rattle.dfu_formats.specs.images.Elements.{Piece, Gathering, empty_gathering, bytes_added, gathered_elements, elements_by_part}
 
 -- The header of 52 bytes, its mark, and 1 each for 32 bits, little endian and the version.
 abbrev pub is_elf : List ℕ → Bool
@@ -17,16 +17,16 @@ segment_read file index g header =
     if not (le32 header 0 == 1) || (le32 header 16 == 0) then Ok g
     else if nat_lt (length file) (le32 header 4 + le32 header 16) then Err (CutSegment index)
     else if nat_lt (2 ^ 32) (le32 header 12 + le32 header 16) then Err (PastTheEnd index)
-    else added index g (record { address = le32 header 12; bytes = take (le32 header 16) (drop (le32 header 4) file) })
+    else bytes_added index g (record { address = le32 header 12; bytes = take (le32 header 16) (drop (le32 header 4) file) })
 
 -- The program headers of 32 bytes, which the file has whole.
-abbrev pub has_headers : List ℕ → Bool
-has_headers file = (le16 file 42 == 32) && not (nat_lt (length file) (le32 file 28 + 32 * le16 file 44))
+abbrev pub has_program_headers : List ℕ → Bool
+has_program_headers file = (le16 file 42 == 32) && not (nat_lt (length file) (le32 file 28 + 32 * le16 file 44))
 
--- The elements that a file has, or its first fault. A file without program headers has no elements.
+-- The elements of an ELF file, or its first fault. A file without program headers has no elements.
 unfoldable pub elf_elements_of : List ℕ → Result (List Piece) ImageFault
 elf_elements_of file =
     if not (is_elf file) then Err NotElf
-    else if le16 file 44 == 0 then gathered nothing
-    else if not (has_headers file) then Err CutHeader
+    else if le16 file 44 == 0 then gathered_elements empty_gathering
+    else if not (has_program_headers file) then Err CutHeader
     else elements_by_part 32 (segment_read file) (le16 file 44) (drop (le32 file 28) file)

@@ -9,7 +9,7 @@ use Rattle.dfu_formats.specs.declared.images.endings.Ending.TheVariants.{Of, Dfu
 unfoldable pub ends_in : (ending name : List ℕ) → Bool
 ends_in ending name = str_eq_ignore_ascii_case (drop (length name - length ending) name) ending
 
--- Format that the name's ending says: one that builds produce, or a DFU file.
+-- Format that the ending of a name says: a format that builds produce, or a DFU file.
 abbrev pub name_ending : List ℕ → Option Ending
 name_ending name =
     if ends_in (codes ".dfu") name then Some Dfu

@@ -5,7 +5,7 @@ use Rattle.dfu_formats.specs.declared.images.fault.ImageFault.TheVariants.{NoMar
 use Rattle.dfu_formats.specs.images.Reading.{◌>>=◌}
 use Rattle.dfu_formats.specs.images.Digits.{bytes_at}
 use Rattle.dfu_formats.specs.images.Lines.{State, elements_by_line}
-use Rattle.dfu_formats.specs.images.Elements.{Piece, added}
+use Rattle.dfu_formats.specs.images.Elements.{Piece, bytes_added}
 
 -- The bytes of a record: `:`, and two digits for each.
 unfoldable pub hex_spelled : (at : ℕ) → List ℕ → Result (List ℕ) ImageFault
@@ -18,7 +18,8 @@ pub record HexRecord : Type 0 where
   pub kind : ℕ
   pub content : List ℕ
 
--- A record of a count, an offset of two bytes, a type, so many bytes, and a checksum by which all bytes together make 0.
+-- A record of a count, an offset of two bytes, a type, as many bytes of data as the count says, and a checksum by which all bytes
+-- together make 0.
 unfoldable pub hex_framed : (at : ℕ) → List ℕ → Result HexRecord ImageFault
 hex_framed at bytes =
     if not (length bytes == slice_index bytes 0 + 5) then Err (BadLength at)
@@ -37,11 +38,11 @@ leaves_segment s r = s.is_segment && nat_lt 65536 (r.offset + length r.content)
 unfoldable pub hex_data_at : (at : ℕ) → State → HexRecord → Result State ImageFault
 hex_data_at at s r =
     if leaves_segment s r || nat_lt (2 ^ 32) (s.base + r.offset + length r.content) then Err (PastSegment at)
-    else added at s.gathering (record { address = s.base + r.offset; bytes = r.content }) >>= λ g. Ok (record s { gathering = g })
+    else bytes_added at s.gathering (record { address = s.base + r.offset; bytes = r.content }) >>= λ g. Ok (record s { gathering = g })
 
--- A new base: two bytes, in units of so many addresses. In units of 16 it is a segment.
-unfoldable pub based : (at unit : ℕ) → State → HexRecord → Result State ImageFault
-based at unit s r =
+-- A record sets a new base: two bytes, in units of `unit` addresses. In units of 16 the base is a segment.
+unfoldable pub state_with_base : (at unit : ℕ) → State → HexRecord → Result State ImageFault
+state_with_base at unit s r =
     if length r.content == 2 then Ok (record s {
       base = unit * (256 * slice_index r.content 0 + slice_index r.content 1);
       is_segment = unit == 16;
@@ -54,8 +55,8 @@ hex_meant at s r =
     if r.kind == 0 then hex_data_at at s r
     else if r.kind == 1 then
     if length r.content == 0 then Ok (record s { is_whole = true; is_ended = true }) else Err (BadLength at)
-    else if r.kind == 2 then based at 16 s r
-    else if r.kind == 4 then based at 65536 s r
+    else if r.kind == 2 then state_with_base at 16 s r
+    else if r.kind == 4 then state_with_base at 65536 s r
     else if (r.kind == 3) || (r.kind == 5) then if length r.content == 4 then Ok s else Err (BadLength at)
     else Err (BadType at)
 
@@ -63,6 +64,6 @@ hex_meant at s r =
 unfoldable pub hex_record_read : (at : ℕ) → State → List ℕ → Result State ImageFault
 hex_record_read at s line = hex_spelled at line >>= hex_framed at >>= hex_meant at s
 
--- The elements that a file has, or its first fault.
+-- The elements of an Intel HEX file, or its first fault.
 unfoldable pub hex_elements_of : List ℕ → Result (List Piece) ImageFault
 hex_elements_of = elements_by_line hex_record_read

@@ -4,30 +4,30 @@ use Rattle.dfu_formats.specs.declared.images.fault.ImageFault.{ImageFault}
 use Rattle.dfu_formats.specs.declared.images.fault.ImageFault.TheVariants.{Trailing, NoEnd}
 use Rattle.std.specs.List.{list_all, suffix_len}
 use Rattle.dfu_formats.specs.images.Reading.{◌>>=◌}
-use Rattle.dfu_formats.specs.images.Text.{is_blank_byte, unblanked, unmarked}
-use Rattle.dfu_formats.specs.images.Elements.{Piece, Gathering, nothing, gathered}
+use Rattle.dfu_formats.specs.images.Text.{is_blank_byte, without_leading_blanks, without_order_mark}
+use Rattle.dfu_formats.specs.images.Elements.{Piece, Gathering, empty_gathering, gathered_elements}
 
--- A byte before the first line.
-abbrev pub before_lines : ℕ → List (List ℕ) → List (List ℕ)
-before_lines b [] = (b ∷ []) ∷ []
-before_lines b (line ∷ lines) = (b ∷ line) ∷ lines
+-- A byte at the front of the first line.
+abbrev pub byte_before_lines : ℕ → List (List ℕ) → List (List ℕ)
+byte_before_lines b [] = (b ∷ []) ∷ []
+byte_before_lines b (line ∷ lines) = (b ∷ line) ∷ lines
 
 -- Texts between line feeds, which may be empty.
 unfoldable pub lines : List ℕ → List (List ℕ)
 lines [] = [] ∷ []
-lines (b ∷ bs) = if b == 10 then [] ∷ lines bs else before_lines b (lines bs)
+lines (b ∷ bs) = if b == 10 then [] ∷ lines bs else byte_before_lines b (lines bs)
 
 -- A line feed.
-abbrev pub is_feed : ℕ → Bool
-is_feed b = b == 10
+abbrev pub is_line_feed : ℕ → Bool
+is_line_feed b = b == 10
 
 -- Bytes without the blanks at their end.
-abbrev pub to_last : List ℕ → List ℕ
-to_last bytes = take (length bytes - suffix_len is_blank_byte bytes) bytes
+abbrev pub without_trailing_blanks : List ℕ → List ℕ
+without_trailing_blanks bytes = take (length bytes - suffix_len is_blank_byte bytes) bytes
 
 -- A line without the blanks at its ends.
-unfoldable pub bare : List ℕ → List ℕ
-bare line = to_last (unblanked line)
+unfoldable pub bare_line : List ℕ → List ℕ
+bare_line line = without_trailing_blanks (without_leading_blanks line)
 
 -- State of the reading up to a line: the elements, what Intel HEX counts offsets from, whether that is a segment of 65,536 bytes, how many
 -- S-records of data there were, whether the text may end here, and whether it ended.
@@ -39,11 +39,18 @@ pub record State : Type 0 where
   pub is_whole : Bool
   pub is_ended : Bool
 
--- Before the first line.
-abbrev pub text_start : State
-text_start = record { gathering = nothing; base = 0; is_segment = false; count = 0; is_whole = false; is_ended = false }
+-- State before the first line.
+abbrev pub state_before_first_line : State
+state_before_first_line = record {
+  gathering = empty_gathering;
+  base = 0;
+  is_segment = false;
+  count = 0;
+  is_whole = false;
+  is_ended = false;
+}
 
--- A line: a record, or blanks alone, or nothing. After the end there is no record.
+-- A line is a record, or blanks alone, or empty. After the end no record may follow.
 unfoldable pub line_read : (record_read : ℕ → State → List ℕ → Result State ImageFault) → (at : ℕ) → State → List ℕ →
     Result State ImageFault
 line_read record_read at s line =
@@ -51,12 +58,13 @@ line_read record_read at s line =
     else if s.is_ended then Err (Trailing at)
     else record_read at s line
 
--- Lines, the first of which has this number, are read one after the other, up to a place at which the text may end.
+-- Lines are read one after the other, the first of which has the number `at`; behind the last one the text must be whole.
 unfoldable pub lines_read : (read : ℕ → State → List ℕ → Result State ImageFault) → (at : ℕ) → State → List (List ℕ) →
     Result State ImageFault
 lines_read read at s [] = if s.is_whole then Ok s else Err NoEnd
-lines_read read at s (line ∷ more) = read at s (bare line) >>= λ t. lines_read read (at + 1) t more
+lines_read read at s (line ∷ more) = read at s (bare_line line) >>= λ t. lines_read read (at + 1) t more
 
--- The elements that a text has, behind its byte order mark, or its first fault.
+-- The elements of a text, behind its byte order mark, or its first fault.
 abbrev pub elements_by_line : (record_read : ℕ → State → List ℕ → Result State ImageFault) → List ℕ → Result (List Piece) ImageFault
-elements_by_line record_read text = lines_read (line_read record_read) 1 text_start (lines (unmarked text)) >>= λ s. gathered s.gathering
+elements_by_line record_read text =
+    lines_read (line_read record_read) 1 state_before_first_line (lines (without_order_mark text)) >>= λ s. gathered_elements s.gathering

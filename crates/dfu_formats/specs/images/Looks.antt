@@ -2,7 +2,7 @@
 use Rattle.std.specs.Prelude.{ℕ, ◌==◌, ◌&&◌, ◌||◌, nat_le, nat_lt, nat_eq, Bool, false, if◌then◌else◌, List, [], ◌∷◌, codes, Option, Some, None}
 use Rattle.std.specs.List.{starts_with}
 use Rattle.dfu_formats.specs.images.Digits.{hex_value}
-use Rattle.dfu_formats.specs.images.Text.{unmarked, unblanked, is_text}
+use Rattle.dfu_formats.specs.images.Text.{without_order_mark, without_leading_blanks, is_text}
 use Rattle.dfu_formats.specs.images.Endings.{name_ending}
 use Rattle.dfu_formats.specs.images.Places.{bad_place}
 use Rattle.dfu_formats.specs.declared.images.format.Format.TheVariants.{IntelHex, SRecord, Uf2, Elf}
@@ -14,8 +14,8 @@ use Rattle.dfu_formats.specs.declared.images.looks.Looks.TheVariants as looks
 use Rattle.dfu_formats.specs.declared.images.looks.Look.{Look}
 
 -- The file begins with these bytes.
-abbrev pub begins : (front file : List ℕ) → Bool
-begins front file = starts_with nat_eq file front
+abbrev pub file_begins : (front file : List ℕ) → Bool
+file_begins front file = starts_with nat_eq file front
 
 -- The first two bytes are hexadecimal digits.
 abbrev pub has_digits : List ℕ → Bool
@@ -37,28 +37,28 @@ abbrev pub looks_by_name : Option Ending → Looks
 looks_by_name None = looks.Raw
 looks_by_name (Some ending) = looks.Other (Named ending)
 
--- Look of a file: the first of these that holds, and else what its name says.
+-- Look of a file: the first format whose mark its bytes have, and else what its name says.
 abbrev pub looks_of : (file : List ℕ) → (ending : Option Ending) → Looks
 looks_of file ending =
-    if begins (codes "DfuSe") file then looks.Other DfuSe
-    else if begins_ihex file (unblanked (unmarked file)) then looks.Of IntelHex
-    else if begins_srec (unblanked (unmarked file)) then looks.Of SRecord
-    else if begins (85 ∷ 70 ∷ 50 ∷ 10 ∷ []) file then looks.Of Uf2
-    else if begins (127 ∷ 69 ∷ 76 ∷ 70 ∷ []) file then looks.Of Elf
-    else if begins (80 ∷ 75 ∷ 3 ∷ 4 ∷ []) file then looks.Other Zip
-    else if begins (31 ∷ 139 ∷ []) file then looks.Other Gzip
+    if file_begins (codes "DfuSe") file then looks.Other DfuSe
+    else if begins_ihex file (without_leading_blanks (without_order_mark file)) then looks.Of IntelHex
+    else if begins_srec (without_leading_blanks (without_order_mark file)) then looks.Of SRecord
+    else if file_begins (85 ∷ 70 ∷ 50 ∷ 10 ∷ []) file then looks.Of Uf2
+    else if file_begins (127 ∷ 69 ∷ 76 ∷ 70 ∷ []) file then looks.Of Elf
+    else if file_begins (80 ∷ 75 ∷ 3 ∷ 4 ∷ []) file then looks.Other Zip
+    else if file_begins (31 ∷ 139 ∷ []) file then looks.Other Gzip
     else if is_text file then looks.Other Text
     else looks_by_name ending
 
--- The first byte that no record has there, of a file that looks like one of a format of text.
-abbrev pub bad_of : Looks → (file : List ℕ) → Option Place
-bad_of (looks.Of format) file = bad_place format file
-bad_of other file = None
+-- The first byte that no record has at its place, in a file that looks like a format of text.
+abbrev pub bad_place_of_look : Looks → (file : List ℕ) → Option Place
+bad_place_of_look (looks.Of format) file = bad_place format file
+bad_place_of_look other file = None
 
--- A look at a file: what it is, what its name says, and its first byte that no record has there.
-abbrev pub look_of : (file name : List ℕ) → Look
-look_of file name = record {
+-- A look at a file: its format, what its name says, and its first byte that no record has at its place.
+abbrev pub look_at_file : (file name : List ℕ) → Look
+look_at_file file name = record {
   looks = looks_of file (name_ending name);
   ending = name_ending name;
-  bad = bad_of (looks_of file (name_ending name)) file;
+  bad = bad_place_of_look (looks_of file (name_ending name)) file;
 }

@@ -1,34 +1,35 @@
--- The first byte of a text of records that no record has there.
+-- The first byte of a text of records that no record has at its place.
 use Rattle.std.specs.Prelude.{ℕ, ◌+◌, ◌==◌, nat_lt, if◌then◌else◌, List, [], ◌∷◌, Option, Some, None}
 use Rattle.dfu_formats.specs.images.Digits.{hex_value}
-use Rattle.dfu_formats.specs.images.Text.{is_blank_byte, unmarked}
+use Rattle.dfu_formats.specs.images.Text.{is_blank_byte, without_order_mark}
 use Rattle.dfu_formats.specs.declared.images.format.Format.{Format}
 use Rattle.dfu_formats.specs.declared.images.format.Format.TheVariants.{IntelHex, SRecord, Uf2, Elf}
 use Rattle.dfu_formats.specs.declared.images.places.Part.{Part}
 use Rattle.dfu_formats.specs.declared.images.places.Part.TheVariants.{Front, Digits, Back}
 use Rattle.dfu_formats.specs.declared.images.places.Place.{Place}
 
--- The part of a line that a byte leads to, if a record has such a byte there. A line is blanks, the mark, digits, and blanks.
-abbrev pub led_to : (mark : ℕ) → Part → ℕ → Option Part
-led_to mark Front b = if is_blank_byte b then Some Front else if b == mark then Some Digits else None
-led_to mark Digits b = if nat_lt (hex_value b) 16 then Some Digits else if is_blank_byte b then Some Back else None
-led_to mark Back b = if is_blank_byte b then Some Back else None
+-- Part of a line after a byte, if a record has such a byte in the part. A line is blanks, the mark, digits, and blanks.
+abbrev pub part_after_byte : (mark : ℕ) → Part → ℕ → Option Part
+part_after_byte mark Front b = if is_blank_byte b then Some Front else if b == mark then Some Digits else None
+part_after_byte mark Digits b = if nat_lt (hex_value b) 16 then Some Digits else if is_blank_byte b then Some Back else None
+part_after_byte mark Back b = if is_blank_byte b then Some Back else None
 
--- A byte that no record has there is the answer; behind any other the search goes on, in the part that it leads to.
-abbrev pub place_or : Place → (part : Option Part) → (more : Part → Option Place) → Option Place
-place_or place None more = Some place
-place_or place (Some part) more = more part
+-- The place of a byte that no record has there; behind any other byte the search goes on, in the part after it.
+abbrev pub place_or_search : Place → (part : Option Part) → (more : Part → Option Place) → Option Place
+place_or_search place None more = Some place
+place_or_search place (Some part) more = more part
 
--- The first byte that no record has there, in bytes of which the first stands at this line and column. A line feed ends a line.
+-- The first byte that no record has at its place, in bytes that begin at this line and column. A line feed ends a line.
 unfoldable pub bad_from : (mark : ℕ) → Part → (line column : ℕ) → List ℕ → Option Place
 bad_from mark part line column [] = None
 bad_from mark part line column (b ∷ bs) =
     if b == 10 then bad_from mark Front (line + 1) 1 bs
-    else place_or (record { line = line; column = column }) (led_to mark part b) (λ next. bad_from mark next line (column + 1) bs)
+    else place_or_search (record { line = line; column = column }) (part_after_byte mark part b)
+    (λ next. bad_from mark next line (column + 1) bs)
 
--- The first byte that no record has there, in a file of a format of text. Lines and columns count from 1, behind a byte order mark.
+-- The first byte that no record has at its place, in a file of a format of text. Lines and columns count from 1, behind a byte order mark.
 abbrev pub bad_place : Format → List ℕ → Option Place
-bad_place IntelHex file = bad_from 58 Front 1 1 (unmarked file)
-bad_place SRecord file = bad_from 83 Front 1 1 (unmarked file)
+bad_place IntelHex file = bad_from 58 Front 1 1 (without_order_mark file)
+bad_place SRecord file = bad_from 83 Front 1 1 (without_order_mark file)
 bad_place Uf2 file = None
 bad_place Elf file = None

@@ -5,15 +5,15 @@ use Rattle.dfu_formats.specs.declared.images.fault.ImageFault.TheVariants.{NoMar
 use Rattle.dfu_formats.specs.images.Reading.{◌>>=◌}
 use Rattle.dfu_formats.specs.images.Digits.{bytes_at}
 use Rattle.dfu_formats.specs.images.Lines.{State, elements_by_line}
-use Rattle.dfu_formats.specs.images.Elements.{Piece, added}
+use Rattle.dfu_formats.specs.images.Elements.{Piece, bytes_added}
 
 -- The type of a record, and its bytes.
-pub record Typed : Type 0 where
+pub record TypedBytes : Type 0 where
   pub kind : ℕ
   pub bytes : List ℕ
 
 -- A record's type and bytes: `S`, a digit, and two digits for each byte.
-unfoldable pub srec_spelled : (at : ℕ) → List ℕ → Result Typed ImageFault
+unfoldable pub srec_spelled : (at : ℕ) → List ℕ → Result TypedBytes ImageFault
 srec_spelled at [] = Err (NoMark at)
 srec_spelled at (b ∷ []) = Err (NoMark at)
 srec_spelled at (b ∷ kind ∷ digits) =
@@ -21,15 +21,15 @@ srec_spelled at (b ∷ kind ∷ digits) =
     else Err (NoMark at)
 
 -- Number of bytes of the address: four of types 3 and 7, three of 2, 6 and 8, and else two.
-abbrev pub width : (kind : ℕ) → ℕ
-width kind =
+abbrev pub address_width : (kind : ℕ) → ℕ
+address_width kind =
     if (kind == 3) || (kind == 7) then 4
     else if (kind == 2) || ((kind == 6) || (kind == 8)) then 3
     else 2
 
 -- The number in bytes, the highest first.
-abbrev pub number : List ℕ → ℕ
-number bytes = fold (λ n b. 256 * n + b) 0 bytes
+abbrev pub number_of_bytes : List ℕ → ℕ
+number_of_bytes bytes = fold (λ n b. 256 * n + b) 0 bytes
 
 -- A record: its type, its address, and its data.
 pub record SRecordLine : Type 0 where
@@ -38,21 +38,21 @@ pub record SRecordLine : Type 0 where
   pub content : List ℕ
 
 -- A record of a count, an address, data, and a checksum by which all bytes together make 255; the count is of all bytes after it.
-unfoldable pub srec_framed : (at : ℕ) → Typed → Result SRecordLine ImageFault
+unfoldable pub srec_framed : (at : ℕ) → TypedBytes → Result SRecordLine ImageFault
 srec_framed at t =
-    if not (length t.bytes == slice_index t.bytes 0 + 1) || nat_lt (length t.bytes) (width t.kind + 2) then Err (BadLength at)
+    if not (length t.bytes == slice_index t.bytes 0 + 1) || nat_lt (length t.bytes) (address_width t.kind + 2) then Err (BadLength at)
     else if not (sum t.bytes % 256 == 255) then Err (BadChecksum at)
     else Ok (record {
       kind = t.kind;
-      address = number (take (width t.kind) (drop 1 t.bytes));
-      content = take (length t.bytes - (width t.kind + 2)) (drop (width t.kind + 1) t.bytes);
+      address = number_of_bytes (take (address_width t.kind) (drop 1 t.bytes));
+      content = take (length t.bytes - (address_width t.kind + 2)) (drop (address_width t.kind + 1) t.bytes);
     })
 
 -- Data, which ends by the last address of 32 bits.
 unfoldable pub srec_data_at : (at : ℕ) → State → SRecordLine → Result State ImageFault
 srec_data_at at s r =
     if nat_lt (2 ^ 32) (r.address + length r.content) then Err (PastSegment at)
-    else added at s.gathering (record { address = r.address; bytes = r.content })
+    else bytes_added at s.gathering (record { address = r.address; bytes = r.content })
     >>= λ g. Ok (record s { gathering = g; count = s.count + 1; is_whole = false })
 
 -- The count of the records of data so far, or the end, each of which has no data.
@@ -75,6 +75,6 @@ srec_meant at s r =
 unfoldable pub srec_record_read : (at : ℕ) → State → List ℕ → Result State ImageFault
 srec_record_read at s line = srec_spelled at line >>= srec_framed at >>= srec_meant at s
 
--- The elements that a file has, or its first fault.
+-- The elements of a file of S-records, or its first fault.
 unfoldable pub srec_elements_of : List ℕ → Result (List Piece) ImageFault
 srec_elements_of = elements_by_line srec_record_read

@@ -6,25 +6,25 @@ use Rattle.dfu_formats.specs.memory.Ranges.{IsRange, end_of_range, are_apart}
 use Rattle.dfu_formats.specs.memory.Reading.{MapContent, digit_value, digits_number, unit_bytes, access_of, map_at}
 use Rattle.std.specs.Prelude.{Err}
 
--- These bytes are digits of a base.
+-- Each byte is a digit of the base.
 unfoldable pub AreDigits : (base : ℕ) → List ℕ → Type 0
 AreDigits base [] = Unit {0}
 AreDigits base (b ∷ bs) = (digit_value b < base) × AreDigits base bs
 
--- The number in digits of a base: one digit at least, and so many at most.
+-- `n` is the number in the digits of a base: at least one digit, and at most `most`.
 pub record IsNumber (base most n : ℕ) (digits : List ℕ) : Type 0 where
   pub are_digits : AreDigits base digits
   pub some : 1 ≤ length digits
   pub few : length digits ≤ most
-  pub makes : n ≡ digits_number base 0 digits
+  pub digits_make_number : n ≡ digits_number base 0 digits
 
--- A unit has so many bytes: K 1,024, M 1,048,576, and B, the space, or no unit 1.
+-- Bytes that a unit stands for: K 1,024, M 1,048,576, and B, the space or no unit 1.
 abbrev pub IsUnit : (times : ℕ) → List ℕ → Type 0
 IsUnit times [] = times ≡ 1
 IsUnit times (b ∷ []) = (times ≡ unit_bytes b) × (unit_bytes b ≢ 0)
 IsUnit times (a ∷ b ∷ bs) = ⊥
 
--- A range that begins at this address: a count, `*`, a size and its unit, and the letter of what may be done.
+-- A group of pages that begins at `start`: a count, `*`, a size and its unit, and the letter that says the access.
 pub record IsGroup (start : ℕ) (p : Pages) (text : List ℕ) : Type 0 where
   pub count_digits : List ℕ
   pub size_digits : List ℕ
@@ -50,7 +50,7 @@ IsPrefix (a ∷ []) = ⊥
 IsPrefix (a ∷ b ∷ []) = (a ≡ 48) × ((b ≡ 120) ⊎ (b ≡ 88))
 IsPrefix (a ∷ b ∷ c ∷ cs) = ⊥
 
--- An address of one to eight hexadecimal digits.
+-- An address in one to eight hexadecimal digits.
 pub record IsAddress (address : ℕ) (text : List ℕ) : Type 0 where
   pub prefix : List ℕ
   pub digits : List ℕ
@@ -58,7 +58,8 @@ pub record IsAddress (address : ℕ) (text : List ℕ) : Type 0 where
   pub prefix_is : IsPrefix prefix
   pub number_is : IsNumber 16 8 address digits
 
--- Ranges, of which the first begins at this address. After `,` one begins where the one before ends; after `/` come its address and `/`.
+-- Ranges, of which the first begins at `start`. After `,` a range begins where the one before it ends; after `/` its address and `/`
+-- follow.
 pub data AreRanges : (start : ℕ) → List Pages → List ℕ → Type 0 where
   last : {start : ℕ} {p : Pages} {text : List ℕ} → IsGroup start p text → AreRanges start (p ∷ []) text
   following : {start : ℕ} {p : Pages} {ps : List Pages} {group more : List ℕ} →
@@ -72,7 +73,7 @@ unfoldable pub HasNoStroke : List ℕ → Type 0
 HasNoStroke [] = Unit {0}
 HasNoStroke (b ∷ bs) = (b ≢ 47) × HasNoStroke bs
 
--- There is no last byte, or it is not a space.
+-- The last byte is not a space, or there is none.
 unfoldable pub NoTrailingSpace : List ℕ → Type 0
 NoTrailingSpace [] = Unit {0}
 NoTrailingSpace (b ∷ []) = b ≢ 32
@@ -92,6 +93,6 @@ pub record IsMap (m : MapContent) (text : List ℕ) : Type 0 where
   pub few : length m.ranges ≤ 32
   pub apart : are_apart m.ranges ≡ true
 
--- This is the first fault of a string that is not a map.
+-- First fault of a string that is not a map.
 abbrev pub FirstMapFault : MapFault → List ℕ → Type 0
 FirstMapFault fault text = map_at text ≡ Err fault

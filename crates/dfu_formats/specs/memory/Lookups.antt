@@ -1,4 +1,4 @@
--- Facts of an address that a map says.
+-- Facts of an address by a map: its range, its page, and its access.
 use Rattle.std.specs.Prelude.{◌≡◌, ℕ, ◌+◌, ◌-◌, ◌*◌, ◌/◌, ◌<◌, ◌≤◌, ◌&&◌, ◌||◌, not, nat_lt, nat_le, Bool, true, List, [], ◌∷◌, Option, Some, None, if◌then◌else◌}
 use Rattle.std.specs.Option.{option_map}
 use Rattle.dfu_formats.specs.declared.memory.pages.Access.{Access}
@@ -7,16 +7,16 @@ use Rattle.dfu_formats.specs.declared.memory.pages.Page.{Page}
 use Rattle.std.specs.List.{All}
 use Rattle.dfu_formats.specs.memory.Ranges.{IsRange, end_of_range, are_apart}
 
--- A range has this address.
-abbrev pub has : ℕ → Pages → Bool
-has address p = nat_le p.start address && nat_lt address (end_of_range p)
+-- The range has the address.
+abbrev pub range_has : ℕ → Pages → Bool
+range_has address p = nat_le p.start address && nat_lt address (end_of_range p)
 
--- The range that has this address: the first, and in a map the only one.
+-- The range that has the address: the first, and in a map the only one.
 unfoldable pub range_at : ℕ → List Pages → Option Pages
 range_at address [] = None
-range_at address (p ∷ ps) = if has address p then Some p else range_at address ps
+range_at address (p ∷ ps) = if range_has address p then Some p else range_at address ps
 
--- The page of a range that has this address.
+-- The page of a range that has the address.
 abbrev pub page_in : ℕ → Pages → Page
 page_in address p = record {
   start = p.start + (address - p.start) / p.size * p.size;
@@ -24,7 +24,7 @@ page_in address p = record {
   access = p.access;
 }
 
--- The page that has this address.
+-- The page of the ranges that has the address.
 abbrev pub page_at : ℕ → List Pages → Option Page
 page_at address ranges = option_map (page_in address) (range_at address ranges)
 
@@ -32,23 +32,23 @@ page_at address ranges = option_map (page_in address) (range_at address ranges)
 abbrev pub end_of_page : Page → ℕ
 end_of_page p = p.start + p.size
 
--- All that is wanted is granted.
-abbrev pub grants : (granted wanted : Access) → Bool
-grants granted wanted =
+-- The granted access has each access that is wanted.
+abbrev pub access_grants : (granted wanted : Access) → Bool
+access_grants granted wanted =
     (granted.is_readable || not wanted.is_readable)
     && ((granted.is_erasable || not wanted.is_erasable) && (granted.is_writable || not wanted.is_writable))
 
--- There is a range, and it grants what is wanted.
+-- The range is there, and grants the wanted access.
 abbrev pub IsGranted : Access → Option Pages → Type 0
 IsGranted wanted None = ⊥
-IsGranted wanted (Some p) = grants p.access wanted ≡ true
+IsGranted wanted (Some p) = access_grants p.access wanted ≡ true
 
--- Each address from the first up to before the second is in a range that grants what is wanted.
+-- Each address from `start` to before `end` is in a range that grants the wanted access.
 abbrev pub AllGranted : Access → (start end : ℕ) → List Pages → Type 0
 AllGranted wanted start end ranges = (a : ℕ) → start ≤ a → a < end → IsGranted wanted (range_at a ranges)
 
--- Each address of a page is on that page.
-abbrev pub OnePage : Type 0
-OnePage =
+-- Each address of a page has that page as its own.
+abbrev pub AddressOnOnePage : Type 0
+AddressOnOnePage =
     (ranges : List Pages) (a b : ℕ) (page : Page) → All IsRange ranges → are_apart ranges ≡ true → page_at a ranges ≡ Some page →
     page.start ≤ b → b < end_of_page page → page_at b ranges ≡ Some page

@@ -1,4 +1,4 @@
--- Ranges of pages: which addresses they have.
+-- Ranges of pages, and the addresses that they have.
 use Rattle.std.specs.Prelude.{ℕ, ◌+◌, ◌*◌, ◌^◌, ◌≤◌, ◌&&◌, ◌||◌, nat_le, Bool, true, List, [], ◌∷◌}
 use Rattle.dfu_formats.specs.declared.memory.pages.Pages.{Pages}
 
@@ -13,15 +13,15 @@ pub record IsRange (p : Pages) : Type 0 where
   pub ends : end_of_range p ≤ 2 ^ 32
 
 -- Two ranges share no address: one ends before the other begins.
-abbrev pub is_apart : Pages → Pages → Bool
-is_apart p q = nat_le (end_of_range p) q.start || nat_le (end_of_range q) p.start
+abbrev pub ranges_are_apart : Pages → Pages → Bool
+ranges_are_apart p q = nat_le (end_of_range p) q.start || nat_le (end_of_range q) p.start
 
--- A range shares no address with any of these.
+-- The range shares no address with any range of the list.
 abbrev pub is_apart_from : Pages → List Pages → Bool
 is_apart_from p [] = true
-is_apart_from p (q ∷ qs) = is_apart p q && is_apart_from p qs
+is_apart_from p (q ∷ qs) = ranges_are_apart p q && is_apart_from p qs
 
--- No two of these ranges share an address.
+-- No two ranges of the list share an address.
 abbrev pub are_apart : List Pages → Bool
 are_apart [] = true
 are_apart (p ∷ ps) = is_apart_from p ps && are_apart ps

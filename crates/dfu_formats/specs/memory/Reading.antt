@@ -14,9 +14,9 @@ abbrev pub ◌>>=◌ : {A B : Type 0} → Result A MapFault → (A → Result B 
 (Ok x) >>= f = f x
 
 -- The value if there is one, or else this fault.
-abbrev pub or : {A : Type 0} → MapFault → Option A → Result A MapFault
-or fault None = Err fault
-or fault (Some x) = Ok x
+abbrev pub map_value_or : {A : Type 0} → MapFault → Option A → Result A MapFault
+map_value_or fault None = Err fault
+map_value_or fault (Some x) = Ok x
 
 -- A number, and the text after it.
 pub record NumberRead : Type 0 where
@@ -36,33 +36,33 @@ unfoldable pub digits_in : (base : ℕ) → List ℕ → ℕ
 digits_in base [] = 0
 digits_in base (b ∷ bs) = if nat_lt (digit_value b) base then suc (digits_in base bs) else 0
 
--- The number that these digits make after those that make n.
+-- The number that digits make after those that make `n`.
 unfoldable pub digits_number : (base n : ℕ) → List ℕ → ℕ
 digits_number base n [] = n
 digits_number base n (b ∷ bs) = digits_number base (base * n + digit_value b) bs
 
--- The number at the front: one digit at least, and so many at most, of all that are there.
+-- The number at the front, of all digits that stand there: at least one, and at most `most`.
 unfoldable pub map_number_at : (base most : ℕ) → List ℕ → Option NumberRead
 map_number_at base most text =
     if digits_in base text == 0 || nat_lt most (digits_in base text) then None
     else Some (record { value = digits_number base 0 (take (digits_in base text) text); rest = drop (digits_in base text) text })
 
--- Text behind this byte, if the text begins with it.
-unfoldable pub behind : ℕ → List ℕ → Option (List ℕ)
-behind byte [] = None
-behind byte (b ∷ bs) = if b == byte then Some bs else None
+-- Text behind the byte, if the text begins with it.
+unfoldable pub text_after_byte : ℕ → List ℕ → Option (List ℕ)
+text_after_byte byte [] = None
+text_after_byte byte (b ∷ bs) = if b == byte then Some bs else None
 
--- A number that isn't 0.
-abbrev pub counting : MapFault → NumberRead → Result NumberRead MapFault
-counting fault n = if n.value == 0 then Err fault else Ok n
+-- A number other than 0, or the fault.
+abbrev pub nonzero_count : MapFault → NumberRead → Result NumberRead MapFault
+nonzero_count fault n = if n.value == 0 then Err fault else Ok n
 
 -- A count of pages, and `*`.
 unfoldable pub count_at : List ℕ → Result NumberRead MapFault
 count_at text =
-    or BadCount (map_number_at 10 5 text) >>= counting BadCount
-    >>= λ n. or BadCount (behind 42 n.rest) >>= λ rest. Ok (record { value = n.value; rest = rest })
+    map_value_or BadCount (map_number_at 10 5 text) >>= nonzero_count BadCount
+    >>= λ n. map_value_or BadCount (text_after_byte 42 n.rest) >>= λ rest. Ok (record { value = n.value; rest = rest })
 
--- Bytes of a unit: K, M, B and the space; 0 for any other byte.
+-- Bytes that a unit stands for: K, M, B and the space; 0 for any other byte.
 abbrev pub unit_bytes : ℕ → ℕ
 unit_bytes b = if b == 75 then 1024 else if b == 77 then 1048576 else if b == 66 || b == 32 then 1 else 0
 
@@ -74,14 +74,15 @@ unit_at value (b ∷ bs) = if unit_bytes b == 0 then record { value = value; res
 
 -- The size of a page, with its unit.
 unfoldable pub size_at : List ℕ → Result NumberRead MapFault
-size_at text = or BadSize (map_number_at 10 5 text) >>= counting BadSize >>= λ n. Ok (unit_at n.value n.rest)
+size_at text = map_value_or BadSize (map_number_at 10 5 text) >>= nonzero_count BadSize >>= λ n. Ok (unit_at n.value n.rest)
 
 -- Access to pages, and the text after the letter that says it.
 pub record LetterRead : Type 0 where
   pub access : Access
   pub rest : List ℕ
 
--- The letters a to g are the numbers 1 to 7: bit 0 says that pages can be read, bit 1 that they can be erased, bit 2 that they can be written.
+-- Access by a letter: a to g are the numbers 1 to 7, whose bit 0 says that pages can be read, bit 1 that they can be erased, and bit 2
+-- that they can be written.
 abbrev pub access_of : ℕ → Access
 access_of letter = record {
   is_readable = (letter - 96) % 2 == 1;
@@ -99,15 +100,15 @@ pub record Grouped : Type 0 where
   pub pages : Pages
   pub rest : List ℕ
 
--- A range of so many pages of this size, if it ends by the last address.
-abbrev pub ranged : (start count size : ℕ) → LetterRead → Result Grouped MapFault
-ranged start count size a =
+-- A range of `count` pages of `size` bytes, if it ends by the last address.
+abbrev pub range_of_pages : (start count size : ℕ) → LetterRead → Result Grouped MapFault
+range_of_pages start count size a =
     if nat_lt (2 ^ 32) (start + count * size) then Err PastTheEnd
     else Ok (record { pages = record { start = start; size = size; count = count; access = a.access }; rest = a.rest })
 
--- A range that begins at this address.
+-- A group of pages that begins at `start`.
 unfoldable pub group_at : (start : ℕ) → List ℕ → Result Grouped MapFault
-group_at start text = count_at text >>= λ c. size_at c.rest >>= λ s. access_at s.rest >>= ranged start c.value s.value
+group_at start text = count_at text >>= λ c. size_at c.rest >>= λ s. access_at s.rest >>= range_of_pages start c.value s.value
 
 -- The text after `0x` or `0X`, which may be missing.
 unfoldable pub behind_prefix : List ℕ → List ℕ
@@ -118,34 +119,34 @@ behind_prefix (a ∷ b ∷ bs) = if (a == 48) && ((b == 120) || (b == 88)) then 
 -- The address at which ranges begin, and `/`.
 unfoldable pub address_at : List ℕ → Result NumberRead MapFault
 address_at text =
-    or BadAddress (map_number_at 16 8 (behind_prefix text))
-    >>= λ n. or BadAddress (behind 47 n.rest) >>= λ rest. Ok (record { value = n.value; rest = rest })
+    map_value_or BadAddress (map_number_at 16 8 (behind_prefix text))
+    >>= λ n. map_value_or BadAddress (text_after_byte 47 n.rest) >>= λ rest. Ok (record { value = n.value; rest = rest })
 
--- A place, if there is one.
-abbrev pub place_read : Result NumberRead MapFault → Result (Option NumberRead) MapFault
-place_read place = place >>= λ p. Ok (Some p)
+-- The place that was read, as an option.
+abbrev pub place_as_option : Result NumberRead MapFault → Result (Option NumberRead) MapFault
+place_as_option place = place >>= λ p. Ok (Some p)
 
--- Place at which the next range begins, after one that ends at this address: there after `,`, and at an address of its own after `/`;
--- nowhere at the end of the text.
-unfoldable pub next_at : (end : ℕ) → List ℕ → Result (Option NumberRead) MapFault
-next_at end [] = Ok None
-next_at end (b ∷ bs) =
+-- Place at which the next range begins, after a range that ends at `end`: `end` after `,`, its own address after `/`, and none at the end
+-- of the text.
+unfoldable pub next_range_place : (end : ℕ) → List ℕ → Result (Option NumberRead) MapFault
+next_range_place end [] = Ok None
+next_range_place end (b ∷ bs) =
     if b == 44 then Ok (Some (record { value = end; rest = bs }))
-    else if b == 47 then place_read (address_at bs)
+    else if b == 47 then place_as_option (address_at bs)
     else Err Trailing
 
--- A range, and those that are read from the next place, if there is one.
-abbrev pub going : Pages → Option NumberRead → (NumberRead → Result (List Pages) MapFault) → Result (List Pages) MapFault
-going pages None more = Ok (pages ∷ [])
-going pages (Some place) more = more place >>= λ ranges. Ok (pages ∷ ranges)
+-- A range, and the ranges that are read from the next place, if there is one.
+abbrev pub ranges_continued : Pages → Option NumberRead → (NumberRead → Result (List Pages) MapFault) → Result (List Pages) MapFault
+ranges_continued pages None more = Ok (pages ∷ [])
+ranges_continued pages (Some place) more = more place >>= λ ranges. Ok (pages ∷ ranges)
 
--- The ranges from here on, of which there may be so many.
+-- The ranges from `start` on, at most `most`.
 unfoldable pub ranges_at : (most start : ℕ) → List ℕ → Result (List Pages) MapFault
 ranges_at zero start text = group_at start text >>= λ g. Err TooManyRanges
 ranges_at (suc n) start text =
     group_at start text
-    >>= λ g. next_at (end_of_range g.pages) g.rest
-    >>= λ next. going g.pages next (λ place. ranges_at n place.value place.rest)
+    >>= λ g. next_range_place (end_of_range g.pages) g.rest
+    >>= λ next. ranges_continued g.pages next (λ place. ranges_at n place.value place.rest)
 
 -- A name, and the text after it.
 pub record Named : Type 0 where
@@ -153,22 +154,24 @@ pub record Named : Type 0 where
   pub rest : List ℕ
 
 -- Bytes without the spaces at their end.
-unfoldable pub trimmed : List ℕ → List ℕ
-trimmed [] = []
-trimmed (b ∷ bs) = if (b == 32) && (length (trimmed bs) == 0) then [] else b ∷ trimmed bs
+unfoldable pub trimmed_name : List ℕ → List ℕ
+trimmed_name [] = []
+trimmed_name (b ∷ bs) = if (b == 32) && (length (trimmed_name bs) == 0) then [] else b ∷ trimmed_name bs
 
 -- A byte is `/`.
 abbrev pub is_stroke : ℕ → Bool
 is_stroke b = b == 47
 
 -- The name, which `/` ends.
-abbrev pub cut_at : List ℕ → Option ℕ → Option Named
-cut_at text None = None
-cut_at text (Some n) = Some (record { name = trimmed (take n text); rest = drop (n + 1) text })
+abbrev pub name_up_to_stroke : List ℕ → Option ℕ → Option Named
+name_up_to_stroke text None = None
+name_up_to_stroke text (Some n) = Some (record { name = trimmed_name (take n text); rest = drop (n + 1) text })
 
 -- The name after `@`.
 unfoldable pub map_name_at : List ℕ → Result Named MapFault
-map_name_at text = or NoMap (behind 64 text) >>= λ behind. or NoMap (cut_at behind (position is_stroke behind))
+map_name_at text =
+    map_value_or NoMap (text_after_byte 64 text) >>= λ text_after_byte. map_value_or NoMap
+    (name_up_to_stroke text_after_byte (position is_stroke text_after_byte))
 
 -- Content of a map: a name, and ranges.
 pub record MapContent : Type 0 where
@@ -179,6 +182,6 @@ pub record MapContent : Type 0 where
 abbrev pub map_if_apart : (name : List ℕ) → List Pages → Result MapContent MapFault
 map_if_apart name ranges = if are_apart ranges then Ok (record { name = name; ranges = ranges }) else Err Overlaps
 
--- A string is a map, or has a first fault.
+-- The map that a string spells, or its first fault.
 unfoldable pub map_at : List ℕ → Result MapContent MapFault
 map_at text = map_name_at text >>= λ n. address_at n.rest >>= λ a. ranges_at 32 a.value a.rest >>= map_if_apart n.name

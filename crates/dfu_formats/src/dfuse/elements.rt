@@ -1,8 +1,8 @@
-//! Elements, one after the other.
+//! Elements of a target, one after the other.
 
 ghost use Rattle.std.specs.Prelude.{◌≡◌, ◌==◌, if◌then◌else◌, [], ◌∷◌, length, MatchOption, Ok, Err};
 ghost use Rattle.dfu_formats.specs.dfuse.Reading.{front_element, elements_at};
-ghost use Rattle.dfu_formats.specs.dfuse.Found.{piece_of, fault_only};
+ghost use Rattle.dfu_formats.specs.dfuse.Found.{piece_of, fault_of_result};
 
 use crate::dfuse::element::Element;
 use crate::dfuse::fault::FileFault;
@@ -20,12 +20,12 @@ impl<'f> Model for Split<'f> {
     ghost use Rattle.dfu_formats.specs.dfuse.Reading as reading;
     ghost use Rattle.dfu_formats.specs.dfuse.Found.{piece_of};
 
-    ghost Value = { reading.Split };
+    ghost Value = { reading.SplitElement };
 
     ghost view = { λ s. record { element = piece_of s.element; rest = s.rest.now } };
 }
 
-/// Takes an element off the front.
+/// Takes an element off the front of `bytes`. Returns the element and the bytes after it.
 #[tactic(auto, using(std::proofs::lemmas::Bool::Decides::nat_tests), unfolding(crate::specs::dfuse::Reading::front_element))]
 fn take_element(bytes: &[u8]) -> Result<Split<'_>, FileFault>
     ensures { result ≡ front_element bytes.now }
@@ -55,16 +55,20 @@ fn take_element(bytes: &[u8]) -> Result<Split<'_>, FileFault>
     })
 }
 
-/// Checks that no bytes are left; this fault if some are.
+/// Checks that `rest` has no bytes.
+///
+/// # Errors
+///
+/// `fault` if it has some.
 pub(crate) fn check_end(rest: &[u8], fault: FileFault) -> Result<(), FileFault>
     ensures { result ≡ (if length rest.now == 0 then Ok tt else Err fault) }
 {
     if rest.is_empty() { Ok(()) } else { Err(fault) }
 }
 
-/// Checks that the bytes are so many elements, and nothing else.
+/// Checks that the bytes are `count` elements, and nothing else.
 pub(crate) fn check_elements(count: u32, bytes: &[u8]) -> Result<(), FileFault>
-    ensures { result ≡ fault_only (elements_at count bytes.now) }
+    ensures { result ≡ fault_of_result (elements_at count bytes.now) }
 {
     let mut rest = bytes;
     for _ in 0..count {
@@ -87,22 +91,22 @@ impl<'f> Model for Elements<'f> {
     ghost use Rattle.std.specs.Prelude.{◌≡◌, List, Ok};
     ghost use Rattle.dfu_formats.specs.images.Elements.{Piece};
     ghost use Rattle.dfu_formats.specs.dfuse.Reading.{elements_at};
-    ghost use Rattle.dfu_formats.specs.dfuse.Found.{found};
+    ghost use Rattle.dfu_formats.specs.dfuse.Found.{found_list};
 
     ghost Value = { List Piece };
 
-    ghost view = { λ e. found (elements_at e.left e.rest.now) };
+    ghost view = { λ e. found_list (elements_at e.left e.rest.now) };
 
-    ghost invariant = { λ e. elements_at e.left e.rest.now ≡ Ok (found (elements_at e.left e.rest.now)) };
+    ghost invariant = { λ e. elements_at e.left e.rest.now ≡ Ok (found_list (elements_at e.left e.rest.now)) };
 }
 
 impl<'f> Elements<'f> {
-    ghost use Rattle.dfu_formats.specs.dfuse.Found.{found};
+    ghost use Rattle.dfu_formats.specs.dfuse.Found.{found_list};
 
-    /// The elements that were checked.
+    /// Returns the `left` elements at the front of `rest`, which must have been checked.
     pub(crate) fn new(left: u32, rest: &'f [u8]) -> Elements<'f>
-        requires { elements_at left rest.now ≡ Ok (found (elements_at left rest.now)) }
-        ensures { result ≡ found (elements_at left rest.now) }
+        requires { elements_at left rest.now ≡ Ok (found_list (elements_at left rest.now)) }
+        ensures { result ≡ found_list (elements_at left rest.now) }
     {
         Elements { left, rest }
     }
@@ -114,7 +118,7 @@ impl<'f> Elements<'f> {
         self.left
     }
 
-    /// Takes the first element off. Without one it changes nothing.
+    /// Takes the first element off. If no element is left, nothing changes.
     pub fn next_element(&mut self) -> Option<Element<'f>>
         ensures { MatchOption result ((self.old ≡ []) × (self.new ≡ [])) (λ e. self.old ≡ piece_of e ∷ self.new) }
     {

@@ -1,10 +1,10 @@
-//! Why a file is refused.
+//! Faults for which a DfuSe file is refused.
 
 use std::fmt;
 use thiserror::Error;
 
-/// Why bytes aren't a DfuSe file: the first of these that holds. Up to BadCrc the suffix is looked at, from the end of the file; then the
-/// rest from its front, target by target.
+/// A fault of bytes that aren't a DfuSe file: the first of these that holds. Up to BadCrc the suffix is looked at, from the end of the
+/// file; then the other bytes from their front, target by target.
 #[derive(Clone, Copy, Error)]
 pub enum FileFault {
     /// The file has over 16,777,216 bytes.
@@ -37,7 +37,7 @@ pub enum FileFault {
     EmptyElement,
     /// An element ends past address FFFFFFFFh.
     AddressPastTheEnd,
-    /// There are more bytes after the last target.
+    /// Bytes follow the last target.
     Trailing,
 }
 

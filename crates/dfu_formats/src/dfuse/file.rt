@@ -2,7 +2,7 @@
 
 ghost use Rattle.std.specs.Prelude.{◌≡◌, ◌↔◌, length, Ok, Err, IfOk};
 ghost use Rattle.dfu_formats.specs.declared.dfuse.fault.FileFault.{FileFault};
-ghost use Rattle.dfu_formats.specs.dfuse.Reading.{DfuseContent, body_at, of_targets, file_at};
+ghost use Rattle.dfu_formats.specs.dfuse.Reading.{DfuseContent, body_at, file_of_targets, file_at};
 ghost use Rattle.dfu_formats.specs.dfuse.Grammar.{IsDfuSe, FirstFileFault};
 ghost use Rattle.dfu_formats.specs.dfuse.Images.{one_setting};
 
@@ -25,19 +25,23 @@ pub struct File<'f> {
 impl<'f> Model for File<'f> {
     ghost use Rattle.std.specs.Prelude.{◌≡◌, Ok};
     ghost use Rattle.dfu_formats.specs.dfuse.Reading.{DfuseContent, targets_at};
-    ghost use Rattle.dfu_formats.specs.dfuse.Found.{found};
+    ghost use Rattle.dfu_formats.specs.dfuse.Found.{found_list};
 
     ghost Value = { DfuseContent };
 
-    ghost view = { λ f. record { ids = f.ids; targets = found (targets_at f.count f.targets.now) } };
+    ghost view = { λ f. record { ids = f.ids; targets = found_list (targets_at f.count f.targets.now) } };
 
-    ghost invariant = { λ f. targets_at f.count f.targets.now ≡ Ok (found (targets_at f.count f.targets.now)) };
+    ghost invariant = { λ f. targets_at f.count f.targets.now ≡ Ok (found_list (targets_at f.count f.targets.now)) };
 }
 
-/// The file with this body, and these identifiers in its suffix.
+/// Reads the file of `whole` bytes with body `bytes`, and with `ids` in its suffix.
+///
+/// # Errors
+///
+/// The first fault of the body, as `read` has them.
 #[tactic(auto, using(std::proofs::lemmas::Bool::Decides::nat_tests), unfolding(crate::specs::dfuse::Reading::body_at))]
 fn read_body(ids: Ids, whole: usize, bytes: &[u8]) -> Result<File<'_>, FileFault>
-    ensures { result ≡ of_targets ids (body_at whole bytes.now) }
+    ensures { result ≡ file_of_targets ids (body_at whole bytes.now) }
 {
     if bytes.len() < 11 {
         return Err(FileFault::NoPrefix);
@@ -67,7 +71,11 @@ fn read_body(ids: Ids, whole: usize, bytes: &[u8]) -> Result<File<'_>, FileFault
     }
 }
 
-/// Reads the fields of the bytes, or returns their first fault.
+/// Reads the fields of `bytes`.
+///
+/// # Errors
+///
+/// Their first fault.
 #[tactic(auto, unfolding(crate::specs::dfuse::Reading::file_at))]
 fn read_file(bytes: &[u8]) -> Result<File<'_>, FileFault>
     ensures { result ≡ file_at bytes.now }
@@ -78,8 +86,8 @@ fn read_file(bytes: &[u8]) -> Result<File<'_>, FileFault>
     }
 }
 
-/// Reads a DfuSe file. The size in its prefix may count the suffix, as dfu-util's tools have it, or not, as ST's. A file with a wrong
-/// dwCRC is refused for that, whatever else is in it.
+/// Reads a DfuSe file. The size in its prefix may count the suffix, as dfu-util's tools have it, or not, as ST's. A file with a wrong dwCRC
+/// is refused for the CRC, whatever else is wrong.
 ///
 /// # Errors
 ///
@@ -96,21 +104,21 @@ pub fn read(bytes: &[u8]) -> Result<File<'_>, FileFault>
 }
 
 impl<'f> File<'f> {
-    /// The device that the file is for.
+    /// Returns the identifiers of the device that the file is for.
     pub fn ids(&self) -> Ids
         ensures { result ≡ self.now.ids }
     {
         self.ids
     }
 
-    /// The targets, in the order of the file.
+    /// Returns the targets, in the order of the file.
     pub fn targets(&self) -> Targets<'f>
         ensures { result ≡ self.now.targets }
     {
         Targets::new(self.count, self.targets)
     }
 
-    /// The alternate setting that all targets are for, if it is the same.
+    /// Returns the alternate setting that all targets are for; None if they are for different ones, or there are none.
     pub fn setting(&self) -> Option<u8>
         ensures { result ≡ one_setting self.now.targets }
     {

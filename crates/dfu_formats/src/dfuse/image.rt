@@ -2,7 +2,7 @@
 
 ghost use Rattle.std.specs.Prelude.{◌≡◌, ◌≤◌, length, take, true, IfOk, MatchResult, None, Some};
 ghost use Rattle.std.specs.List.Sorted.{IsPermutation};
-ghost use Rattle.dfu_formats.specs.dfuse.Images.{ascends_from, elements_for, image_fault, IsImage, ListsBehind};
+ghost use Rattle.dfu_formats.specs.dfuse.Images.{ascends_from, elements_for, image_fault, IsImage, ElementsListedBehind};
 
 use crate::dfuse::element::Element;
 use crate::dfuse::file::File;
@@ -10,7 +10,7 @@ use crate::dfuse::listing::put;
 use std::fmt;
 use thiserror::Error;
 
-/// Faults for which a file has no image for a setting: the first of these that holds.
+/// A fault for which a file has no image for a setting: the first of these that holds.
 #[derive(Clone, Copy, Debug, Error)]
 pub enum ImageFault {
     /// No target is for this alternate setting.
@@ -31,7 +31,7 @@ impl fmt::Display for ImageFault {
     }
 }
 
-/// Sorts elements by their addresses.
+/// Sorts `elements` by their addresses.
 fn sort_all(elements: &mut [Element<'_>])
     ensures size { length elements.new ≡ length elements.old }
     ensures same { IsPermutation elements.old elements.new }
@@ -40,7 +40,7 @@ fn sort_all(elements: &mut [Element<'_>])
     elements.sort_unstable_by_key(|element| element.address);
 }
 
-/// Sorts the first `count` elements by their addresses.
+/// Sorts the first `count` elements of `room` by their addresses.
 fn sort(count: usize, room: &mut [Element<'_>])
     requires { count ≤ length room.old }
     ensures size { length room.new ≡ length room.old }
@@ -51,15 +51,15 @@ fn sort(count: usize, room: &mut [Element<'_>])
 }
 
 impl<'f> File<'f> {
-    /// Puts the elements of all targets of an alternate setting into the front of `room`, in the order of the file. It answers how many
-    /// there are. A session wants them by their addresses.
+    /// Puts the elements of all targets of an alternate setting into the front of `room`, in the order of the file, and returns their
+    /// number. A session wants elements by their addresses.
     ///
     /// # Errors
     ///
     /// NoSuchSetting, or TooManyElements if `room` has fewer places.
     pub fn listed(&self, setting: u8, room: &mut [Element<'f>]) -> Result<usize, ImageFault>
         ensures size { length room.new ≡ length room.old }
-        ensures listed { IfOk result (λ n. ListsBehind 0 (elements_for setting self.now.targets) room.old (Some n) room.new) }
+        ensures listed { IfOk result (λ n. ElementsListedBehind 0 (elements_for setting self.now.targets) room.old (Some n) room.new) }
         ensures fault { MatchResult result (λ n. image_fault (length room.old) setting self.now.targets ≡ None)
             (λ fault. image_fault (length room.old) setting self.now.targets ≡ Some fault) }
     {
@@ -81,11 +81,12 @@ impl<'f> File<'f> {
         Ok(count)
     }
 
-    /// Lists the elements by their addresses. It does not look whether they overlap: a session refuses that.
+    /// Writes the elements of alternate setting `setting` to the front of `room`, by their addresses. Returns their number. Elements that
+    /// overlap are listed too, because a session refuses them.
     ///
     /// # Errors
     ///
-    /// NoSuchSetting, or TooManyElements if `room` has fewer places.
+    /// NoSuchSetting, or TooManyElements if `room` has fewer places than there are elements.
     pub fn image(&self, setting: u8, room: &mut [Element<'f>]) -> Result<usize, ImageFault>
         ensures size { length room.new ≡ length room.old }
         ensures image { IfOk result (λ n. IsImage (elements_for setting self.now.targets) n room.new) }

@@ -2,12 +2,12 @@
 
 ghost use Rattle.std.specs.Prelude.{◌≡◌, ◌+◌, ◌<◌, ◌≤◌, ◌++◌, length, take, map, MatchOption};
 ghost use Rattle.dfu_formats.specs.dfuse.Found.{piece_of};
-ghost use Rattle.dfu_formats.specs.dfuse.Images.{ListsBehind};
+ghost use Rattle.dfu_formats.specs.dfuse.Images.{ElementsListedBehind};
 
 use crate::dfuse::element::Element;
 use crate::dfuse::elements::Elements;
 
-/// Puts elements into `room` after the first `from`, and answers how many there are then, or None if they don't fit.
+/// Puts elements into `room` after the first `from`, and returns how many elements it has then, or None if they don't fit.
 pub(crate) fn put<'f>(
     elements: Elements<'f>,
     from: usize,
@@ -15,7 +15,7 @@ pub(crate) fn put<'f>(
 ) -> Option<usize>
     requires { from ≤ length room.old }
     ensures size { length room.new ≡ length room.old }
-    ensures listed { ListsBehind from elements.entry room.old result room.new }
+    ensures listed { ElementsListedBehind from elements.entry room.old result room.new }
 {
     let mut left = elements;
     let mut count = from;
@@ -29,11 +29,11 @@ pub(crate) fn put<'f>(
     Some(count)
 }
 
-/// Puts elements that a reader of `dfu_formats::images` gave into the front of `room`, in their order: how many they are, or None if they don't fit.
-/// Elements of one file are by their addresses, as a session wants them.
+/// Puts elements that a reader of `dfu_formats::images` gave into the front of `room`, in their order, and returns their number, or None if
+/// they don't fit. Elements of one file are by their addresses, as a session wants them.
 pub fn list<'p>(pieces: &'p [crate::images::Element], room: &mut [Element<'p>]) -> Option<usize>
     ensures size { length room.new ≡ length room.old }
-    ensures listed { ListsBehind 0 pieces.now room.old result room.new }
+    ensures listed { ElementsListedBehind 0 pieces.now room.old result room.new }
 {
     if pieces.len() > room.len() {
         return None;

@@ -3,7 +3,7 @@
 ghost use Rattle.std.specs.Prelude.{◌≡◌, MatchResult, Ok, Err, find};
 ghost use Rattle.dfu_suffix.specs.Grammar.{has_fault, fault_order};
 ghost use Rattle.dfu_formats.specs.dfuse.Found.{piece_of};
-ghost use Rattle.dfu_formats.specs.dfuse.Raw.{raw_refusal, payload_by, has_prefix, placed_at, raw_at};
+ghost use Rattle.dfu_formats.specs.dfuse.Raw.{raw_refusal, payload_by, has_prefix, placed_at, raw_element_at};
 
 use crate::dfuse::element::Element;
 use crate::dfuse::marks::is_prefixed;
@@ -11,20 +11,20 @@ use dfu_suffix::SuffixFault;
 use std::fmt;
 use thiserror::Error;
 
-/// Faults for which a file can't be written to an address: the first of these that holds.
+/// A fault for which a file can't be written to an address: the first of these that holds.
 #[derive(Clone, Copy, Debug, Error)]
 pub enum RawFault {
     /// The file has over 16,777,216 bytes.
     TooLarge,
-    /// It has a signature, and bLength is under 16 or over the file's length.
+    /// The file has a signature, and bLength is under 16 or over the file's length.
     BadLength,
-    /// It has a signature and isn't a DfuSe file, and dwCRC isn't the register over the bytes before it.
+    /// The file has a signature and isn't a DfuSe file, and dwCRC isn't the register over the bytes before it.
     BadCrc,
     /// bcdDFU is 011Ah, or the file begins with the letters DfuSe.
     HasAddresses,
-    /// There are no bytes before the suffix, if there is one.
+    /// The file is empty, or empty before its suffix.
     Empty,
-    /// The last byte would have an address past FFFFFFFFh.
+    /// The last byte would get an address past FFFFFFFFh.
     AddressPastTheEnd,
 }
 
@@ -44,7 +44,7 @@ impl fmt::Display for RawFault {
     }
 }
 
-/// Returns the refusal of a file with this fault, if it is refused.
+/// Returns the refusal of a file in which dfu_suffix finds `fault`; None if the file is not refused.
 fn refusal(fault: SuffixFault) -> Option<RawFault>
     ensures { result ≡ raw_refusal fault }
 {
@@ -57,7 +57,7 @@ fn refusal(fault: SuffixFault) -> Option<RawFault>
     }
 }
 
-/// Returns the bytes before a suffix; a file without one has nothing else.
+/// Returns the bytes of a file before a suffix, or all of `bytes` if the file has none.
 fn payload_of(bytes: &[u8]) -> Result<&[u8], RawFault>
     ensures { MatchResult result (λ payload. payload_by (find (has_fault bytes.now) fault_order) bytes.now ≡ Ok payload.now)
         (λ fault. payload_by (find (has_fault bytes.now) fault_order) bytes.now ≡ Err fault) }
@@ -71,7 +71,7 @@ fn payload_of(bytes: &[u8]) -> Result<&[u8], RawFault>
     }
 }
 
-/// Returns whether a file begins with the letters DfuSe.
+/// Returns true if `bytes` begin with the letters DfuSe.
 #[tactic(auto, using(std::proofs::lemmas::Bool::Decides::nat_tests))]
 fn has_prefix(bytes: &[u8]) -> bool
     ensures { result ≡ has_prefix bytes.now }
@@ -79,7 +79,7 @@ fn has_prefix(bytes: &[u8]) -> bool
     bytes.len() >= 5 && is_prefixed(bytes)
 }
 
-/// An element of bytes at an address.
+/// Returns the element of `bytes` at `address`.
 #[tactic(auto, using(std::proofs::lemmas::Bool::Decides::nat_tests), unfolding(crate::specs::dfuse::Raw::placed_at))]
 fn placed_at(address: u32, bytes: &[u8]) -> Result<Element<'_>, RawFault>
     ensures { MatchResult result (λ e. placed_at address bytes.now ≡ Ok (piece_of e)) (λ fault. placed_at address bytes.now ≡ Err fault) }
@@ -96,14 +96,15 @@ fn placed_at(address: u32, bytes: &[u8]) -> Result<Element<'_>, RawFault>
     Ok(Element { address, bytes })
 }
 
-/// Reads a file without addresses, which goes to this one. Its suffix (USB DFU 1.1, appendix B), if it has one, is left out. A file
-/// with a damaged suffix, or that begins as a DfuSe file, is refused: it would be written whole.
+/// Reads a file without addresses as an element at `address`. Its suffix (USB DFU 1.1, appendix B), if it has one, is left out. A file with
+/// a damaged suffix, or that begins as a DfuSe file, is refused, because its suffix or its prefix would be written too.
 ///
 /// # Errors
 ///
 /// The first fault, in the order of [`RawFault`].
 pub fn read_raw(bytes: &[u8], address: u32) -> Result<Element<'_>, RawFault>
-    ensures { MatchResult result (λ e. raw_at address bytes.now ≡ Ok (piece_of e)) (λ fault. raw_at address bytes.now ≡ Err fault) }
+    ensures { MatchResult result (λ e. raw_element_at address bytes.now ≡ Ok (piece_of e))
+        (λ fault. raw_element_at address bytes.now ≡ Err fault) }
 {
     match payload_of(bytes) {
         Ok(payload) => placed_at(address, payload),

@@ -4,7 +4,7 @@ ghost use Rattle.std.specs.Prelude.{◌≡◌, ◌+◌, ◌≤◌, length, drop}
 ghost use Rattle.dfu_suffix.specs.Grammar.{tail_of, has_fault};
 ghost use Rattle.dfu_suffix.specs.declared.fault.SuffixFault.TheVariants as suffix;
 ghost use Rattle.byteorder.specs.Endian.{little_number};
-ghost use Rattle.dfu_formats.specs.dfuse.Reading.{suffix_at, suffixed_by, is_dfuse, signed_by, refusal};
+ghost use Rattle.dfu_formats.specs.dfuse.Reading.{suffix_at, suffixed_by, is_dfuse, suffix_with_checked_crc, suffix_refusal};
 
 use crate::dfuse::fault::FileFault;
 use byteorder::{ByteOrder, LittleEndian};
@@ -27,7 +27,7 @@ impl<'f> Model for Suffixed<'f> {
     ghost view = { λ s. record { payload = s.payload.now; ids = s.ids } };
 }
 
-/// The last 16 bytes.
+/// Returns the last 16 bytes of `bytes`.
 fn tail(bytes: &[u8]) -> &[u8]
     requires { 16 ≤ length bytes.now }
     ensures value { result.now ≡ tail_of bytes.now }
@@ -37,7 +37,7 @@ fn tail(bytes: &[u8]) -> &[u8]
     tail
 }
 
-/// The number in two of the last 16 bytes.
+/// Returns the number in the two bytes of `tail` from index `place` on, the low byte first.
 fn field(place: usize, tail: &[u8]) -> u16
     requires { place + 2 ≤ length tail.now }
     ensures { result ≡ little_number 2 (drop place tail.now) }
@@ -46,7 +46,7 @@ fn field(place: usize, tail: &[u8]) -> u16
     LittleEndian::read_u16(field)
 }
 
-/// Returns whether dwCRC isn't the register over the bytes before it.
+/// Returns true if the dwCRC of `bytes` isn't the register over the bytes before it.
 fn has_bad_crc(bytes: &[u8]) -> bool
     requires { 16 ≤ length bytes.now }
     ensures { result ≡ has_fault bytes.now suffix.BadCrc }
@@ -75,7 +75,7 @@ fn suffixed_by(bytes: &[u8]) -> Suffixed<'_>
     }
 }
 
-/// Returns whether this is the fault that a DfuSe file has.
+/// Returns true if `fault` is the one that a DfuSe file has.
 fn is_dfuse(fault: SuffixFault) -> bool
     ensures { result ≡ is_dfuse fault }
 {
@@ -85,9 +85,9 @@ fn is_dfuse(fault: SuffixFault) -> bool
     }
 }
 
-/// Returns the fault for which a file with another fault is not a DfuSe file.
+/// Returns the refusal of a file with a fault other than `DfuSe`.
 fn refusal(fault: SuffixFault) -> FileFault
-    ensures { result ≡ refusal fault }
+    ensures { result ≡ suffix_refusal fault }
 {
     match fault {
         SuffixFault::TooLarge => FileFault::TooLarge,
@@ -101,7 +101,7 @@ fn refusal(fault: SuffixFault) -> FileFault
 /// Returns the bytes before a suffix with bcdDFU 011Ah.
 fn read_signed(bytes: &[u8]) -> Result<Suffixed<'_>, FileFault>
     requires { 16 ≤ length bytes.now }
-    ensures { result ≡ signed_by bytes.now }
+    ensures { result ≡ suffix_with_checked_crc bytes.now }
 {
     if has_bad_crc(bytes) {
         Err(FileFault::BadCrc)
@@ -110,7 +110,7 @@ fn read_signed(bytes: &[u8]) -> Result<Suffixed<'_>, FileFault>
     }
 }
 
-/// Reads the suffix, by the small table: a file is read once, and a library for C has no large ones.
+/// Reads the suffix, by the small table, because a file is read once, and a library for C has no large tables.
 pub(crate) fn read_suffix(bytes: &[u8]) -> Result<Suffixed<'_>, FileFault>
     ensures { result ≡ suffix_at bytes.now }
 {

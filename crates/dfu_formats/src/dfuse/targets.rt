@@ -1,9 +1,9 @@
-//! Targets, one after the other.
+//! Targets of a file, one after the other.
 
 ghost use Rattle.std.specs.Prelude.{◌≡◌, [], ◌∷◌, length, MatchOption};
 ghost use Rattle.dfu_formats.specs.dfuse.Reading.{targets_at};
-ghost use Rattle.dfu_formats.specs.dfuse.Found.{fault_only};
-ghost use Rattle.dfu_formats.specs.dfuse.Images.{handed_out};
+ghost use Rattle.dfu_formats.specs.dfuse.Found.{fault_of_result};
+ghost use Rattle.dfu_formats.specs.dfuse.Images.{handed_out_target};
 
 use crate::dfuse::elements::{Elements, check_elements, check_end};
 use crate::dfuse::fault::FileFault;
@@ -15,17 +15,17 @@ use std::marker::Model;
 pub struct Target<'f> {
     /// The alternate setting.
     pub setting: u8,
-    /// Tells whether the target has a name: 0 if it has none.
+    /// 0 if the target has no name; any other number if it has one.
     pub named: u32,
     /// The 255 bytes for its name, which ends at the first 0.
     pub name: &'f [u8],
-    /// Its elements.
+    /// Elements of the target.
     pub elements: Elements<'f>,
 }
 
-/// Checks that the bytes are so many targets, each with as many elements as it says, and nothing else.
+/// Checks that the bytes are `count` targets, each with as many elements as it says, and nothing else.
 pub(crate) fn check_targets(count: u8, bytes: &[u8]) -> Result<(), FileFault>
-    ensures { result ≡ fault_only (targets_at count bytes.now) }
+    ensures { result ≡ fault_of_result (targets_at count bytes.now) }
 {
     let mut rest = bytes;
     for _ in 0..count {
@@ -50,23 +50,23 @@ pub struct Targets<'f> {
 impl<'f> Model for Targets<'f> {
     ghost use Rattle.std.specs.Prelude.{◌≡◌, List, Ok};
     ghost use Rattle.dfu_formats.specs.dfuse.Reading as reading;
-    ghost use Rattle.dfu_formats.specs.dfuse.Found.{found};
+    ghost use Rattle.dfu_formats.specs.dfuse.Found.{found_list};
 
     ghost Value = { List reading.Target };
 
-    ghost view = { λ t. found (reading.targets_at t.left t.rest.now) };
+    ghost view = { λ t. found_list (reading.targets_at t.left t.rest.now) };
 
-    ghost invariant = { λ t. reading.targets_at t.left t.rest.now ≡ Ok (found (reading.targets_at t.left t.rest.now)) };
+    ghost invariant = { λ t. reading.targets_at t.left t.rest.now ≡ Ok (found_list (reading.targets_at t.left t.rest.now)) };
 }
 
 impl<'f> Targets<'f> {
     ghost use Rattle.std.specs.Prelude.{Ok};
-    ghost use Rattle.dfu_formats.specs.dfuse.Found.{found};
+    ghost use Rattle.dfu_formats.specs.dfuse.Found.{found_list};
 
-    /// The targets that were checked.
+    /// Returns the `left` targets at the front of `rest`, which must have been checked.
     pub(crate) fn new(left: u8, rest: &'f [u8]) -> Targets<'f>
-        requires { targets_at left rest.now ≡ Ok (found (targets_at left rest.now)) }
-        ensures { result ≡ found (targets_at left rest.now) }
+        requires { targets_at left rest.now ≡ Ok (found_list (targets_at left rest.now)) }
+        ensures { result ≡ found_list (targets_at left rest.now) }
     {
         Targets { left, rest }
     }
@@ -78,10 +78,10 @@ impl<'f> Targets<'f> {
         self.left
     }
 
-    /// Takes the first target off. Without one it changes nothing.
+    /// Takes the first target off. If no target is left, nothing changes.
     #[inline(always)]
     pub fn next_target(&mut self) -> Option<Target<'f>>
-        ensures { MatchOption result ((self.old ≡ []) × (self.new ≡ [])) (λ t. self.old ≡ handed_out t ∷ self.new) }
+        ensures { MatchOption result ((self.old ≡ []) × (self.new ≡ [])) (λ t. self.old ≡ handed_out_target t ∷ self.new) }
     {
         if self.left == 0 {
             return None;

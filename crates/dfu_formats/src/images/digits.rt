@@ -1,13 +1,13 @@
 //! Bytes in two hexadecimal digits each.
 
 ghost use Rattle.std.specs.Prelude.{◌≡◌, ◌*◌, ◌≤◌, length, sum, MatchOption, MatchResult, None, Some, Ok, Err};
-ghost use Rattle.dfu_formats.specs.images.Digits.{hex_value, pairs, bytes_at};
+ghost use Rattle.dfu_formats.specs.images.Digits.{hex_value, bytes_of_pairs, bytes_at};
 
 use crate::images::fault::ImageFault;
 use crate::images::limits::MAX_RECORD;
 use arrayvec::ArrayVec;
 
-/// The value of a hexadecimal digit of either case, 0 to 15, or 16 if the byte is not one.
+/// Returns the value of hexadecimal digit `byte`, of either case, 0 to 15, or 16 if `byte` is not one.
 pub fn hex_digit(byte: u8) -> u8
     ensures value { result ≡ hex_value byte }
     ensures small { result ≤ 16 }
@@ -20,10 +20,10 @@ pub fn hex_digit(byte: u8) -> u8
     }
 }
 
-/// The bytes that digits spell, two digits for each.
+/// Returns the bytes that the hexadecimal `digits` spell, two digits for each; None if they spell none.
 fn pairs(digits: &[u8]) -> Option<ArrayVec<u8, MAX_RECORD>>
     requires { length digits.now ≤ 520 }
-    ensures { MatchOption result (pairs digits.now ≡ None) (λ bytes. pairs digits.now ≡ Some bytes.items) }
+    ensures { MatchOption result (bytes_of_pairs digits.now ≡ None) (λ bytes. bytes_of_pairs digits.now ≡ Some bytes.items) }
 {
     let mut bytes = ArrayVec::new();
     let mut at = 0;
@@ -42,7 +42,7 @@ fn pairs(digits: &[u8]) -> Option<ArrayVec<u8, MAX_RECORD>>
     Some(bytes)
 }
 
-/// The bytes of a record, from its digits.
+/// Returns the bytes of the record in line `at`, from its `digits`.
 #[tactic(auto, using(std::proofs::lemmas::Bool::Decides::nat_tests), unfolding(crate::specs::images::Digits::bytes_at))]
 pub(crate) fn bytes_at(at: usize, digits: &[u8]) -> Result<ArrayVec<u8, MAX_RECORD>, ImageFault>
     ensures { MatchResult result (λ bytes. bytes_at at digits.now ≡ Ok bytes.items) (λ fault. bytes_at at digits.now ≡ Err fault) }
@@ -56,7 +56,7 @@ pub(crate) fn bytes_at(at: usize, digits: &[u8]) -> Result<ArrayVec<u8, MAX_RECO
     }
 }
 
-/// The sum of the bytes of a record.
+/// Returns the sum of `bytes`, the bytes of a record.
 pub(crate) fn sum_of(bytes: &[u8]) -> u32
     requires { length bytes.now ≤ 260 }
     ensures { result ≡ sum bytes.now }

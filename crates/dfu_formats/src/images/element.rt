@@ -24,7 +24,7 @@ impl Model for Element {
 }
 
 impl Element {
-    /// An element of these bytes.
+    /// Returns the element of `bytes`, 1 or more, at `address`. It must end at 2^32 or before.
     pub(crate) fn new(address: u64, bytes: Vec<u8>) -> Element
         requires some { 1 ≤ length bytes.items }
         requires ends { address + length bytes.items ≤ 2 ^ 32 }
@@ -36,21 +36,21 @@ impl Element {
         }
     }
 
-    /// The address of the first byte.
+    /// Returns the address of the first byte.
     pub fn address(&self) -> u32
         ensures { result ≡ self.now.address }
     {
         self.address
     }
 
-    /// The bytes.
+    /// Returns the bytes of the element.
     pub fn bytes(&self) -> &[u8]
         ensures { result.now ≡ self.now.bytes }
     {
         &self.bytes
     }
 
-    /// The address after the last byte, up to 2^32.
+    /// Returns the address after the last byte, up to 2^32.
     pub fn end(&self) -> u64
         ensures value { result ≡ end_of_piece self.now }
         ensures fits { result ≤ 2 ^ 32 }

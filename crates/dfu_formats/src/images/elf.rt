@@ -1,9 +1,9 @@
 //! ELF files of 32 bits, little endian: what their segments load.
 
 ghost use Rattle.std.specs.Prelude.{◌≡◌, ◌+◌, ◌*◌, ◌≤◌, ◌<◌, length, IfOk, true, Ok, Err};
-ghost use Rattle.dfu_formats.specs.images.Reading.{Gives, FailsToRead};
-ghost use Rattle.dfu_formats.specs.images.Elements.{AreApart, Lists};
-ghost use Rattle.dfu_formats.specs.images.Elf.{is_elf, has_headers, segment_read, elf_elements_of};
+ghost use Rattle.dfu_formats.specs.images.Reading.{GivesReading, FailsToRead};
+ghost use Rattle.dfu_formats.specs.images.Elements.{AreApart, GivesElements};
+ghost use Rattle.dfu_formats.specs.images.Elf.{is_elf, has_program_headers, segment_read, elf_elements_of};
 
 use crate::images::element::Element;
 use crate::images::fault::ImageFault;
@@ -12,7 +12,7 @@ use crate::images::numbers::{le16, le32};
 use crate::images::parts::{ByPart, elements_by_part};
 use std::alloc::Global;
 
-/// Returns whether a file has the header of such a file.
+/// Returns true if `file` has the header of an ELF file of 32 bits, little endian.
 #[tactic(auto, using(std::proofs::lemmas::Bool::Decides::nat_tests))]
 fn is_elf(file: &[u8]) -> bool
     ensures value { result ≡ is_elf file.now }
@@ -21,7 +21,7 @@ fn is_elf(file: &[u8]) -> bool
     file.len() >= 52 && le32(file, 0) == 0x464c_457f && file[4] == 1 && file[5] == 1 && file[6] == 1
 }
 
-/// The file that segments are read from.
+/// File that has the segments.
 #[derive(Drop)]
 struct Segments<'t> {
     file: &'t [u8],
@@ -46,7 +46,7 @@ impl ByPart for Segments<'_> {
         }
         let from = le32(header, 4) as usize;
         let address = le32(header, 12) as u64;
-        // A sum of 64 bits, which no two numbers of a header wrap where a usize has 32.
+        // A sum of 64 bits, because two numbers of a header may wrap a usize of 32.
         if from as u64 + count as u64 > self.file.len() as u64 {
             return Err(ImageFault::CutSegment(index));
         }
@@ -59,12 +59,12 @@ impl ByPart for Segments<'_> {
     }
 }
 
-/// The elements of a file.
+/// Reads the elements of ELF file `file`.
 #[tactic(auto, using(std::proofs::lemmas::Bool::Decides::nat_tests), unfolding(crate::specs::images::Elf::elf_elements_of))]
 pub fn read(alloc: Global, file: &[u8]) -> Result<Vec<Element>, ImageFault>
     // The result is the list of the file's elements, or its first fault.
-    ensures value { Lists result (elf_elements_of file.now) }
-    // The elements are by address, and no two share one.
+    ensures value { GivesElements result (elf_elements_of file.now) }
+    // The elements are by address, and no two share an address.
     ensures apart { IfOk result (λ v. AreApart 0 v.items) }
 {
     if !is_elf(file) {

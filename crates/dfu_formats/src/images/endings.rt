@@ -14,7 +14,7 @@ pub enum Ending {
     Dfu,
 }
 
-/// Returns whether a name has this ending, in letters of either case.
+/// Returns whether a name ends in `ending`, in letters of either case.
 #[tactic(auto, unfolding(crate::specs::images::Endings::ends_in))]
 fn ends_in(ending: &[u8], name: &[u8]) -> bool
     ensures { result ≡ ends_in ending.now name.now }
@@ -26,7 +26,7 @@ fn ends_in(ending: &[u8], name: &[u8]) -> bool
     last.eq_ignore_ascii_case(ending)
 }
 
-/// Returns the format that the ending of a name says, if it says one.
+/// Returns the format that the ending of a name says, or `None`.
 pub(crate) fn name_ending(name: &[u8]) -> Option<Ending>
     ensures { result ≡ name_ending name.now }
 {

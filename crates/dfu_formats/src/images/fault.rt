@@ -5,7 +5,7 @@ ghost use Rattle.std.specs.Prelude.{◌<◌};
 use std::fmt;
 use thiserror::Error;
 
-/// Faults for which a file has no image. Lines are counted from 1, and blocks and segments from 0.
+/// A fault for which a file has no image. Lines are counted from 1, and blocks and segments from 0.
 #[derive(Clone, Copy, Error)]
 pub enum ImageFault {
     /// An allocation was refused.
@@ -56,10 +56,10 @@ pub enum ImageFault {
     Overlaps(u32),
 }
 
-/// The row of Overlaps, whose number is an address.
+/// Row of Overlaps in the tables; its number is an address.
 const OVERLAPS: usize = 22;
 
-/// The words of each fault, without a place or an address, in the order of the enum.
+/// Words of each fault, without a place or an address, in the order of the enum.
 static WORDS: [&str; 23] = [
     "an allocation was refused",
     "no record begins so",
@@ -86,7 +86,7 @@ static WORDS: [&str; 23] = [
     "two records have a byte at address ",
 ];
 
-/// The kind of place that the number of each fault counts, if it counts one, in the order of the enum.
+/// Kind of place that the number of each fault counts, if the fault has one, in the order of the enum.
 #[rattlefmt::skip]
 static PLACES: [&str; 23] = [
     "", "line", "line", "line", "line", "line", "line", "line", "line", "", "", "block", "block", "block", "block", "block", "",
@@ -94,7 +94,7 @@ static PLACES: [&str; 23] = [
 ];
 
 impl ImageFault {
-    /// The fault's row in the tables, and its number or address, if it has one.
+    /// Returns the row of the fault in the tables, 0 to 22, and the number or address of the fault, if it has one.
     fn row(self) -> (usize, Option<usize>)
         ensures { result.0 < 23 }
     {

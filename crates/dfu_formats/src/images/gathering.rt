@@ -1,8 +1,8 @@
-//! Elements, as they are gathered from records.
+//! Elements that grow and are completed as records are read.
 
 ghost use Rattle.std.specs.Prelude.{◌≡◌, ◌+◌, ◌≤◌, ◌<◌, ◌^◌, length, IfOk, Ok, Err};
-ghost use Rattle.dfu_formats.specs.images.Reading.{Gives};
-ghost use Rattle.dfu_formats.specs.images.Elements.{nothing, element_place, placed, completed, begun, grown, added, shared, gathered, AreApart, Lists};
+ghost use Rattle.dfu_formats.specs.images.Reading.{GivesReading};
+ghost use Rattle.dfu_formats.specs.images.Elements.{empty_gathering, element_place, elements_with_inserted, completed_elements, element_begun, element_grown, bytes_added, shared_address, gathered_elements, AreApart, GivesElements};
 
 use crate::images::element::Element;
 use crate::images::fault::ImageFault;
@@ -34,7 +34,7 @@ impl Model for Gathering {
     ghost invariant = { λ g. (g.total ≤ 16777216) × (g.address + length g.bytes.items ≤ 2 ^ 32) };
 }
 
-/// Counts the elements that have an address up to this one, from the front.
+/// Returns the number of `elements`, from the front, that begin at `address` or before it.
 fn place_of(address: u32, elements: &[Element]) -> usize
     ensures value { result ≡ element_place address elements.now }
     ensures within { result ≤ length elements.now }
@@ -49,9 +49,9 @@ fn place_of(address: u32, elements: &[Element]) -> usize
     count
 }
 
-/// Puts an element among others by its address.
+/// Puts `element` among `elements` by its address, and returns all.
 fn placed(mut elements: Vec<Element>, element: Element) -> Result<Vec<Element>, ImageFault>
-    ensures { Lists result (Ok (placed element elements.items)) }
+    ensures { GivesElements result (Ok (elements_with_inserted element elements.items)) }
 {
     let place = place_of(element.address(), &elements);
     match elements.insert(place, element) {
@@ -60,15 +60,15 @@ fn placed(mut elements: Vec<Element>, element: Element) -> Result<Vec<Element>, 
     }
 }
 
-/// The elements with the last one, which has no byte at first, complete.
-#[tactic(auto, using(std::proofs::lemmas::Bool::Decides::nat_tests), unfolding(crate::specs::images::Elements::completed))]
+/// Adds the element of `bytes` at `address` to `elements`, unless it has no byte, and returns all.
+#[tactic(auto, using(std::proofs::lemmas::Bool::Decides::nat_tests), unfolding(crate::specs::images::Elements::completed_elements))]
 fn completed(
     elements: Vec<Element>,
     address: u64,
     bytes: Vec<u8>,
 ) -> Result<Vec<Element>, ImageFault>
     requires { address + length bytes.items ≤ 2 ^ 32 }
-    ensures { Lists result (Ok (completed elements.items (record { address = address; bytes = bytes.items }))) }
+    ensures { GivesElements result (Ok (completed_elements elements.items (record { address = address; bytes = bytes.items }))) }
 {
     if bytes.len() == 0 {
         return Ok(elements);
@@ -76,8 +76,8 @@ fn completed(
     placed(elements, Element::new(address, bytes))
 }
 
-/// An element that begins with these bytes.
-#[tactic(auto, using(std::proofs::lemmas::Bool::Decides::nat_tests), unfolding(crate::specs::images::Elements::begun))]
+/// Begins an element with `bytes` at `address`, after the `complete` elements.
+#[tactic(auto, using(std::proofs::lemmas::Bool::Decides::nat_tests), unfolding(crate::specs::images::Elements::element_begun))]
 fn begun(
     alloc: Global,
     at: usize,
@@ -88,7 +88,7 @@ fn begun(
 ) -> Result<Gathering, ImageFault>
     requires ends { address + length bytes.now ≤ 2 ^ 32 }
     requires few { total ≤ 16777216 }
-    ensures { Gives result (begun at total complete.items (record { address = address; bytes = bytes.now })) }
+    ensures { GivesReading result (element_begun at total complete.items (record { address = address; bytes = bytes.now })) }
 {
     if complete.len() >= MAX_ELEMENTS {
         return Err(ImageFault::TooManyElements(at));
@@ -104,10 +104,10 @@ fn begun(
     }
 }
 
-/// The first address that lies before the end of the element before it.
-#[tactic(auto, unfolding(crate::specs::images::Elements::shared))]
+/// Returns the first address at which an element begins before the element in front of it ends; None if there is none.
+#[tactic(auto, unfolding(crate::specs::images::Elements::shared_address))]
 fn shared(elements: &[Element]) -> Option<u32>
-    ensures { result ≡ shared 0 elements.now }
+    ensures { result ≡ shared_address 0 elements.now }
 {
     let mut end: u64 = 0;
     for element in elements {
@@ -120,9 +120,9 @@ fn shared(elements: &[Element]) -> Option<u32>
 }
 
 impl Gathering {
-    /// Nothing yet.
+    /// Returns a gathering of no element.
     pub(crate) fn new(alloc: Global) -> Gathering
-        ensures { result ≡ nothing }
+        ensures { result ≡ empty_gathering }
     {
         Gathering {
             complete: Vec::new(alloc),
@@ -132,8 +132,8 @@ impl Gathering {
         }
     }
 
-    /// Bytes that go on where the last ones end, or begin an element.
-    #[tactic(auto, using(std::proofs::lemmas::Bool::Decides::nat_tests), unfolding(crate::specs::images::Elements::grown))]
+    /// Adds `bytes` at `address`: they go on where the last ones end, or begin an element.
+    #[tactic(auto, using(std::proofs::lemmas::Bool::Decides::nat_tests), unfolding(crate::specs::images::Elements::element_grown))]
     fn grow(
         self,
         alloc: Global,
@@ -143,7 +143,7 @@ impl Gathering {
     ) -> Result<Gathering, ImageFault>
         requires ends { address + length bytes.now ≤ 2 ^ 32 }
         requires few { self.total + length bytes.now ≤ 16777216 }
-        ensures { Gives result (grown at self (record { address = address; bytes = bytes.now })) }
+        ensures { GivesReading result (element_grown at self (record { address = address; bytes = bytes.now })) }
     {
         let Gathering {
             complete,
@@ -169,8 +169,8 @@ impl Gathering {
         }
     }
 
-    /// Bytes at an address.
-    #[tactic(auto, using(std::proofs::lemmas::Bool::Decides::nat_tests), unfolding(crate::specs::images::Elements::added))]
+    /// Adds `bytes` at `address`, of line, block or segment number `at`.
+    #[tactic(auto, using(std::proofs::lemmas::Bool::Decides::nat_tests), unfolding(crate::specs::images::Elements::bytes_added))]
     pub(crate) fn add(
         self,
         alloc: Global,
@@ -179,7 +179,7 @@ impl Gathering {
         bytes: &[u8],
     ) -> Result<Gathering, ImageFault>
         requires { address + length bytes.now ≤ 2 ^ 32 }
-        ensures { Gives result (added at self (record { address = address; bytes = bytes.now })) }
+        ensures { GivesReading result (bytes_added at self (record { address = address; bytes = bytes.now })) }
     {
         if bytes.len() == 0 {
             return Ok(self);
@@ -190,10 +190,14 @@ impl Gathering {
         self.grow(alloc, at, address, bytes)
     }
 
-    /// The elements of all that was gathered.
-    #[tactic(auto, using(std::proofs::lemmas::Bool::Decides::nat_tests), unfolding(crate::specs::images::Elements::gathered))]
+    /// Returns the elements of all that was gathered.
+    ///
+    /// # Errors
+    ///
+    /// Overlaps with the first address at which an element begins before the end of the one in front of it.
+    #[tactic(auto, using(std::proofs::lemmas::Bool::Decides::nat_tests), unfolding(crate::specs::images::Elements::gathered_elements))]
     pub(crate) fn finish(self) -> Result<Vec<Element>, ImageFault>
-        ensures value { Lists result (gathered self) }
+        ensures value { GivesElements result (gathered_elements self) }
         ensures apart { IfOk result (λ v. AreApart 0 v.items) }
     {
         let Gathering {

@@ -6,9 +6,9 @@
 //! which a program begins says nothing of the image.
 
 ghost use Rattle.std.specs.Prelude.{◌≡◌, ◌+◌, ◌≤◌, ◌<◌, ◌^◌, length, IfOk, MatchResult, Ok, Err};
-ghost use Rattle.dfu_formats.specs.images.Reading.{Gives, FailsToRead};
-ghost use Rattle.dfu_formats.specs.images.Elements.{AreApart, Lists};
-ghost use Rattle.dfu_formats.specs.images.IntelHex.{hex_spelled, hex_framed, hex_data_at, leaves_segment, based, hex_meant, hex_record_read, hex_elements_of};
+ghost use Rattle.dfu_formats.specs.images.Reading.{GivesReading, FailsToRead};
+ghost use Rattle.dfu_formats.specs.images.Elements.{AreApart, GivesElements};
+ghost use Rattle.dfu_formats.specs.images.IntelHex.{hex_spelled, hex_framed, hex_data_at, leaves_segment, state_with_base, hex_meant, hex_record_read, hex_elements_of};
 
 use crate::images::digits::{bytes_at, sum_of};
 use crate::images::element::Element;
@@ -19,7 +19,7 @@ use arrayvec::ArrayVec;
 use std::alloc::Global;
 use std::marker::Model;
 
-/// The bytes of a record, from the text of its line.
+/// Returns the bytes of the record in `line`, which has number `at`: the bytes that the digits behind `:` spell.
 #[tactic(auto, using(std::proofs::lemmas::Bool::Decides::nat_tests), unfolding(crate::specs::images::IntelHex::hex_spelled))]
 fn spelled(at: usize, line: &[u8]) -> Result<ArrayVec<u8, MAX_RECORD>, ImageFault>
     ensures { MatchResult result (λ bytes. hex_spelled at line.now ≡ Ok bytes.items) (λ fault. hex_spelled at line.now ≡ Err fault) }
@@ -30,7 +30,7 @@ fn spelled(at: usize, line: &[u8]) -> Result<ArrayVec<u8, MAX_RECORD>, ImageFaul
     }
 }
 
-/// A record: where its data goes, counted from the base, its type, and its data.
+/// A record: the offset of its data from the base, its type, and its data.
 #[derive(Drop)]
 struct Record<'t> {
     offset: u32,
@@ -46,7 +46,7 @@ impl<'t> Model for Record<'t> {
     ghost view = { λ r. record { offset = r.offset; kind = r.kind; content = r.content.now } };
 }
 
-/// A record, from its bytes.
+/// Returns the record that `bytes` are, in line number `at`.
 #[tactic(auto, using(std::proofs::lemmas::Bool::Decides::nat_tests), unfolding(crate::specs::images::IntelHex::hex_framed))]
 fn framed(at: usize, bytes: &[u8]) -> Result<Record<'_>, ImageFault>
     requires { length bytes.now ≤ 260 }
@@ -80,11 +80,11 @@ fn leaves_segment(state: &State, said: &Record<'_>) -> bool
     state.is_segment && said.offset as usize + said.content.len() > 65_536
 }
 
-/// Data at an offset from the base.
+/// Takes the data of record `said`, in line number `at`, at its offset from the base of `state`.
 #[tactic(auto, using(std::proofs::lemmas::Bool::Decides::nat_tests), unfolding(crate::specs::images::IntelHex::hex_data_at))]
 fn data_at(alloc: Global, at: usize, state: State, said: &Record<'_>) -> Result<State, ImageFault>
     requires { said.now.offset < 65536 }
-    ensures value { Gives result (hex_data_at at state said.now) }
+    ensures value { GivesReading result (hex_data_at at state said.now) }
     ensures counted { IfOk result (λ s. s.count ≡ state.count) }
 {
     let address = state.base + said.offset as u64;
@@ -97,11 +97,11 @@ fn data_at(alloc: Global, at: usize, state: State, said: &Record<'_>) -> Result<
     }
 }
 
-/// A new base, in units of so many addresses.
-#[tactic(auto, using(std::proofs::lemmas::Bool::Decides::nat_tests), unfolding(crate::specs::images::IntelHex::based))]
+/// Sets a new base, in units of `unit` addresses.
+#[tactic(auto, using(std::proofs::lemmas::Bool::Decides::nat_tests), unfolding(crate::specs::images::IntelHex::state_with_base))]
 fn based(at: usize, unit: u64, state: State, said: &Record<'_>) -> Result<State, ImageFault>
     requires { unit ≤ 65536 }
-    ensures value { result ≡ based at unit state said.now }
+    ensures value { result ≡ state_with_base at unit state said.now }
     ensures counted { IfOk result (λ s. s.count ≡ state.count) }
 {
     match said.content {
@@ -114,11 +114,11 @@ fn based(at: usize, unit: u64, state: State, said: &Record<'_>) -> Result<State,
     }
 }
 
-/// The state behind a record.
+/// Returns the state after record `said` in line number `at`.
 #[tactic(auto, using(std::proofs::lemmas::Bool::Decides::nat_tests), unfolding(crate::specs::images::IntelHex::hex_meant))]
 fn meant(alloc: Global, at: usize, state: State, said: &Record<'_>) -> Result<State, ImageFault>
     requires { said.now.offset < 65536 }
-    ensures value { Gives result (hex_meant at state said.now) }
+    ensures value { GivesReading result (hex_meant at state said.now) }
     ensures counted { IfOk result (λ s. s.count ≡ state.count) }
 {
     match said.kind {
@@ -156,12 +156,12 @@ impl TextFormat for IntelHex {
     }
 }
 
-/// The elements of a file.
+/// Reads the elements of Intel HEX file `text`.
 #[tactic(auto, using(std::proofs::lemmas::Bool::Decides::nat_tests), unfolding(crate::specs::images::IntelHex::hex_elements_of))]
 pub fn read(alloc: Global, text: &[u8]) -> Result<Vec<Element>, ImageFault>
     // The result is the list of the file's elements, or its first fault.
-    ensures value { Lists result (hex_elements_of text.now) }
-    // The elements are by address, and no two share one.
+    ensures value { GivesElements result (hex_elements_of text.now) }
+    // The elements are by address, and no two share an address.
     ensures apart { IfOk result (λ v. AreApart 0 v.items) }
 {
     elements_by_line::<IntelHex>(alloc, text)

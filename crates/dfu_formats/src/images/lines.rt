@@ -3,10 +3,10 @@
 ghost use Rattle.std.specs.Prelude.{◌≡◌, ◌+◌, ◌≤◌, ◌<◌, ℕ, List, Result, [], ◌∷◌, length, IfOk, IfSome, MatchOption};
 ghost use Rattle.std.specs.List.{list_all, position};
 ghost use Rattle.dfu_formats.specs.declared.images.fault.ImageFault as declared;
-ghost use Rattle.dfu_formats.specs.images.Reading.{Gives, FailsToRead};
-ghost use Rattle.dfu_formats.specs.images.Elements.{AreApart, Lists};
+ghost use Rattle.dfu_formats.specs.images.Reading.{GivesReading, FailsToRead};
+ghost use Rattle.dfu_formats.specs.images.Elements.{AreApart, GivesElements};
 ghost use Rattle.dfu_formats.specs.images.Text.{is_blank_byte};
-ghost use Rattle.dfu_formats.specs.images.Lines.{lines, is_feed, bare, text_start, line_read, lines_read, elements_by_line};
+ghost use Rattle.dfu_formats.specs.images.Lines.{lines, is_line_feed, bare_line, state_before_first_line, line_read, lines_read, elements_by_line};
 
 use crate::images::element::Element;
 use crate::images::fault::ImageFault;
@@ -15,15 +15,15 @@ use crate::images::text::{is_blank_byte, unblanked, unmarked};
 use std::alloc::Global;
 use std::marker::Model;
 
-/// Returns the place of the first line feed.
+/// Returns the index of the first line feed of `text`; None if it has none.
 fn feed_in(text: &[u8]) -> Option<usize>
-    ensures value { result ≡ position is_feed text.now }
+    ensures value { result ≡ position is_line_feed text.now }
     ensures within { IfSome result (λ at. at < length text.now) }
 {
     text.iter().position(|byte| *byte == b'\n')
 }
 
-/// The first line, and what follows its line feed, if it has one.
+/// Returns the first line of `text`, and the text after its line feed, if it has one.
 fn take_line(text: &[u8]) -> (&[u8], Option<&[u8]>)
     ensures value { MatchOption result.1 (lines text.now ≡ result.0.now ∷ []) (λ rest. lines text.now ≡ result.0.now ∷ lines rest.now) }
     ensures shorter { IfSome result.1 (λ rest. length rest.now < length text.now) }
@@ -38,9 +38,9 @@ fn take_line(text: &[u8]) -> (&[u8], Option<&[u8]>)
     }
 }
 
-/// A line without the blanks at its ends.
+/// Returns `line` without the blanks at its ends.
 fn bare(line: &[u8]) -> &[u8]
-    ensures { result.now ≡ bare line.now }
+    ensures { result.now ≡ bare_line line.now }
 {
     let from_first = unblanked(line);
     let mut end = from_first.len();
@@ -51,8 +51,8 @@ fn bare(line: &[u8]) -> &[u8]
     kept
 }
 
-/// State of the reading of a text up to a line: the elements, what Intel HEX counts offsets from, whether that is a segment of 65,536
-/// bytes, how many S-records of data there were, whether the text may end here, and whether only blank lines may follow.
+/// State of the reading of a text up to a line: the elements, the base of Intel HEX, whether the base is that of a segment of 65,536 bytes,
+/// the number of S-records of data, whether the text may end here, and whether only blank lines may follow.
 #[derive(Drop)]
 pub(crate) struct State {
     pub gathering: Gathering,
@@ -90,18 +90,18 @@ pub(crate) trait TextFormat {
 
     fn step(alloc: Global, at: usize, state: State, line: &[u8]) -> Result<State, ImageFault>
         requires { state.count < at }
-        ensures value { Gives result (step at state line.now) }
+        ensures value { GivesReading result (step at state line.now) }
         ensures counted { IfOk result (λ s. s.count ≤ state.count + 1) };
 }
 
-/// Returns whether a line has nothing but blanks.
+/// Returns true if `line` is empty or has only blanks.
 fn is_blank_line(line: &[u8]) -> bool
     ensures { result ≡ list_all is_blank_byte line.now }
 {
     line.iter().all(|byte| is_blank_byte(*byte))
 }
 
-/// A line: a record, or blanks alone, or nothing.
+/// Reads `line`, which has number `at`: a record, or blanks alone, or nothing. Returns the state after it.
 #[tactic(auto, using(std::proofs::lemmas::Bool::Decides::nat_tests), unfolding(crate::specs::images::Lines::line_read))]
 fn line_read<F: TextFormat>(
     alloc: Global,
@@ -110,7 +110,7 @@ fn line_read<F: TextFormat>(
     line: &[u8],
 ) -> Result<State, ImageFault>
     requires { state.count < at }
-    ensures value { Gives result (line_read F.step at state line.now) }
+    ensures value { GivesReading result (line_read F.step at state line.now) }
     ensures counted { IfOk result (λ s. s.count ≤ state.count + 1) }
 {
     if is_blank_line(line) {
@@ -122,9 +122,9 @@ fn line_read<F: TextFormat>(
     F::step(alloc, at, state, line)
 }
 
-/// All lines.
+/// Reads all lines of `text`. Returns the state after them.
 fn lines_read<F: TextFormat>(alloc: Global, text: &[u8]) -> Result<State, ImageFault>
-    ensures { Gives result (lines_read (line_read F.step) 1 text_start (lines text.now)) }
+    ensures { GivesReading result (lines_read (line_read F.step) 1 state_before_first_line (lines text.now)) }
 {
     let mut state = State {
         gathering: Gathering::new(alloc),
@@ -151,14 +151,14 @@ fn lines_read<F: TextFormat>(alloc: Global, text: &[u8]) -> Result<State, ImageF
     }
 }
 
-/// The elements of a text, behind its byte order mark.
+/// Reads the elements of `text`, behind its byte order mark, line by line.
 pub(crate) fn elements_by_line<F: TextFormat>(
     alloc: Global,
     text: &[u8],
 ) -> Result<Vec<Element>, ImageFault>
     // The result is the list of the text's elements, or its first fault.
-    ensures value { Lists result (elements_by_line F.step text.now) }
-    // The elements are by address, and no two share one.
+    ensures value { GivesElements result (elements_by_line F.step text.now) }
+    // The elements are by address, and no two share an address.
     ensures apart { IfOk result (λ v. AreApart 0 v.items) }
 {
     match lines_read::<F>(alloc, unmarked(text)) {

@@ -1,7 +1,7 @@
 //! Looks of a file without a DFU suffix.
 
 ghost use Rattle.std.specs.Prelude.{◌≡◌};
-ghost use Rattle.dfu_formats.specs.images.Looks.{begins_ihex, begins_srec, has_digits, look_of, looks_by_name, looks_of};
+ghost use Rattle.dfu_formats.specs.images.Looks.{begins_ihex, begins_srec, has_digits, look_at_file, looks_by_name, looks_of};
 
 use crate::images::digits::hex_digit;
 use crate::images::endings::{Ending, name_ending};
@@ -9,44 +9,44 @@ use crate::images::format::Format;
 use crate::images::places::{Place, bad_place};
 use crate::images::text::{is_text, unblanked, unmarked};
 
-/// A file of which no image is taken.
+/// Kinds of a file of which no image is taken.
 #[derive(Clone, Copy)]
 pub enum NotImage {
-    /// It begins as a DfuSe file.
+    /// The file begins as a DfuSe file.
     DfuSe,
-    /// It begins as a zip archive.
+    /// The file begins as a zip archive.
     Zip,
-    /// It begins as a gzip archive.
+    /// The file begins as a gzip archive.
     Gzip,
-    /// It is text alone, of no format.
+    /// The file is text alone, of no format.
     Text,
-    /// Its bytes may be anything, but its name says this.
+    /// The bytes may be anything, but the name ends as that of a format.
     Named(Ending),
 }
 
 /// Look of a file.
 #[derive(Clone, Copy)]
 pub enum Looks {
-    /// Nothing is known against a raw image.
+    /// Nothing is known that speaks against a raw image.
     Raw,
     /// A file of a format that builds produce.
     Of(Format),
-    /// Something else.
+    /// A file of which no image is taken.
     Other(NotImage),
 }
 
 /// A look at a file.
 #[derive(Clone, Copy)]
 pub struct Look {
-    /// What it is.
+    /// Look of the file.
     pub looks: Looks,
-    /// Format that the ending of its name says, whatever its bytes are.
+    /// Format that the ending of the file's name says, whatever its bytes are.
     pub ending: Option<Ending>,
-    /// The first byte that no record has there, of a file that looks like Intel HEX or S-records.
+    /// The first byte that no record has at its place, in a file that looks like Intel HEX or S-records.
     pub bad: Option<Place>,
 }
 
-/// Returns whether the first two bytes are hexadecimal digits.
+/// Returns true if the first two bytes of `text` are hexadecimal digits.
 #[tactic(auto, using(std::proofs::lemmas::Bool::Decides::nat_tests))]
 fn has_digits(text: &[u8]) -> bool
     ensures { result ≡ has_digits text.now }
@@ -57,7 +57,7 @@ fn has_digits(text: &[u8]) -> bool
     }
 }
 
-/// Returns whether the text of a file begins as Intel HEX.
+/// Returns true if `text`, the text of `file`, begins as Intel HEX.
 #[tactic(auto, using(std::proofs::lemmas::Bool::Decides::nat_tests))]
 fn begins_ihex(file: &[u8], text: &[u8]) -> bool
     ensures { result ≡ begins_ihex file.now text.now }
@@ -68,7 +68,7 @@ fn begins_ihex(file: &[u8], text: &[u8]) -> bool
     }
 }
 
-/// Returns whether a text begins as an S-record.
+/// Returns true if `text` begins as an S-record.
 #[tactic(auto, using(std::proofs::lemmas::Bool::Decides::nat_tests))]
 fn begins_srec(text: &[u8]) -> bool
     ensures { result ≡ begins_srec text.now }
@@ -79,7 +79,7 @@ fn begins_srec(text: &[u8]) -> bool
     }
 }
 
-/// Returns the look of a file whose bytes say nothing.
+/// Returns the look of a file whose bytes fit no format, by the `ending` of its name.
 fn looks_by_name(ending: Option<Ending>) -> Looks
     ensures { result ≡ looks_by_name ending }
 {
@@ -89,7 +89,7 @@ fn looks_by_name(ending: Option<Ending>) -> Looks
     }
 }
 
-/// Returns the look of a file, by its bytes and the ending of its name.
+/// Returns the look of `file`, by its bytes and the `ending` of its name.
 fn looks_of(file: &[u8], ending: Option<Ending>) -> Looks
     ensures { result ≡ looks_of file.now ending }
 {
@@ -115,9 +115,9 @@ fn looks_of(file: &[u8], ending: Option<Ending>) -> Looks
     }
 }
 
-/// Looks at a file with a name, which may be that of its path or of its last part.
+/// Returns the look of `file` with `name`, which may be that of its path or of its last part.
 pub fn look_at(file: &[u8], name: &[u8]) -> Look
-    ensures { result ≡ look_of file.now name.now }
+    ensures { result ≡ look_at_file file.now name.now }
 {
     let ending = name_ending(name);
     let looks = looks_of(file, ending);

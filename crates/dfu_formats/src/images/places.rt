@@ -1,7 +1,7 @@
-//! The first byte of a text of records that no record has there.
+//! The first byte of a text of records that no record has at its place.
 
 ghost use Rattle.std.specs.Prelude.{◌≡◌};
-ghost use Rattle.dfu_formats.specs.images.Places.{bad_from, bad_place, led_to};
+ghost use Rattle.dfu_formats.specs.images.Places.{bad_from, bad_place, part_after_byte};
 
 use crate::images::digits::hex_digit;
 use crate::images::format::Format;
@@ -10,9 +10,9 @@ use crate::images::text::{is_blank_byte, unmarked};
 /// A place in a text. Both numbers count from 1, and columns count bytes.
 #[derive(Clone, Copy)]
 pub struct Place {
-    /// The line.
+    /// Line of the place.
     pub line: u64,
-    /// The byte within the line.
+    /// Byte within the line.
     pub column: u64,
 }
 
@@ -24,10 +24,10 @@ enum Part {
     Back,
 }
 
-/// The part of a line that a byte leads to, if a record has such a byte there.
+/// Returns the part of a line after `byte` in `part`; None if no record with `mark` has such a byte in `part`.
 #[tactic(auto, using(std::proofs::lemmas::Bool::Decides::nat_tests))]
 fn led_to(mark: u8, part: Part, byte: u8) -> Option<Part>
-    ensures { result ≡ led_to mark part byte }
+    ensures { result ≡ part_after_byte mark part byte }
 {
     match part {
         Part::Front if byte == mark && !is_blank_byte(byte) => Some(Part::Digits),
@@ -38,7 +38,8 @@ fn led_to(mark: u8, part: Part, byte: u8) -> Option<Part>
     }
 }
 
-/// The first byte that no record with this mark has there, in a text without its byte order mark.
+/// Returns the place of the first byte of `text`, a text without its byte order mark, that no record with `mark` has there; None if there
+/// is none.
 #[tactic(auto, using(std::proofs::lemmas::Bool::Decides::nat_tests), unfolding(crate::specs::images::Places::bad_from))]
 fn bad_from(mark: u8, text: &[u8]) -> Option<Place>
     ensures { result ≡ bad_from mark Part.Front 1 1 text.now }
@@ -62,7 +63,8 @@ fn bad_from(mark: u8, text: &[u8]) -> Option<Place>
     None
 }
 
-/// The first byte that no record has there, of a file in a format of text; None if there is none, or for a format of bytes.
+/// Returns the place of the first byte of `file` that no record has there, if `format` is a format of text. None if there is no such byte,
+/// or for a format of bytes.
 ///
 /// A line is blanks, the mark of a record, hexadecimal digits, and blanks. Lines are counted behind a byte order mark.
 pub fn bad_place(format: Format, file: &[u8]) -> Option<Place>

@@ -1,11 +1,11 @@
 //! S-records, types 0 to 3 and 5 to 9.
 //!
-//! Lines and digits are as in Intel HEX. After all data there is an end record, of any of its types, or a count, as some tools write no
+//! Lines and digits are as in Intel HEX. After all data comes an end record, of any of its types, or a count, because some tools write no
 //! end record. A count is of the records of data before it. Titles are passed over.
 
 ghost use Rattle.std.specs.Prelude.{◌≡◌, ◌+◌, ◌≤◌, ◌<◌, ◌^◌, length, IfOk, MatchResult, Ok, Err};
-ghost use Rattle.dfu_formats.specs.images.Reading.{Gives, FailsToRead};
-ghost use Rattle.dfu_formats.specs.images.Elements.{AreApart, Lists};
+ghost use Rattle.dfu_formats.specs.images.Reading.{GivesReading, FailsToRead};
+ghost use Rattle.dfu_formats.specs.images.Elements.{AreApart, GivesElements};
 ghost use Rattle.dfu_formats.specs.images.SRecord.{srec_data_at, srec_closed, srec_record_read, srec_elements_of};
 
 use crate::images::element::Element;
@@ -14,11 +14,11 @@ use crate::images::lines::{State, TextFormat, elements_by_line};
 use crate::images::srec_line::{Record, framed, spelled};
 use std::alloc::Global;
 
-/// Data at an address.
+/// Takes the data of record `said`, in line number `at`, at its address.
 #[tactic(auto, using(std::proofs::lemmas::Bool::Decides::nat_tests), unfolding(crate::specs::images::SRecord::srec_data_at))]
 fn data_at(alloc: Global, at: usize, state: State, said: &Record<'_>) -> Result<State, ImageFault>
     requires { state.count < at }
-    ensures value { Gives result (srec_data_at at state said.now) }
+    ensures value { GivesReading result (srec_data_at at state said.now) }
     ensures counted { IfOk result (λ s. s.count ≤ state.count + 1) }
 {
     if said.address + said.content.len() as u64 > 0x1_0000_0000 {
@@ -35,7 +35,7 @@ fn data_at(alloc: Global, at: usize, state: State, said: &Record<'_>) -> Result<
     }
 }
 
-/// A count of the records of data, or the end.
+/// Reads a count of the records of data, or the end.
 #[tactic(auto, using(std::proofs::lemmas::Bool::Decides::nat_tests), unfolding(crate::specs::images::SRecord::srec_closed))]
 fn closed(at: usize, state: State, said: &Record<'_>) -> Result<State, ImageFault>
     ensures value { result ≡ srec_closed at state said.now }
@@ -85,12 +85,12 @@ impl TextFormat for SRecord {
     }
 }
 
-/// The elements of a file.
+/// Reads the elements of `text`, a file of S-records.
 #[tactic(auto, using(std::proofs::lemmas::Bool::Decides::nat_tests), unfolding(crate::specs::images::SRecord::srec_elements_of))]
 pub fn read(alloc: Global, text: &[u8]) -> Result<Vec<Element>, ImageFault>
     // The result is the list of the file's elements, or its first fault.
-    ensures value { Lists result (srec_elements_of text.now) }
-    // The elements are by address, and no two share one.
+    ensures value { GivesElements result (srec_elements_of text.now) }
+    // The elements are by address, and no two share an address.
     ensures apart { IfOk result (λ v. AreApart 0 v.items) }
 {
     elements_by_line::<SRecord>(alloc, text)

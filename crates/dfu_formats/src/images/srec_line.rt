@@ -1,7 +1,7 @@
 //! One S-record: its type, its address and its data, from the text of its line.
 
 ghost use Rattle.std.specs.Prelude.{◌≡◌, ◌+◌, ◌≤◌, ◌<◌, ◌^◌, length, Ok, Err};
-ghost use Rattle.dfu_formats.specs.images.SRecord.{srec_spelled, width, number, srec_framed};
+ghost use Rattle.dfu_formats.specs.images.SRecord.{srec_spelled, address_width, number_of_bytes, srec_framed};
 
 use crate::images::digits::{bytes_at, sum_of};
 use crate::images::fault::ImageFault;
@@ -20,14 +20,14 @@ impl Model for Typed {
     ghost use Rattle.std.specs.Prelude.{◌≤◌};
     ghost use Rattle.dfu_formats.specs.images.SRecord as srec;
 
-    ghost Value = { srec.Typed };
+    ghost Value = { srec.TypedBytes };
 
     ghost view = { λ t. record { kind = t.kind; bytes = t.bytes.items } };
 
     ghost invariant = { λ t. t.kind ≤ 9 };
 }
 
-/// A record's type and bytes, from the text of its line.
+/// Returns the type and the bytes of the record in `line`, which has number `at`.
 #[tactic(auto, using(std::proofs::lemmas::Bool::Decides::nat_tests), unfolding(crate::specs::images::SRecord::srec_spelled))]
 pub(crate) fn spelled(at: usize, line: &[u8]) -> Result<Typed, ImageFault>
     ensures { result ≡ srec_spelled at line.now }
@@ -44,9 +44,9 @@ pub(crate) fn spelled(at: usize, line: &[u8]) -> Result<Typed, ImageFault>
     }
 }
 
-/// Returns the bytes of the address of a record.
+/// Returns the number of bytes of the address of a record of type `kind`.
 fn width(kind: u8) -> usize
-    ensures value { result ≡ width kind }
+    ensures value { result ≡ address_width kind }
     ensures few { result ≤ 4 }
 {
     match kind {
@@ -56,10 +56,10 @@ fn width(kind: u8) -> usize
     }
 }
 
-/// The number in up to four bytes, the highest first.
+/// Returns the number in `bytes`, at most four, the high byte first.
 fn number(bytes: &[u8]) -> u64
     requires { length bytes.now ≤ 4 }
-    ensures value { result ≡ number bytes.now }
+    ensures value { result ≡ number_of_bytes bytes.now }
     ensures small { result < 256 ^ length bytes.now }
 {
     let mut value: u64 = 0;
@@ -88,7 +88,7 @@ impl<'t> Model for Record<'t> {
     ghost invariant = { λ r. r.address < 2 ^ 32 };
 }
 
-/// A record, from its type and bytes.
+/// Returns the record that `typed`, its type and bytes, is, in line number `at`.
 #[tactic(auto, using(std::proofs::lemmas::Bool::Decides::nat_tests), unfolding(crate::specs::images::SRecord::srec_framed))]
 pub(crate) fn framed(at: usize, typed: &Typed) -> Result<Record<'_>, ImageFault>
     ensures { result ≡ srec_framed at typed.now }

@@ -1,11 +1,11 @@
 //! The text of a file: its byte order mark, its blanks, and whether it is text alone.
 
 ghost use Rattle.std.specs.Prelude.{◌≡◌};
-ghost use Rattle.dfu_formats.specs.images.Text.{awaited_behind, awaited_behind_first, is_blank_byte, is_text_byte, is_text, nothing_awaited, text_from, unblanked, unmarked};
+ghost use Rattle.dfu_formats.specs.images.Text.{awaited_behind, awaited_behind_first, is_blank_byte, is_text_byte, is_text, nothing_awaited, text_from, without_leading_blanks, without_order_mark};
 
-/// A text without the byte order mark of UTF-8 at its front, if it has one.
+/// Returns `text` without the byte order mark of UTF-8, if it begins with one.
 pub(crate) fn unmarked(text: &[u8]) -> &[u8]
-    ensures { result.now ≡ unmarked text.now }
+    ensures { result.now ≡ without_order_mark text.now }
 {
     match text {
         [0xef, 0xbb, 0xbf, rest @ ..] => rest,
@@ -13,17 +13,17 @@ pub(crate) fn unmarked(text: &[u8]) -> &[u8]
     }
 }
 
-/// Returns whether a byte is a space, a tab or a carriage return.
+/// Returns true if `byte` is a space, a tab or a carriage return.
 pub(crate) fn is_blank_byte(byte: u8) -> bool
     ensures { result ≡ is_blank_byte byte }
 {
     byte == b' ' || byte == b'\t' || byte == b'\r'
 }
 
-/// A text without the blanks and line feeds at its front.
-#[tactic(auto, using(std::proofs::lemmas::Bool::Decides::nat_tests), unfolding(crate::specs::images::Text::unblanked))]
+/// Returns `text` without the blanks and line feeds before its first other byte.
+#[tactic(auto, using(std::proofs::lemmas::Bool::Decides::nat_tests), unfolding(crate::specs::images::Text::without_leading_blanks))]
 pub(crate) fn unblanked(text: &[u8]) -> &[u8]
-    ensures { result.now ≡ unblanked text.now }
+    ensures { result.now ≡ without_leading_blanks text.now }
 {
     let mut rest = text;
     while let [first, more @ ..] = rest {
@@ -35,7 +35,7 @@ pub(crate) fn unblanked(text: &[u8]) -> &[u8]
     rest
 }
 
-/// Returns whether a byte is no control character but a tab, line feed, form feed or carriage return.
+/// Returns true if `byte` is no control character but a tab, line feed, form feed or carriage return.
 #[tactic(auto, using(std::proofs::lemmas::Bool::Decides::nat_tests))]
 fn is_text_byte(byte: u8) -> bool
     ensures { result ≡ is_text_byte byte }
@@ -46,7 +46,7 @@ fn is_text_byte(byte: u8) -> bool
     }
 }
 
-/// Bytes that are awaited of a character of UTF-8: how many, and the bounds of the next one.
+/// Bytes of a character of UTF-8 that are awaited: their number, and the bounds of the next one.
 #[derive(Clone, Copy)]
 struct Awaited {
     left: u8,
@@ -54,7 +54,7 @@ struct Awaited {
     high: u8,
 }
 
-/// No byte of a character.
+/// Nothing is awaited: a character begins.
 const NOTHING: Awaited = Awaited {
     left: 0,
     low: 0x80,
@@ -101,7 +101,7 @@ fn awaited_behind(awaited: Awaited, byte: u8) -> Option<Awaited>
     None
 }
 
-/// Returns whether bytes are characters of UTF-8, none of them another control character.
+/// Returns true if `bytes` are characters of UTF-8, without control characters but those of text.
 #[tactic(auto, using(std::proofs::lemmas::Bool::Decides::nat_tests), unfolding(crate::specs::images::Text::text_from))]
 fn are_characters(bytes: &[u8]) -> bool
     ensures { result ≡ text_from nothing_awaited bytes.now }
@@ -116,7 +116,7 @@ fn are_characters(bytes: &[u8]) -> bool
     awaited.left == 0
 }
 
-/// Returns whether a file is text alone: UTF-8, without other control characters.
+/// Returns true if `file` is text alone: UTF-8, without control characters but those of text.
 #[tactic(auto, using(std::proofs::lemmas::Bool::Decides::nat_tests))]
 pub(crate) fn is_text(file: &[u8]) -> bool
     ensures { result ≡ is_text file.now }

@@ -1,10 +1,10 @@
-//! UF2.
+//! UF2 files.
 
 ghost use Rattle.std.specs.Prelude.{◌≡◌, ◌+◌, ◌*◌, ◌≤◌, ◌<◌, length, IfOk, Ok, Err};
-ghost use Rattle.dfu_formats.specs.images.Reading.{Gives, FailsToRead};
+ghost use Rattle.dfu_formats.specs.images.Reading.{GivesReading, FailsToRead};
 ghost use Rattle.dfu_formats.specs.images.Numbers as numbers;
-ghost use Rattle.dfu_formats.specs.images.Elements.{AreApart, Lists};
-ghost use Rattle.dfu_formats.specs.images.Blocks.{is_uf2_block, has_flag, family_of, flashed, block_read, uf2_elements_of};
+ghost use Rattle.dfu_formats.specs.images.Elements.{AreApart, GivesElements};
+ghost use Rattle.dfu_formats.specs.images.Blocks.{is_uf2_block, has_flag, family_of, block_gathered, block_read, uf2_elements_of};
 
 use crate::images::element::Element;
 use crate::images::fault::ImageFault;
@@ -13,7 +13,7 @@ use crate::images::numbers::le32;
 use crate::images::parts::{ByPart, elements_by_part};
 use std::alloc::Global;
 
-/// Returns whether a block has its three marks.
+/// Returns true if `block` has its three marks.
 fn is_block(block: &[u8]) -> bool
     requires { length block.now ≡ 512 }
     ensures { result ≡ is_uf2_block block.now }
@@ -23,7 +23,7 @@ fn is_block(block: &[u8]) -> bool
         && le32(block, 508) == 0x0ab1_6f30
 }
 
-/// Returns whether a block has a flag.
+/// Returns true if `block` has the flag `flag`.
 fn has_flag(block: &[u8], flag: u32) -> bool
     requires size { length block.now ≡ 512 }
     requires flag { 1 ≤ flag }
@@ -32,7 +32,7 @@ fn has_flag(block: &[u8], flag: u32) -> bool
     le32(block, 8) / flag % 2 == 1
 }
 
-/// The family of boards that a block is for, or 0.
+/// Returns the family of boards that `block` is for, or 0 if it says none.
 fn family_of(block: &[u8]) -> u32
     requires { length block.now ≡ 512 }
     ensures { result ≡ family_of block.now }
@@ -44,8 +44,8 @@ fn family_of(block: &[u8]) -> u32
     }
 }
 
-/// The data of a block.
-#[tactic(auto, using(std::proofs::lemmas::Bool::Decides::nat_tests), unfolding(crate::specs::images::Blocks::flashed))]
+/// Adds the data of a block to the elements.
+#[tactic(auto, using(std::proofs::lemmas::Bool::Decides::nat_tests), unfolding(crate::specs::images::Blocks::block_gathered))]
 fn flashed(
     alloc: Global,
     index: usize,
@@ -55,7 +55,7 @@ fn flashed(
 ) -> Result<Gathering, ImageFault>
     requires size { length block.now ≡ 512 }
     requires few { numbers.le32 block.now 16 ≤ 476 }
-    ensures { Gives result (flashed family index gathering block.now) }
+    ensures { GivesReading result (block_gathered family index gathering block.now) }
 {
     if has_flag(block, 1) {
         return Ok(gathering);
@@ -76,7 +76,7 @@ fn flashed(
     gathering.add(alloc, index, address, content)
 }
 
-/// Fields that blocks have to name: how many they are, and the family of the first.
+/// Facts that each block has to name: the number of blocks, and the family of the first.
 #[derive(Drop)]
 struct Blocks {
     total: usize,
@@ -109,12 +109,12 @@ impl ByPart for Blocks {
     }
 }
 
-/// The elements of a file.
+/// Reads the elements of UF2 file `file`.
 #[tactic(auto, using(std::proofs::lemmas::Bool::Decides::nat_tests), unfolding(crate::specs::images::Blocks::uf2_elements_of))]
 pub fn read(alloc: Global, file: &[u8]) -> Result<Vec<Element>, ImageFault>
     // The result is the list of the file's elements, or its first fault.
-    ensures value { Lists result (uf2_elements_of file.now) }
-    // The elements are by address, and no two share one.
+    ensures value { GivesElements result (uf2_elements_of file.now) }
+    // The elements are by address, and no two share an address.
     ensures apart { IfOk result (λ v. AreApart 0 v.items) }
 {
     if file.len() == 0 || file.len() % 512 != 0 {

@@ -2,21 +2,21 @@
 
 ghost use Rattle.std.specs.Prelude.{◌≡◌};
 ghost use Rattle.std.specs.List.{All};
-ghost use Rattle.dfu_formats.specs.memory.Ranges.{IsRange, is_apart, is_apart_from, are_apart};
+ghost use Rattle.dfu_formats.specs.memory.Ranges.{IsRange, ranges_are_apart, is_apart_from, are_apart};
 
 use crate::memory::pages::Pages;
 use crate::memory::ranges::end_of;
 
-/// Returns whether two ranges share no address.
+/// Returns true if `one` and `other` share no address.
 fn is_apart(one: &Pages, other: &Pages) -> bool
     requires one { IsRange one.now }
     requires other { IsRange other.now }
-    ensures { result ≡ is_apart one.now other.now }
+    ensures { result ≡ ranges_are_apart one.now other.now }
 {
     end_of(one) <= other.start as u64 || end_of(other) <= one.start as u64
 }
 
-/// Returns whether a range shares no address with any of these.
+/// Returns true if `one` shares no address with any of `others`.
 fn is_apart_from(one: &Pages, others: &[Pages]) -> bool
     requires one { IsRange one.now }
     requires others { All IsRange others.now }
@@ -30,7 +30,7 @@ fn is_apart_from(one: &Pages, others: &[Pages]) -> bool
     true
 }
 
-/// Returns whether no two ranges share an address.
+/// Returns true if no two of `ranges` share an address.
 pub(crate) fn are_apart(ranges: &[Pages]) -> bool
     requires { All IsRange ranges.now }
     ensures { result ≡ are_apart ranges.now }

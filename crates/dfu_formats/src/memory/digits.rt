@@ -5,7 +5,7 @@ ghost use Rattle.dfu_formats.specs.memory.Reading.{digit_value, digits_in, digit
 
 use crate::memory::text::Number;
 
-/// The value of a digit, or 16.
+/// Returns the value of hexadecimal digit `byte`, of either case, or 16 if `byte` is not one.
 fn digit_value(byte: u8) -> u64
     ensures value { result ≡ digit_value byte }
     ensures small { result ≤ 16 }
@@ -18,7 +18,7 @@ fn digit_value(byte: u8) -> u64
     }
 }
 
-/// Counts the digits in this base at the front.
+/// Returns the number of digits of base `base` at the front of `text`.
 fn digits_in(base: u64, text: &[u8]) -> usize
     ensures value { result ≡ digits_in base text.now }
     ensures within { result ≤ length text.now }
@@ -33,7 +33,7 @@ fn digits_in(base: u64, text: &[u8]) -> usize
     count
 }
 
-/// The number that up to eight digits in this base say.
+/// Returns the number that `digits`, at most eight, make in base `base`.
 fn said(base: u64, digits: &[u8]) -> u64
     requires base { base ≤ 16 }
     requires few { length digits.now ≤ 8 }
@@ -47,7 +47,7 @@ fn said(base: u64, digits: &[u8]) -> u64
     value
 }
 
-/// The number at the front, in this base and in at most so many digits. All digits there belong to it.
+/// Takes the number at the front, in the base and in at most `most` digits. All digits at the front belong to it.
 #[tactic(auto, unfolding(crate::specs::memory::Reading::map_number_at))]
 pub(crate) fn take_number(base: u64, most: usize, text: &[u8]) -> Option<Number<'_>>
     requires base { base ≤ 16 }

@@ -1,4 +1,4 @@
-//! A range, as the string has it: a count, a size with its unit, and a letter.
+//! A range, as the string spells it: a count, a size with its unit, and a letter.
 
 ghost use Rattle.std.specs.Prelude.{◌≡◌, ◌*◌, ◌≤◌, ◌<◌, ◌^◌, IfOk};
 ghost use Rattle.dfu_formats.specs.memory.Ranges.{IsRange};
@@ -43,7 +43,7 @@ impl<'t> Model for Group<'t> {
     ghost view = { λ g. record { pages = g.pages; rest = g.rest.now } };
 }
 
-/// Returns the bytes of a unit, or 0.
+/// Returns the number of bytes of the unit that letter `byte` says, or 0 if it says none.
 fn unit_of(byte: u8) -> u64
     ensures value { result ≡ unit_bytes byte }
     ensures small { result ≤ 2 ^ 20 }
@@ -56,7 +56,7 @@ fn unit_of(byte: u8) -> u64
     }
 }
 
-/// A size in the unit at the front; in bytes, if there is no unit.
+/// Takes the unit at the front of `text`. Returns `value` in that unit as a number of bytes; `value` itself if there is no unit.
 #[tactic(auto, using(std::proofs::lemmas::Bool::Decides::nat_tests), unfolding(crate::specs::memory::Reading::unit_at))]
 fn take_unit(value: u64, text: &[u8]) -> Number<'_>
     requires some { 1 ≤ value }
@@ -104,7 +104,7 @@ fn take_size(text: &[u8]) -> Result<Number<'_>, MapFault>
     }
 }
 
-/// Returns the access that the bits of a letter say, from `a`, which has only the lowest bit.
+/// Returns the access that the bits of a letter say: `a` has only the lowest bit.
 fn access_of(letter: u8) -> Access
     requires { 97 ≤ letter }
     ensures { result ≡ access_of letter }
@@ -117,7 +117,7 @@ fn access_of(letter: u8) -> Access
     }
 }
 
-/// Takes the letter that says what may be done with the pages.
+/// Takes the letter that says the access to the pages.
 #[tactic(auto, using(std::proofs::lemmas::Bool::Decides::nat_tests), unfolding(crate::specs::memory::Reading::access_at))]
 fn take_access(text: &[u8]) -> Result<Allowed<'_>, MapFault>
     ensures { result ≡ access_at text.now }
@@ -131,7 +131,7 @@ fn take_access(text: &[u8]) -> Result<Allowed<'_>, MapFault>
     }
 }
 
-/// Takes a range that begins at this address.
+/// Takes a range that begins at `start`.
 #[tactic(auto, using(std::proofs::lemmas::Bool::Decides::nat_tests), unfolding(crate::specs::memory::Reading::group_at))]
 pub(crate) fn take_group(start: u64, text: &[u8]) -> Result<Group<'_>, MapFault>
     requires { start < 2 ^ 33 }

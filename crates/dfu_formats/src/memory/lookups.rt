@@ -3,20 +3,20 @@
 ghost use Rattle.std.specs.Prelude.{◌≡◌, ◌≤◌, ◌<◌, ◌+◌, ◌^◌, ◌↔◌, true, IsTrue, IfSome};
 ghost use Rattle.std.specs.List.{All};
 ghost use Rattle.dfu_formats.specs.memory.Ranges.{IsRange, end_of_range, are_apart};
-ghost use Rattle.dfu_formats.specs.memory.Lookups.{has, range_at, page_at, page_in, end_of_page, AllGranted};
+ghost use Rattle.dfu_formats.specs.memory.Lookups.{range_has, range_at, page_at, page_in, end_of_page, AllGranted};
 
 use crate::memory::pages::{Access, Page, Pages};
 use crate::memory::ranges::end_of;
 
-/// Returns whether a range has this address.
+/// Returns true if range `pages` has `address`.
 fn has(address: u64, pages: &Pages) -> bool
     requires { IsRange pages.now }
-    ensures { result ≡ has address pages.now }
+    ensures { result ≡ range_has address pages.now }
 {
     pages.start as u64 <= address && address < end_of(pages)
 }
 
-/// The range that has this address.
+/// Returns the range of `ranges` that has `address`; None if none has.
 #[tactic(auto, unfolding(crate::specs::memory::Lookups::range_at))]
 pub(crate) fn range_at(address: u64, ranges: &[Pages]) -> Option<Pages>
     requires { All IsRange ranges.now }
@@ -31,7 +31,7 @@ pub(crate) fn range_at(address: u64, ranges: &[Pages]) -> Option<Pages>
     None
 }
 
-/// The page of a range that has this address.
+/// Returns the page of range `pages` that has `address`. The range must have the address.
 fn page_in(address: u64, pages: &Pages) -> Page
     requires range { IsRange pages.now }
     requires from { pages.now.start ≤ address }
@@ -50,7 +50,7 @@ fn page_in(address: u64, pages: &Pages) -> Page
     }
 }
 
-/// The page that has this address.
+/// Returns the page of `ranges` that has `address`; None if none has.
 pub(crate) fn page_at(address: u64, ranges: &[Pages]) -> Option<Page>
     requires { All IsRange ranges.now }
     ensures value { result ≡ page_at address ranges.now }
@@ -62,7 +62,7 @@ pub(crate) fn page_at(address: u64, ranges: &[Pages]) -> Option<Page>
     }
 }
 
-/// Returns whether each address from the first up to before the second is in a range that grants what is wanted.
+/// Returns true if each address from `start` to before `end` is in one of `ranges` that grants `wanted`.
 pub(crate) fn all_granted(wanted: Access, start: u64, end: u64, ranges: &[Pages]) -> bool
     requires sound { All IsRange ranges.now }
     requires apart { are_apart ranges.now ≡ true }

@@ -39,7 +39,11 @@ impl<'t> Model for Map<'t> {
     ghost invariant = { λ m. All IsRange m.ranges.items × (are_apart m.ranges.items ≡ true) };
 }
 
-/// Reads the map of a string, or returns its first fault.
+/// Reads the map of string `text`.
+///
+/// # Errors
+///
+/// Its first fault.
 #[tactic(auto, using(std::proofs::lemmas::Bool::Decides::nat_tests), unfolding(crate::specs::memory::Reading::map_at))]
 fn read_map(text: &[u8]) -> Result<Map<'_>, MapFault>
     ensures { result ≡ map_at text.now }
@@ -66,7 +70,7 @@ fn read_map(text: &[u8]) -> Result<Map<'_>, MapFault>
 }
 
 impl<'t> Map<'t> {
-    /// Reads the string of an alternate setting.
+    /// Reads `text`, the string of an alternate setting.
     ///
     /// # Errors
     ///
@@ -82,14 +86,14 @@ impl<'t> Map<'t> {
         read_map(text)
     }
 
-    /// The name of the memory.
+    /// Returns the name of the memory.
     pub fn name(&self) -> &'t [u8]
         ensures { result.now ≡ self.now.name }
     {
         self.name
     }
 
-    /// The ranges, in the order of the string.
+    /// Returns the ranges, at most 32, in the order of the string.
     pub fn ranges(&self) -> &[Pages]
         ensures value { result.now ≡ self.now.ranges }
         ensures sound { All IsRange result.now }
@@ -99,14 +103,14 @@ impl<'t> Map<'t> {
         &self.ranges
     }
 
-    /// The range that has this address.
+    /// Returns the range that has `address`; None if none has.
     pub fn range_at(&self, address: u32) -> Option<Pages>
         ensures { result ≡ range_at address self.now.ranges }
     {
         lookups::range_at(address as u64, &self.ranges)
     }
 
-    /// The page that has this address.
+    /// Returns the page that has `address`; None if none has.
     pub fn page_at(&self, address: u32) -> Option<Page>
         ensures value { result ≡ page_at address self.now.ranges }
         ensures has { IfSome result (λ p. (p.start ≤ address) × (address < end_of_page p) × (end_of_page p ≤ 2 ^ 32)) }
@@ -114,7 +118,7 @@ impl<'t> Map<'t> {
         lookups::page_at(address as u64, &self.ranges)
     }
 
-    /// Returns whether each address from the first up to before the second lies in a range that grants what is wanted.
+    /// Returns true if each address from `start` to before `end` lies in a range that grants `wanted`.
     pub fn grants(&self, wanted: Access, start: u64, end: u64) -> bool
         ensures { IsTrue result ↔ AllGranted wanted start end self.now.ranges }
     {

@@ -1,8 +1,8 @@
-//! The name of a memory.
+//! The name of a memory, at the front of its map.
 
 ghost use Rattle.std.specs.Prelude.{◌≡◌, ◌<◌, length, IfSome};
 ghost use Rattle.std.specs.List.{position};
-ghost use Rattle.dfu_formats.specs.memory.Reading.{is_stroke, trimmed, map_name_at};
+ghost use Rattle.dfu_formats.specs.memory.Reading.{is_stroke, trimmed_name, map_name_at};
 
 use crate::memory::fault::MapFault;
 use crate::memory::text::behind;
@@ -23,9 +23,9 @@ impl<'t> Model for Named<'t> {
     ghost view = { λ n. record { name = n.name.now; rest = n.rest.now } };
 }
 
-/// Bytes without the spaces at their end.
+/// Returns `bytes` without the spaces at their end.
 fn trimmed(bytes: &[u8]) -> &[u8]
-    ensures { result.now ≡ trimmed bytes.now }
+    ensures { result.now ≡ trimmed_name bytes.now }
 {
     let mut end = 0;
     let mut count = 0;
@@ -47,7 +47,7 @@ fn stroke_in(text: &[u8]) -> Option<usize>
     text.iter().position(|byte| *byte == b'/')
 }
 
-/// Takes a name that `@` begins and `/` ends.
+/// Takes the name between `@` and `/`.
 #[tactic(auto, using(std::proofs::lemmas::Bool::Decides::nat_tests), unfolding(crate::specs::memory::Reading::map_name_at))]
 pub(crate) fn take_name(text: &[u8]) -> Result<Named<'_>, MapFault>
     ensures { result ≡ map_name_at text.now }

@@ -1,7 +1,7 @@
 //! Pages, and ranges of them.
 
 ghost use Rattle.std.specs.Prelude.{◌≡◌};
-ghost use Rattle.dfu_formats.specs.memory.Lookups.{grants};
+ghost use Rattle.dfu_formats.specs.memory.Lookups.{access_grants};
 
 /// Access to a page.
 #[derive(Clone, Copy, Default)]
@@ -12,9 +12,9 @@ pub struct Access {
 }
 
 impl Access {
-    /// Returns whether all that is wanted is granted.
+    /// Returns true if the access has each access of `wanted`.
     pub fn grants(self, wanted: Access) -> bool
-        ensures { result ≡ grants self wanted }
+        ensures { result ≡ access_grants self wanted }
     {
         (self.is_readable || !wanted.is_readable)
             && (self.is_erasable || !wanted.is_erasable)
@@ -27,7 +27,7 @@ impl Access {
 pub struct Pages {
     /// The address of the first byte.
     pub start: u32,
-    /// Bytes of each page, up to 2^32.
+    /// Number of bytes of each page, up to 2^32.
     pub size: u64,
     /// Number of pages.
     pub count: u32,
@@ -40,7 +40,7 @@ pub struct Pages {
 pub struct Page {
     /// The address of the first byte.
     pub start: u32,
-    /// Bytes of the page, up to 2^32.
+    /// Number of bytes of the page, up to 2^32.
     pub size: u64,
     /// Access to the page.
     pub access: Access,

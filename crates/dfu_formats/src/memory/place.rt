@@ -1,13 +1,13 @@
-//! Starts of ranges: at an address of their own, or where the one before ends.
+//! Starts of ranges: at an address of their own, or where the range before ends.
 
 ghost use Rattle.std.specs.Prelude.{◌≡◌, ◌<◌, ◌^◌, IfOk, IfSome};
-ghost use Rattle.dfu_formats.specs.memory.Reading.{behind_prefix, address_at, next_at};
+ghost use Rattle.dfu_formats.specs.memory.Reading.{behind_prefix, address_at, next_range_place};
 
 use crate::memory::digits::take_number;
 use crate::memory::fault::MapFault;
 use crate::memory::text::{Number, behind, front};
 
-/// The text after `0x` or `0X`, which may be missing.
+/// Returns the text behind `0x` or `0X`, or all of `text` if it begins with neither.
 #[tactic(auto, using(std::proofs::lemmas::Bool::Decides::nat_tests), unfolding(crate::specs::memory::Reading::behind_prefix))]
 fn behind_prefix(text: &[u8]) -> &[u8]
     ensures { result.now ≡ behind_prefix text.now }
@@ -21,7 +21,7 @@ fn behind_prefix(text: &[u8]) -> &[u8]
     }
 }
 
-/// Takes an address, and `/`.
+/// Takes an address, and the `/` behind it.
 #[tactic(auto, using(std::proofs::lemmas::Bool::Decides::nat_tests), unfolding(crate::specs::memory::Reading::address_at))]
 pub(crate) fn take_address(text: &[u8]) -> Result<Number<'_>, MapFault>
     ensures value { result ≡ address_at text.now }
@@ -39,11 +39,11 @@ pub(crate) fn take_address(text: &[u8]) -> Result<Number<'_>, MapFault>
     }
 }
 
-/// Takes what leads to the next range, after one that ends at this address.
-#[tactic(auto, using(std::proofs::lemmas::Bool::Decides::nat_tests), unfolding(crate::specs::memory::Reading::next_at))]
+/// Takes what leads to the next range, behind a range that ends at `end`.
+#[tactic(auto, using(std::proofs::lemmas::Bool::Decides::nat_tests), unfolding(crate::specs::memory::Reading::next_range_place))]
 pub(crate) fn take_next(end: u64, text: &[u8]) -> Result<Option<Number<'_>>, MapFault>
     requires { end < 2 ^ 33 }
-    ensures value { result ≡ next_at end text.now }
+    ensures value { result ≡ next_range_place end text.now }
     ensures small { IfOk result (λ o. IfSome o (λ n. n.value < 2 ^ 33)) }
 {
     match front(text) {

@@ -1,8 +1,8 @@
-//! Ranges, one after the other.
+//! Ranges of a map, one after the other.
 
 ghost use Rattle.std.specs.Prelude.{◌≡◌, ◌<◌, ◌≤◌, ◌^◌, IfOk};
 ghost use Rattle.std.specs.List.{All};
-ghost use Rattle.dfu_formats.specs.memory.Ranges.{IsRange, end_of_range, is_apart, is_apart_from, are_apart};
+ghost use Rattle.dfu_formats.specs.memory.Ranges.{IsRange, end_of_range, ranges_are_apart, is_apart_from, are_apart};
 ghost use Rattle.dfu_formats.specs.memory.Reading.{ranges_at};
 ghost use Rattle.dfu_formats.specs.inside.Listing.{ListsRanges};
 
@@ -13,7 +13,7 @@ use crate::memory::pages::Pages;
 use crate::memory::place::take_next;
 use arrayvec::ArrayVec;
 
-/// The address after the last byte of a range.
+/// Returns the address after the last byte of range `pages`, up to 2^32.
 pub(crate) fn end_of(pages: &Pages) -> u64
     requires { IsRange pages.now }
     ensures value { result ≡ end_of_range pages.now }
@@ -22,7 +22,7 @@ pub(crate) fn end_of(pages: &Pages) -> u64
     pages.start as u64 + pages.count as u64 * pages.size
 }
 
-/// Takes ranges up to the end of the text, the first of which begins at this address.
+/// Takes ranges up to the end of the text; the first begins at `start`.
 pub(crate) fn take_ranges(start: u64, text: &[u8]) -> Result<ArrayVec<Pages, MOST_RANGES>, MapFault>
     requires { start < 2 ^ 33 }
     ensures value { ListsRanges result (ranges_at 32 start text.now) }

@@ -1,7 +1,7 @@
 //! Pieces taken off the front of a text.
 
 ghost use Rattle.std.specs.Prelude.{◌≡◌, [], ◌∷◌, Some, None, IfSome, MatchOption};
-ghost use Rattle.dfu_formats.specs.memory.Reading.{behind};
+ghost use Rattle.dfu_formats.specs.memory.Reading.{text_after_byte};
 
 use std::marker::Model;
 
@@ -20,7 +20,7 @@ impl<'t> Model for Number<'t> {
     ghost view = { λ n. record { value = n.value; rest = n.rest.now } };
 }
 
-/// The first byte, and what follows it.
+/// Returns the first byte of `text`, and the text after it; None if `text` is empty.
 pub(crate) fn front(text: &[u8]) -> Option<(u8, &[u8])>
     ensures none { result ≡ None → text.now ≡ [] }
     ensures some { IfSome result (λ f. text.now ≡ f.0 ∷ f.1.now) }
@@ -33,10 +33,10 @@ pub(crate) fn front(text: &[u8]) -> Option<(u8, &[u8])>
     Some((byte, rest))
 }
 
-/// Returns the text behind this byte, if the text begins with it.
-#[tactic(auto, using(std::proofs::lemmas::Bool::Decides::nat_tests), unfolding(crate::specs::memory::Reading::behind))]
+/// Returns the text behind `byte`, if `text` begins with it; else None.
+#[tactic(auto, using(std::proofs::lemmas::Bool::Decides::nat_tests), unfolding(crate::specs::memory::Reading::text_after_byte))]
 pub(crate) fn behind(byte: u8, text: &[u8]) -> Option<&[u8]>
-    ensures { MatchOption result (behind byte text.now ≡ None) (λ rest. behind byte text.now ≡ Some rest.now) }
+    ensures { MatchOption result (text_after_byte byte text.now ≡ None) (λ rest. text_after_byte byte text.now ≡ Some rest.now) }
 {
     match front(text) {
         Some((first, rest)) if first == byte => Some(rest),

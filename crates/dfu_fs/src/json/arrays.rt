@@ -2,15 +2,15 @@
 
 ghost use Rattle.std.specs.Prelude.{◌≡◌, ◌++◌, OnOk};
 ghost use Rattle.std.specs.List.{flat_map};
-ghost use Rattle.dfu_fs.specs.Quoted.{array, parted};
+ghost use Rattle.dfu_fs.specs.Quoted.{array_of_words, parted_byte};
 
 use crate::json::quoting::push_escaped;
 use std::alloc::AllocError;
 
-/// Adds a byte of words: a space ends a string, and begins the next one.
-#[tactic(auto, unfolding(crate::specs::Quoted::parted))]
+/// Adds `byte` of words to `out`: a space ends a string, and begins the next one.
+#[tactic(auto, unfolding(crate::specs::Quoted::parted_byte))]
 fn push_parted(out: &mut Vec<u8>, byte: u8) -> Result<(), AllocError>
-    ensures { OnOk result (out.new.items ≡ out.old.items ++ parted byte) }
+    ensures { OnOk result (out.new.items ≡ out.old.items ++ parted_byte byte) }
 {
     if byte == b' ' {
         return out.extend_from_slice(b"\",\"");
@@ -20,7 +20,7 @@ fn push_parted(out: &mut Vec<u8>, byte: u8) -> Result<(), AllocError>
 
 /// Adds the bytes of words.
 fn push_all_parted(out: &mut Vec<u8>, words: &[u8]) -> Result<(), AllocError>
-    ensures { OnOk result (out.new.items ≡ out.old.items ++ flat_map parted words.now) }
+    ensures { OnOk result (out.new.items ≡ out.old.items ++ flat_map parted_byte words.now) }
 {
     for byte in words {
         push_parted(out, *byte)?;
@@ -28,11 +28,11 @@ fn push_all_parted(out: &mut Vec<u8>, words: &[u8]) -> Result<(), AllocError>
     Ok(())
 }
 
-/// Adds the array of words with a space between two of them.
+/// Adds the array of `words`, which have a space between two of them, to `out`.
 #[inline(never)]
-#[tactic(auto, unfolding(crate::specs::Quoted::array))]
+#[tactic(auto, unfolding(crate::specs::Quoted::array_of_words))]
 pub(crate) fn push_array(out: &mut Vec<u8>, words: &[u8]) -> Result<(), AllocError>
-    ensures { OnOk result (out.new.items ≡ out.old.items ++ array words.now) }
+    ensures { OnOk result (out.new.items ≡ out.old.items ++ array_of_words words.now) }
 {
     if words.is_empty() {
         return out.extend_from_slice(b"[]");

@@ -1,15 +1,16 @@
 //! The forms of a line, tried one after the other.
 
 ghost use Rattle.std.specs.Prelude.{◌≡◌, [], IfOk, MatchOption, None, Some};
-ghost use Rattle.dfu_fs.specs.Objects.{first_fitted, fitted};
+ghost use Rattle.dfu_fs.specs.Objects.{first_fitted, fitted_members};
 
 use crate::json::part::LinePart;
 use crate::json::taking::take_part;
 use std::alloc::{AllocError, Global};
 
-/// The members of the object, if the line has this form.
+/// Returns the members of the object that `line` makes by `form`; None if the line has another form.
 fn fit(alloc: Global, form: &[LinePart], line: &[u8]) -> Result<Option<Vec<u8>>, AllocError>
-    ensures { IfOk result (λ r. MatchOption r (fitted form.now [] line.now ≡ None) (λ out. fitted form.now [] line.now ≡ Some out.items)) }
+    ensures { IfOk result (λ r. MatchOption r (fitted_members form.now [] line.now ≡ None)
+        (λ out. fitted_members form.now [] line.now ≡ Some out.items)) }
 {
     let mut out = Vec::new(alloc);
     let mut rest = line;
@@ -25,7 +26,7 @@ fn fit(alloc: Global, form: &[LinePart], line: &[u8]) -> Result<Option<Vec<u8>>,
     Ok(None)
 }
 
-/// The members of the object by the first of these forms that the line has.
+/// Returns the members of the object that `line` makes by the first of `forms` that it has; None if it has none of them.
 pub(crate) fn first_fit(
     alloc: Global,
     forms: &[[LinePart; 8]],

@@ -6,7 +6,7 @@ use crate::json::objects::object;
 use std::alloc::Global;
 use std::io::{self, ErrorKind, Write};
 
-/// An output to which the object of each line is written in the line's place, or each line as it is. A line is written once it is ended.
+/// An output to which the object of each line is written in the line's place, or each line as it is. A line is written once its end comes.
 #[derive(Drop)]
 pub struct JsonLines<'t, W> {
     alloc: Global,
@@ -17,7 +17,8 @@ pub struct JsonLines<'t, W> {
 }
 
 impl<'t, W> JsonLines<'t, W> {
-    /// Before the first line, which is of this file, if any. Each line is an object if `is_on` says so, and else unchanged.
+    /// Returns an output before its first line, about `file`, if it is given. Each line is written as an object to `out` if `is_on` is
+    /// set, and else unchanged.
     pub fn new(alloc: Global, is_on: bool, file: Option<&'t str>, out: W) -> JsonLines<'t, W> {
         JsonLines {
             alloc,
@@ -38,7 +39,7 @@ impl<'t, W> JsonLines<'t, W> {
 }
 
 impl<W: Write> JsonLines<'_, W> {
-    /// Writes the object of the line, which is ended.
+    /// Writes the object of the line that ended.
     fn end_line(&mut self) -> io::Result<()> {
         let Ok(mut text) = object(self.alloc, self.file, &self.line) else {
             return Err(io::Error::from(ErrorKind::OutOfMemory));
@@ -56,7 +57,7 @@ impl<W: Write> Write for JsonLines<'_, W> {
     ///
     /// # Errors
     ///
-    /// There is no memory for the line or for its object, which is `OutOfMemory`; or the output fails.
+    /// Memory ran out for the line or its object, which is `OutOfMemory`; or the output fails.
     fn write(&mut self, buf: &[u8]) -> io::Result<usize> {
         if !self.is_on {
             return self.out.write(buf);

@@ -70,7 +70,7 @@ static TEXTS: [&str; 51] = [
 ];
 
 impl Name {
-    /// The text of the word or the key.
+    /// Returns the text of the word or the key.
     pub(crate) fn text(self) -> &'static str
         ensures { result.now ≡ name_text self }
     {

@@ -9,7 +9,7 @@ use crate::json::forms::FORMS;
 use crate::json::quoting::push_quoted;
 use std::alloc::{AllocError, Global};
 
-/// Adds the member of the name of a file, if there is one.
+/// Adds the member with the name `file`, if it is given, to `out`.
 fn push_file(out: &mut Vec<u8>, file: Option<&str>) -> Result<(), AllocError>
     ensures { OnOk result (out.new.items ≡ out.old.items ++ file_member (name_in file.entry)) }
 {
@@ -22,7 +22,7 @@ fn push_file(out: &mut Vec<u8>, file: Option<&str>) -> Result<(), AllocError>
     out.extend_from_slice(b",")
 }
 
-/// Adds the members of a line.
+/// Adds the members of `line` to `out`.
 fn push_members(alloc: Global, out: &mut Vec<u8>, line: &[u8]) -> Result<(), AllocError>
     ensures { OnOk result (out.new.items ≡ out.old.items ++ members_or_text (first_fitted FORMS line.now) line.now) }
 {
@@ -36,12 +36,12 @@ fn push_members(alloc: Global, out: &mut Vec<u8>, line: &[u8]) -> Result<(), All
     }
 }
 
-/// The object of a line, which has no line end: `{"file":FILE,MEMBERS}`, or `{MEMBERS}` if there is no file. The members are those of the
-/// first form that the line has, and else `"line":LINE`, with the text of the line.
+/// Returns the JSON object of a printed line, without a line end: `{"file":FILE,MEMBERS}`, or `{MEMBERS}` if there is no file. The members
+/// are those of the first form that fits the line. If none fits, the only one is `"line":LINE`, with the text of the line.
 ///
 /// # Errors
 ///
-/// There is no memory for it.
+/// Memory ran out for the object.
 #[tactic(auto, unfolding(crate::specs::Objects::json_object))]
 pub fn object(alloc: Global, file: Option<&str>, line: &[u8]) -> Result<Vec<u8>, AllocError>
     ensures { IfOk result (λ out. out.items ≡ json_object (name_in file.entry) line.now) }

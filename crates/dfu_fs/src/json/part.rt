@@ -11,11 +11,11 @@ pub(crate) enum WordKind {
     Flag,
     /// Any word: a string.
     Word,
-    /// Any word: an object, whose member of this name has the word as its string, and which a later part ends.
+    /// Any word: an object, whose member of this name has the word as its string. A later part ends the object.
     Inner(Name),
 }
 
-/// A part of a line, which gives a member of the object.
+/// A part of a line, by which the object gets a member.
 #[derive(Clone, Copy)]
 pub(crate) enum LinePart {
     /// The second name: the member of the first name has it as its string.
@@ -30,6 +30,6 @@ pub(crate) enum LinePart {
     Rest(Name),
     /// No word: the member of this name has an empty array.
     Without(Name),
-    /// No word and no member.
+    /// No word, and no member.
     Blank,
 }

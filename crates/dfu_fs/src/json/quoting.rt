@@ -2,11 +2,11 @@
 
 ghost use Rattle.std.specs.Prelude.{◌≡◌, ◌<◌, ◌++◌, OnOk};
 ghost use Rattle.std.specs.List.{flat_map};
-ghost use Rattle.dfu_fs.specs.Quoted.{digit, escaped, quoted};
+ghost use Rattle.dfu_fs.specs.Quoted.{digit, escaped_byte, quoted_string};
 
 use std::alloc::AllocError;
 
-/// The lower-case hexadecimal digit of a number.
+/// Returns the lower-case hexadecimal digit of `number`, 0 to 15.
 fn digit(number: u8) -> u8
     requires { number < 16 }
     ensures { result ≡ digit number }
@@ -18,10 +18,10 @@ fn digit(number: u8) -> u8
     }
 }
 
-/// Adds a byte of a string.
-#[tactic(auto, unfolding(crate::specs::Quoted::escaped))]
+/// Adds `byte` of a string to `out`.
+#[tactic(auto, unfolding(crate::specs::Quoted::escaped_byte))]
 pub(crate) fn push_escaped(out: &mut Vec<u8>, byte: u8) -> Result<(), AllocError>
-    ensures { OnOk result (out.new.items ≡ out.old.items ++ escaped byte) }
+    ensures { OnOk result (out.new.items ≡ out.old.items ++ escaped_byte byte) }
 {
     if byte == b'"' || byte == b'\\' {
         return out.extend_from_slice(&[b'\\', byte]);
@@ -39,9 +39,9 @@ pub(crate) fn push_escaped(out: &mut Vec<u8>, byte: u8) -> Result<(), AllocError
     out.extend_from_slice(&[byte])
 }
 
-/// Adds the bytes of a string.
+/// Adds the bytes `text` of a string to `out`.
 fn push_inner(out: &mut Vec<u8>, text: &[u8]) -> Result<(), AllocError>
-    ensures { OnOk result (out.new.items ≡ out.old.items ++ flat_map escaped text.now) }
+    ensures { OnOk result (out.new.items ≡ out.old.items ++ flat_map escaped_byte text.now) }
 {
     for byte in text {
         push_escaped(out, *byte)?;
@@ -49,11 +49,11 @@ fn push_inner(out: &mut Vec<u8>, text: &[u8]) -> Result<(), AllocError>
     Ok(())
 }
 
-/// Adds a string.
-#[tactic(auto, unfolding(crate::specs::Quoted::quoted))]
+/// Adds the string `text` to `out`.
+#[tactic(auto, unfolding(crate::specs::Quoted::quoted_string))]
 #[inline(never)]
 pub(crate) fn push_quoted(out: &mut Vec<u8>, text: &[u8]) -> Result<(), AllocError>
-    ensures { OnOk result (out.new.items ≡ out.old.items ++ quoted text.now) }
+    ensures { OnOk result (out.new.items ≡ out.old.items ++ quoted_string text.now) }
 {
     out.extend_from_slice(b"\"")?;
     push_inner(out, text)?;

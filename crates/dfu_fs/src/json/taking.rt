@@ -3,7 +3,7 @@
 ghost use Rattle.std.specs.Prelude.{◌≡◌, IfOk, MatchBool, MatchOption, OnOk, None, Some};
 ghost use Rattle.std.specs.Char.{is_ascii_digit};
 ghost use Rattle.std.specs.List.{list_all};
-ghost use Rattle.dfu_fs.specs.Parts.{is_number, keyed, with_list, taken, valued, with_value};
+ghost use Rattle.dfu_fs.specs.Parts.{is_number, with_key, with_list, with_part, with_key_and_value, with_value};
 
 use crate::json::arrays::push_array;
 use crate::json::name::Name;
@@ -12,25 +12,25 @@ use crate::json::quoting::push_quoted;
 use crate::json::words::{list_length, rest_after, word_in};
 use std::alloc::AllocError;
 
-/// Returns whether each byte of a word is a digit.
+/// Returns true if each byte of `word` is a digit.
 fn is_digits(word: &[u8]) -> bool
     ensures { result ≡ list_all is_ascii_digit word.now }
 {
     word.iter().all(|byte| byte.is_ascii_digit())
 }
 
-/// Returns whether a word is a number of JSON.
+/// Returns true if `word` is a number of JSON.
 fn is_number(word: &[u8]) -> bool
     ensures { result ≡ is_number word.now }
 {
     is_digits(word) && (word.len() <= 1 || word[0] != b'0')
 }
 
-/// Adds the key of a member.
+/// Adds `key`, the key of a member, to `out`.
 #[inline(never)]
-#[tactic(auto, unfolding(crate::specs::Parts::keyed))]
+#[tactic(auto, unfolding(crate::specs::Parts::with_key))]
 fn push_key(out: &mut Vec<u8>, key: Name) -> Result<(), AllocError>
-    ensures { OnOk result (out.new.items ≡ keyed out.old.items key) }
+    ensures { OnOk result (out.new.items ≡ with_key out.old.items key) }
 {
     if !out.is_empty() {
         out.extend_from_slice(b",")?;
@@ -39,7 +39,7 @@ fn push_key(out: &mut Vec<u8>, key: Name) -> Result<(), AllocError>
     out.extend_from_slice(b":")
 }
 
-/// Adds the value that a word is, and returns whether it is of this kind.
+/// Adds the value of `word` to `out`, and returns true if the word is of `kind`.
 #[tactic(auto, unfolding(crate::specs::Parts::with_value))]
 fn push_value(out: &mut Vec<u8>, kind: WordKind, word: &[u8]) -> Result<bool, AllocError>
     ensures { IfOk result (λ fits. MatchBool fits (with_value kind out.old.items word.now ≡ Some out.new.items)
@@ -78,15 +78,16 @@ fn push_value(out: &mut Vec<u8>, kind: WordKind, word: &[u8]) -> Result<bool, Al
     }
 }
 
-/// Takes a word that is the value of a key.
+/// Takes the first word of `line`, the value of `key`, and returns the words behind it; None if there is no word, or if it is not of
+/// `kind`.
 fn take_value<'l>(
     out: &mut Vec<u8>,
     key: Name,
     kind: WordKind,
     line: &'l [u8],
 ) -> Result<Option<&'l [u8]>, AllocError>
-    ensures { IfOk result (λ r. MatchOption r (valued key kind out.old.items line.now ≡ None)
-        (λ rest. valued key kind out.old.items line.now ≡ Some (out.new.items, rest.now))) }
+    ensures { IfOk result (λ r. MatchOption r (with_key_and_value key kind out.old.items line.now ≡ None)
+        (λ rest. with_key_and_value key kind out.old.items line.now ≡ Some (out.new.items, rest.now))) }
 {
     let Some((word, rest)) = word_in(line) else {
         return Ok(None);
@@ -98,7 +99,7 @@ fn take_value<'l>(
     Ok(None)
 }
 
-/// Takes a list that is the value of a key.
+/// Takes a list, the value of a key.
 fn take_list<'l>(out: &mut Vec<u8>, key: Name, line: &'l [u8]) -> Result<&'l [u8], AllocError>
     ensures { IfOk result (λ rest. with_list key out.old.items line.now ≡ Some (out.new.items, rest.now)) }
 {
@@ -113,15 +114,16 @@ fn take_list<'l>(out: &mut Vec<u8>, key: Name, line: &'l [u8]) -> Result<&'l [u8
     Ok(rest)
 }
 
-/// Takes a part: adds its member, and returns the words after it. Nothing if the words are not of this part.
-#[tactic(auto, unfolding(crate::specs::Parts::taken))]
+/// Takes `part` off the front of `line`: adds its member to `out`, and returns the words behind it. None if the words are not those of the
+/// part.
+#[tactic(auto, unfolding(crate::specs::Parts::with_part))]
 pub(crate) fn take_part<'l>(
     out: &mut Vec<u8>,
     part: LinePart,
     line: &'l [u8],
 ) -> Result<Option<&'l [u8]>, AllocError>
-    ensures { IfOk result (λ r. MatchOption r (taken part out.old.items line.now ≡ None)
-        (λ rest. taken part out.old.items line.now ≡ Some (out.new.items, rest.now))) }
+    ensures { IfOk result (λ r. MatchOption r (with_part part out.old.items line.now ≡ None)
+        (λ rest. with_part part out.old.items line.now ≡ Some (out.new.items, rest.now))) }
 {
     match part {
         LinePart::Says(key, word) => {

@@ -1,4 +1,4 @@
-//! Words of a line: there is a space between two of them, and none before the first one or after the last one.
+//! Words of a line: one space stands between two of them, and none before the first or after the last.
 
 ghost use Rattle.std.specs.Prelude.{◌≡◌, ◌≤◌, codes, length, nat_eq, None, Some, MatchOption};
 ghost use Rattle.std.specs.List.{position, position_or_len, starts_with};
@@ -7,14 +7,14 @@ ghost use Rattle.dfu_fs.specs.Parts.{is_space, list_length, rest_after, word_in}
 /// Text that ends a list before the end of a line.
 const EVENTS: &[u8] = b" events ";
 
-/// The first space.
+/// Returns the index of the first space of `line`; None if it has none.
 fn first_space(line: &[u8]) -> Option<usize>
     ensures { result ≡ position is_space line.now }
 {
     line.iter().position(|byte| *byte == b' ')
 }
 
-/// Returns the length of the first word.
+/// Returns the length of the first word of `line` in bytes.
 fn word_length(line: &[u8]) -> usize
     ensures value { result ≡ position_or_len is_space line.now }
     ensures within { result ≤ length line.now }
@@ -25,7 +25,7 @@ fn word_length(line: &[u8]) -> usize
     }
 }
 
-/// The first word, and the words after it.
+/// Returns the first word of `line`, and the words after it; None if the first word is empty, or the line ends with the space behind it.
 pub(crate) fn word_in(line: &[u8]) -> Option<(&[u8], &[u8])>
     ensures { MatchOption result (word_in line.now ≡ None) (λ w. word_in line.now ≡ Some (w.0.now, w.1.now)) }
 {
@@ -41,7 +41,7 @@ pub(crate) fn word_in(line: &[u8]) -> Option<(&[u8], &[u8])>
     Some((word, rest))
 }
 
-/// The words after this text, which ends where a word does.
+/// Returns the words of `line` behind `text`; None if the line does not begin with `text`, or no word ends there.
 #[tactic(auto, unfolding(crate::specs::Parts::after_word))]
 pub(crate) fn rest_after<'l>(line: &'l [u8], text: &str) -> Option<&'l [u8]>
     ensures { MatchOption result (rest_after line.now text.now ≡ None) (λ r. rest_after line.now text.now ≡ Some r.now) }

@@ -5,24 +5,24 @@ use Rattle.dfu_host.specs.declared.phase.Phase.{Phase}
 use Rattle.dfu_host.specs.declared.phase.Phase.TheVariants as phase
 use Rattle.dfu_host.specs.declared.heard.Heard.{Heard}
 use Rattle.dfu_host.specs.Phases.{Task}
-use Rattle.dfu_host.specs.Table.{pieces}
-use Rattle.dfu_host.specs.inside.PartMemory.{Came, WasCompared, HadNoRoom, NoPart, of_part}
+use Rattle.dfu_host.specs.Table.{session_blocks}
+use Rattle.dfu_host.specs.inside.PartMemory.{Came, HeardPartCompared, HeardPartWithoutRoom, HeardNoPart, part_heard}
 
--- A part as it was compared: whether it is block k (empty if there is no such block), and its length.
+-- Comparison of a part: `same` says if it equals block k (empty past the last block), `len` is its length.
 pub record IsCompared (task : Task) (k : ℕ) (part : List ℕ) (same : Bool) (len : ℕ) : Type 0 where
-  pub is_same : bytes_eq part (slice_index_or (pieces task) k []) ≡ same
+  pub is_same : bytes_eq part (slice_index_or (session_blocks task) k []) ≡ same
   pub size : length part ≡ len
 
--- The meaning of part k when it is compared: a part only as it was compared.
+-- Meaning of part k when it is compared: a part only with its comparison.
 abbrev pub ComparesPart : Task → (k : ℕ) → (part : List ℕ) → Heard → Type 0
-ComparesPart task k part word = elim (of_part word) [
+ComparesPart task k part word = elim (part_heard word) [
   | Came len ↦ ⊥
-  | WasCompared same len ↦ IsCompared task k part same len
-  | HadNoRoom ↦ Unit {0}
-  | NoPart ↦ Unit {0}
+  | HeardPartCompared same len ↦ IsCompared task k part same len
+  | HeardPartWithoutRoom ↦ Unit {0}
+  | HeardNoPart ↦ Unit {0}
 ]
 
--- The meaning in a phase in which a part may be compared.
-abbrev pub Compares : Task → Phase → (part : List ℕ) → Heard → Type 0
-Compares task (phase.Compare k) part word = ComparesPart task k part word
-Compares task phase part word = Unit {0}
+-- Meaning of a part in a phase, compared if the phase compares.
+abbrev pub ComparedMeaning : Task → Phase → (part : List ℕ) → Heard → Type 0
+ComparedMeaning task (phase.Compare k) part word = ComparesPart task k part word
+ComparedMeaning task phase part word = Unit {0}

@@ -16,22 +16,22 @@ use Rattle.dfu_host.specs.InParts.{host_of}
 use Rattle.dfu_host.specs.Table as table
 use Rattle.dfu_host.specs.Host.{HostState}
 
--- Meaning of what the code heard, if the part that came has these bytes.
-abbrev pub heard_of : (part : List ℕ) → Heard → table.Heard
-heard_of part heard.Acked = table.Acked
-heard_of part (heard.Told status) = table.Status status.code status.poll_ms status.state
-heard_of part (heard.StateIs state) = table.StateIs state
-heard_of part (heard.Part length) = table.Part part
-heard_of part (heard.Compared same length) = table.Part part
-heard_of part heard.NoRoom = table.NoRoom
-heard_of part heard.Stalled = table.Stalled
-heard_of part heard.Nothing = table.Nothing
-heard_of part heard.Waited = table.Waited
-heard_of part heard.WasReset = table.WasReset
-heard_of part heard.Restarted = table.Restarted
-heard_of part heard.Left = table.Left
+-- Meaning in the table of what the code heard, with the bytes of the part that came.
+abbrev pub meaning_of_heard : (part : List ℕ) → Heard → table.Heard
+meaning_of_heard part heard.Acked = table.Acked
+meaning_of_heard part (heard.Told status) = table.Status status.code status.poll_ms status.state
+meaning_of_heard part (heard.StateIs state) = table.StateIs state
+meaning_of_heard part (heard.Part length) = table.Part part
+meaning_of_heard part (heard.Compared same length) = table.Part part
+meaning_of_heard part heard.NoRoom = table.NoRoom
+meaning_of_heard part heard.Stalled = table.Stalled
+meaning_of_heard part heard.Nothing = table.Nothing
+meaning_of_heard part heard.Waited = table.Waited
+meaning_of_heard part heard.WasReset = table.WasReset
+meaning_of_heard part heard.Restarted = table.Restarted
+meaning_of_heard part heard.Left = table.Left
 
--- The bytes that are seen, which may be a part of an upload; none if no bytes are seen.
+-- Bytes of a result, which may be a part of an upload; none if the result has no bytes.
 abbrev pub part_of : Seen → List ℕ
 part_of (seen.Bytes bytes) = bytes.now
 part_of seen.Ack = []
@@ -42,9 +42,9 @@ part_of seen.WasReset = []
 part_of seen.Restarted = []
 part_of seen.Left = []
 
--- The task of a session.
-abbrev pub task_of : Task → table.Task
-task_of t = record {
+-- The table's task for a task of the code.
+abbrev pub task_of_session : Task → table.Task
+task_of_session t = record {
   goal = goal_of t.goal;
   transfer = t.transfer;
   tolerant = t.tolerant;
@@ -52,7 +52,7 @@ task_of t = record {
   detach_ms = t.detach_ms;
 }
 
--- The parts of a session: its task and how far it has come.
+-- The parts of a session: its task and its progress.
 abbrev pub session_parts : Task → Progress → Parts
 session_parts t p = record {
   goal = t.goal;
@@ -65,13 +65,13 @@ session_parts t p = record {
   restarts = p.restarts;
 }
 
--- A host of its task and how far it has come, with these bytes in memory.
+-- The host with a task and a progress, and with the kept bytes of the memory.
 abbrev pub state_with : List ℕ → Task → Progress → HostState
 state_with memory t p = host_of memory (session_parts t p)
 
--- Row of the table for a status in a phase that asks for it, by the status's code, poll time and state.
+-- Row of the table for a status in a phase that asks for it, by the code, the poll time and the state of the status.
 abbrev pub status_row : table.Task → Phase → Code → ℕ → State → table.Phase
-status_row task (phase.Poll n) = table.polled_phase (table.work_start task.goal) (length (table.pieces task)) n
-status_row task phase.Manifest = table.manifested (table.work_start task.goal) task.tolerant
-status_row task phase.Trouble = table.troubled (table.work_start task.goal)
-status_row task asking = λ code poll state. table.listed (table.work_start task.goal) state poll
+status_row task (phase.Poll n) = table.polled_phase (table.work_start task.goal) (length (table.session_blocks task)) n
+status_row task phase.Manifest = table.manifest_phase (table.work_start task.goal) task.tolerant
+status_row task phase.Trouble = table.phase_in_trouble (table.work_start task.goal)
+status_row task asking = λ code poll state. table.phase_after_status (table.work_start task.goal) state poll

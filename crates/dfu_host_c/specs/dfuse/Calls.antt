@@ -1,4 +1,4 @@
--- Result of a call.
+-- Results of calls on a DfuSe session in C.
 use Rattle.std.specs.Prelude.{◌≡◌, ◌⊎◌, ℕ, ℤ, List, Some, None}
 use Rattle.std.specs.Borrow.{Bor}
 use Rattle.dfu_formats.specs.memory.Reading.{MapContent}
@@ -8,7 +8,7 @@ use Rattle.dfuse_host.specs.declared.seen.Seen.{Seen}
 use Rattle.dfuse_host.specs.declared.session.Session.{Session}
 use Rattle.dfuse_host.specs.Deeds.{dfuse_deed}
 use Rattle.dfuse_host.specs.Refusing.{FirstPlanFault, IsSoundPlan}
-use Rattle.dfuse_host.specs.Sessions.{SessionRow, initial_dfuse}
+use Rattle.dfuse_host.specs.Sessions.{SessionRow, initial_dfuse_session}
 use Rattle.dfu_host_c.specs.Refusals.{IsRefusedFor}
 use Rattle.dfu_host_c.specs.dfuse.Actions.{BodyHasNoRoom, DfuseActionRecord}
 use Rattle.dfu_host_c.specs.dfuse.Sessions.{IsDfuseRecordOf, dfuse_limits_of, phase_in, dfuse_plan_of, dfuse_record_of}
@@ -18,15 +18,15 @@ use Rattle.dfu_host_c.specs.declared.dfuse.action.DfuseAction.{DfuseAction}
 use Rattle.dfu_host_c.specs.declared.dfuse.plan.DfusePlan.{DfusePlan}
 use Rattle.dfu_host_c.specs.declared.dfuse.session.DfuseSession.{DfuseSession}
 
--- A session was begun on the map of this string, on this image: its plan has no fault, and the record is that of a session that begins.
+-- A session was begun on the map of a string and on an image: the plan has no fault, and the record is that of a session that begins.
 pub record DfuseBeginResult (text : List ℕ) (image : Bor (List Element)) (how : DfusePlan) (r' : DfuseSession) : Type 0 where
   pub map : Bor MapContent
   pub is_map : IsMap map.now text
   pub sound : IsSoundPlan (dfuse_plan_of how map image)
-  pub says : r' ≡ dfuse_record_of (initial_dfuse (dfuse_plan_of how map image) (dfuse_limits_of how))
-  pub later : IsDfuseRecordOf r' text image (initial_dfuse (dfuse_plan_of how map image) (dfuse_limits_of how))
+  pub says : r' ≡ dfuse_record_of (initial_dfuse_session (dfuse_plan_of how map image) (dfuse_limits_of how))
+  pub later : IsDfuseRecordOf r' text image (initial_dfuse_session (dfuse_plan_of how map image) (dfuse_limits_of how))
 
--- The string is a map, and this is the number of the plan's first fault.
+-- The string is a map, and `result` is the number of the plan's first fault.
 pub record DfuseIsRefused (text : List ℕ) (image : Bor (List Element)) (how : DfusePlan) (result : ℤ) : Type 0 where
   pub map : Bor MapContent
   pub is_map : IsMap map.now text
@@ -36,19 +36,19 @@ pub record DfuseIsRefused (text : List ℕ) (image : Bor (List Element)) (how : 
 abbrev pub NoSession : DfuseSession → (text : List ℕ) → Type 0
 NoSession r text = ((m : MapContent) → IsMap m text → ⊥) ⊎ (phase_in r ≡ None)
 
--- The record of an action says what the session of a record does next, and its body is in the buffer.
+-- The record of an action says what the session of a record does next, with the body in the buffer.
 pub record DfuseIsNext (r : DfuseSession) (text : List ℕ) (image : Bor (List Element)) (a : DfuseAction) (old new : List ℕ) : Type 0 where
   pub session : Session
   pub held : IsDfuseRecordOf r text image session
   pub tells : DfuseActionRecord (dfuse_deed session.plan session.phase) a old new
 
--- The session of a record sends a body next, and the buffer has no room for it.
-pub record NoRoomFor (r : DfuseSession) (text : List ℕ) (image : Bor (List Element)) (old : List ℕ) : Type 0 where
+-- The session of a record sends a body next for which the buffer has no room.
+pub record BodyFindsNoRoom (r : DfuseSession) (text : List ℕ) (image : Bor (List Element)) (old : List ℕ) : Type 0 where
   pub session : Session
   pub held : IsDfuseRecordOf r text image session
   pub larger : BodyHasNoRoom (dfuse_deed session.plan session.phase) old
 
--- The session of a record took what was seen, as a row of the host's table, and the record is that of what it became.
+-- The session of a record took a result, by a row of the host's table, and the new record is that of the session afterwards.
 pub record DfuseTakeResult (r r' : DfuseSession) (text : List ℕ) (image : Bor (List Element)) (seen : ℕ) (bytes : Bor (List ℕ)) : Type 0 where
   pub session : Session
   pub next : Session

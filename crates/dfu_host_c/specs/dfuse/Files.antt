@@ -3,17 +3,17 @@ use Rattle.std.specs.Prelude.{◌≡◌, ℕ, ℤ, List, length, Option, Some, N
 use Rattle.dfu_formats.specs.declared.dfuse.element.Element.{Element}
 use Rattle.dfu_formats.specs.dfuse.Reading.{DfuseContent}
 use Rattle.dfu_formats.specs.dfuse.Grammar.{IsDfuSe, FirstFileFault}
-use Rattle.dfu_formats.specs.dfuse.Images.{elements_for, image_fault, one_setting, ListsBehind}
+use Rattle.dfu_formats.specs.dfuse.Images.{elements_for, image_fault, one_setting, ElementsListedBehind}
 use Rattle.dfu_host_c.specs.Refusals.{IsRefusedFor}
 use Rattle.dfu_host_c.specs.declared.refusals.Refusal.TheVariants as refusal
 use Rattle.dfu_host_c.specs.declared.dfuse.file.DfuseFile.{DfuseFile}
 
--- The number of the alternate setting that all targets are for; 256 if there are several.
+-- The number of the alternate setting of all targets; 256 if the targets have several.
 abbrev pub setting_number : Option ℕ → ℕ
 setting_number (Some setting) = setting
 setting_number None = 256
 
--- Fields of a file as numbers: how many targets it has, their setting, and the identifiers of its suffix.
+-- The record of a DfuSe file: the number of its targets, their setting, and the identifiers of its suffix.
 abbrev pub file_record : DfuseContent → DfuseFile
 file_record f = record {
   targets = length f.targets;
@@ -23,23 +23,25 @@ file_record f = record {
   vendor = f.ids.vendor;
 }
 
--- The bytes are not a DfuSe file, and this is the number of their first fault.
+-- The bytes are no DfuSe file, and `result` is the number of their first fault.
 abbrev pub IsNoDfuSe : (bytes : List ℕ) → (result : ℤ) → Type 0
 IsNoDfuSe bytes result = IsRefusedFor refusal.DfuseFile (λ fault. FirstFileFault fault bytes) result
 
--- The bytes are a DfuSe file, and the record says what it has.
-pub record HasFile (bytes : List ℕ) (r : DfuseFile) : Type 0 where
+-- The bytes are a DfuSe file, and the record is the file's.
+pub record HasFileRecord (bytes : List ℕ) (r : DfuseFile) : Type 0 where
   pub file : DfuseContent
   pub is_file : IsDfuSe file bytes
   pub says : r ≡ file_record file
 
--- The bytes are a DfuSe file, and the first places have all its elements for this setting, in the order of the file. This is their count.
+-- The bytes are a DfuSe file. The first places have all elements of its image for the setting, in the order of the file, and `count` is
+-- their number.
 pub record HasFileElements (bytes : List ℕ) (setting : ℕ) (old new : List Element) (count : ℕ) : Type 0 where
   pub file : DfuseContent
   pub is_file : IsDfuSe file bytes
-  pub listed : ListsBehind 0 (elements_for setting file.targets) old (Some count) new
+  pub listed : ElementsListedBehind 0 (elements_for setting file.targets) old (Some count) new
 
--- The bytes are a DfuSe file, and this is the number of why its image for this setting was not listed in that many places.
+-- The bytes are a DfuSe file, and `result` is the number of the fault for which the image of the setting was not listed in that many
+-- places.
 pub record HasNoElements (bytes : List ℕ) (setting : ℕ) (places : ℕ) (result : ℤ) : Type 0 where
   pub file : DfuseContent
   pub is_file : IsDfuSe file bytes

@@ -6,42 +6,42 @@ use Rattle.dfu_formats.specs.memory.Grammar.{IsMap, FirstMapFault}
 use Rattle.dfu_formats.specs.declared.memory.pages.Access.{Access}
 use Rattle.dfu_formats.specs.declared.memory.pages.Pages.{Pages}
 use Rattle.dfu_host_c.specs.Refusals.{IsRefusedFor}
-use Rattle.dfu_host_c.specs.dfuse.Sessions.{bit}
+use Rattle.dfu_host_c.specs.dfuse.Sessions.{number_of_bit}
 use Rattle.dfu_host_c.specs.declared.refusals.Refusal.TheVariants as refusal
 use Rattle.dfu_host_c.specs.declared.dfuse.map.DfuseMap.{DfuseMap}
 use Rattle.dfu_host_c.specs.declared.dfuse.map.DfuseRange.{DfuseRange}
 
--- Content of a map, as numbers: how long its name is, and how many ranges there are.
+-- The record of a map: the length of its name, and the number of its ranges.
 abbrev pub map_record : MapContent → DfuseMap
 map_record m = record { name = length m.name; ranges = length m.ranges }
 
--- Access to pages, as a number: bit 0 to read, bit 1 to erase, bit 2 to write them.
+-- Access to pages as a number: bit 0 for reading, bit 1 for erasing, bit 2 for writing.
 abbrev pub access_number : Access → ℕ
-access_number a = bit a.is_readable + 2 * bit a.is_erasable + 4 * bit a.is_writable
+access_number a = number_of_bit a.is_readable + 2 * number_of_bit a.is_erasable + 4 * number_of_bit a.is_writable
 
--- A range as numbers.
+-- The record of a range.
 abbrev pub range_record : Pages → DfuseRange
 range_record p = record { start = p.start; size = p.size; count = p.count; access = access_number p.access }
 
--- The string is not a map, and this is the number of its first fault.
+-- The string is no map, and `result` is the number of its first fault.
 abbrev pub IsNoMap : (text : List ℕ) → (result : ℤ) → Type 0
 IsNoMap text result = IsRefusedFor refusal.Map (λ fault. FirstMapFault fault text) result
 
--- The string is a map, and the record says what it has.
-pub record HasMap (text : List ℕ) (r : DfuseMap) : Type 0 where
+-- The string is a map, and the record is the map's.
+pub record HasMapRecord (text : List ℕ) (r : DfuseMap) : Type 0 where
   pub map : MapContent
   pub is_map : IsMap map text
   pub says : r ≡ map_record map
 
--- The string is a map, and the record says its range of this number.
-pub record HasRange (text : List ℕ) (number : ℕ) (r : DfuseRange) : Type 0 where
+-- The string is a map, and the record is that of its range `number`.
+pub record HasRangeRecord (text : List ℕ) (number : ℕ) (r : DfuseRange) : Type 0 where
   pub map : MapContent
   pub pages : Pages
   pub is_map : IsMap map text
   pub found : slice_get map.ranges number ≡ Some pages
   pub says : r ≡ range_record pages
 
--- The string is a map, and has no range of this number.
+-- The string is a map without a range `number`.
 pub record HasNoRange (text : List ℕ) (number : ℕ) : Type 0 where
   pub map : MapContent
   pub is_map : IsMap map text

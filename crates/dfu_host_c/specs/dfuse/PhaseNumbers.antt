@@ -12,43 +12,44 @@ use Rattle.dfuse_host.specs.declared.step.Step.TheVariants as step
 use Rattle.dfu_host_c.specs.dfuse.ReportNumbers.{dfuse_report_at, dfuse_report_numbers}
 use Rattle.dfu_host_c.specs.declared.dfuse.phases.EncodedDfusePhase.{EncodedDfusePhase}
 
--- The works in the order of their numbers, 0 to 6, at this address and up to that.
-abbrev works : (at end : ℕ) → List Work
-works at end =
+-- The works in the order of their numbers, 0 to 6, each from `at` to `end`.
+abbrev works_in_order : (at end : ℕ) → List Work
+works_in_order at end =
     work.Erase at ∷ work.EraseAgain at end ∷ work.Write at end ∷ work.Compare at ∷ work.WriteFront at ∷ work.CompareFront at ∷
     work.Leave ∷ []
 
--- The work of this number; None if it is over 6.
+-- The work with that number; None over 6.
 abbrev pub work_at : (number at end : ℕ) → Option Work
-work_at number at end = slice_get (works at end) number
+work_at number at end = slice_get (works_in_order at end) number
 
--- Knowledge of the address pointer, by this number, 0 to 2, and its address; None if it is over 2.
+-- Knowledge of the address pointer, by its number, 0 to 2, and its address; None over 2.
 abbrev pub place_at : (number pointer : ℕ) → Option Place
 place_at number pointer = slice_get (place.Lost ∷ place.At pointer ∷ place.Reading pointer ∷ []) number
 
--- The steps in the order of their numbers, 0 to 14, with this time.
-abbrev steps : (ms : ℕ) → List Step
-steps ms =
+-- The steps in the order of their numbers, 0 to 14, each with the time `ms`.
+abbrev steps_in_order : (ms : ℕ) → List Step
+steps_in_order ms =
     step.Abort ∷ step.AskState ∷ step.AskStatus ∷ step.ClearWait ms ∷ step.ClearStatus ∷ step.Send ∷ step.Probe ∷ step.Poll ms ∷
     step.PollWait ms ∷ step.BeginReading ∷ step.EndReading ∷ step.Read ∷ step.Close ∷ step.CloseProbe ∷ step.ClosePoll ∷ []
 
--- The step of this number, with its time; None if it is over 14.
+-- The step with that number and its time; None over 14.
 abbrev pub step_at : (number ms : ℕ) → Option Step
-step_at number ms = slice_get (steps ms) number
+step_at number ms = slice_get (steps_in_order ms) number
 
--- A session that does this work, knows this about the pointer, and has this step next.
-abbrev on : Work → Place → Step → Phase
-on w p s = On (record { work = w; place = p; step = s })
+-- The phase of a live session with a work, knowledge of the pointer, and the next step.
+abbrev dfuse_phase_of_parts : Work → Place → Step → Phase
+dfuse_phase_of_parts w p s = On (record { work = w; place = p; step = s })
 
--- The phase of these numbers: of a session that is over, or of one that goes on; None if there is no such phase.
+-- The phase with those numbers, of a session that is over or of one that goes on; None if no phase has them.
 abbrev pub dfuse_phase_at : EncodedDfusePhase → Option Phase
 dfuse_phase_at n =
     if n.work == 7 then option_map Over (dfuse_report_at n.report n.more)
-    else option_and_then (λ w. option_and_then (λ p. option_map (on w p) (step_at n.step n.more)) (place_at n.place n.pointer))
+    else option_and_then (λ w. option_and_then (λ p. option_map (dfuse_phase_of_parts w p) (step_at n.step n.more)) (place_at n.place
+    n.pointer))
     (work_at n.work n.at n.end)
 
--- The number of a work, as `work_at` has it, the address that it has reached, and the one at which it ends; 0 for an address that it does
--- not have.
+-- The number of a work, as `work_at` reads it, the address that it has reached, and the address at which it ends; 0 for an address that the
+-- work does not have.
 abbrev pub work_numbers : Work → ℕ × ℕ × ℕ
 work_numbers (work.Erase at) = (0, at, 0)
 work_numbers (work.EraseAgain page end) = (1, page, end)
@@ -58,13 +59,13 @@ work_numbers (work.WriteFront at) = (4, at, 0)
 work_numbers (work.CompareFront at) = (5, at, 0)
 work_numbers work.Leave = (6, 0, 0)
 
--- The number of what is known of the pointer, as `place_at` has it, and the address that the pointer was set to; 0 if it isn't known.
+-- The number of the pointer's knowledge, as `place_at` reads it, and the address to which the pointer was set; 0 if it isn't known.
 abbrev pub place_numbers : Place → ℕ × ℕ
 place_numbers place.Lost = (0, 0)
 place_numbers (place.At pointer) = (1, pointer)
 place_numbers (place.Reading pointer) = (2, pointer)
 
--- The number of a step, as `step_at` has it, and its time; 0 if it has none.
+-- The number of a step, as `step_at` reads it, and its time; 0 for a step without one.
 abbrev pub step_numbers : Step → ℕ × ℕ
 step_numbers step.Abort = (0, 0)
 step_numbers step.AskState = (1, 0)
@@ -82,7 +83,7 @@ step_numbers step.Close = (12, 0)
 step_numbers step.CloseProbe = (13, 0)
 step_numbers step.ClosePoll = (14, 0)
 
--- The numbers that the library writes for a phase: what it does not have is 0.
+-- The numbers that the library writes for a phase; a number that the phase does not need is 0.
 abbrev pub dfuse_numbers_in : Phase → EncodedDfusePhase
 dfuse_numbers_in (On s) = record {
   work = (work_numbers s.work).0;

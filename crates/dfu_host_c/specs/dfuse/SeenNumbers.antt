@@ -4,11 +4,12 @@ use Rattle.std.specs.Borrow.{Bor}
 use Rattle.dfuse_host.specs.declared.seen.Seen.{Seen}
 use Rattle.dfuse_host.specs.declared.seen.Seen.TheVariants as seen
 
--- Results in the order of the numbers of C, 0 to 6, with these bytes. A session of DfuSe resets no bus, so it has no 5.
+-- Results in the order of their numbers in C, 0 to 6; the result with bytes has those given. A session of DfuSe resets no bus, so it has no
+-- 5.
 abbrev dfuse_seen_in_order : (bytes : Bor (List ℕ)) → List (Option Seen)
 dfuse_seen_in_order bytes =
     Some seen.Ack ∷ Some (seen.Bytes bytes) ∷ Some seen.Stall ∷ Some seen.Nothing ∷ Some seen.Waited ∷ None ∷ Some seen.Restarted ∷ []
 
--- Result of an action, by this number; None if there is no such number.
+-- Result of an action by its number; None if no result has it.
 abbrev pub dfuse_seen_at : (number : ℕ) → (bytes : Bor (List ℕ)) → Option Seen
 dfuse_seen_at number bytes = slice_index_or (dfuse_seen_in_order bytes) number None

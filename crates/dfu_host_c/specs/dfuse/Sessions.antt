@@ -1,4 +1,4 @@
--- DfuSe session that a record holds.
+-- The DfuSe session of a record.
 use Rattle.std.specs.Prelude.{◌≡◌, ℕ, Bool, true, false, ◌==◌, not, if◌then◌else◌, List, Option, Some, None, option_map}
 use Rattle.std.specs.Borrow.{Bor}
 use Rattle.dfu_formats.specs.memory.Reading.{MapContent}
@@ -27,11 +27,11 @@ numbers_of r = record {
   report = r.report;
 }
 
--- The phase of a record; None if it has another version, or if there is no phase of its numbers.
+-- The phase of a record; None for another version, or if its numbers are those of no phase.
 abbrev pub phase_in : DfuseSession → Option Phase
 phase_in r = if r.version == version then dfuse_phase_at (numbers_of r) else None
 
--- The plan of a record for C, over a map and an image.
+-- The plan of a record, over a map and an image.
 abbrev pub dfuse_plan_of : DfusePlan → (map : Bor MapContent) → (image : Bor (List Element)) → Plan
 dfuse_plan_of r map image = record {
   map = map;
@@ -42,23 +42,23 @@ dfuse_plan_of r map image = record {
   start = r.start;
 }
 
--- The session of a record in this phase.
-abbrev pub session_with : DfuseSession → (map : Bor MapContent) → (image : Bor (List Element)) → Phase → Session
-session_with r map image phase = record {
+-- The session of a record, over a map and an image, in a phase.
+abbrev pub dfuse_session_in_phase : DfuseSession → (map : Bor MapContent) → (image : Bor (List Element)) → Phase → Session
+dfuse_session_in_phase r map image phase = record {
   plan = dfuse_plan_of r.plan map image;
   phase = phase;
   actions = r.plan.actions;
   restarts = r.plan.restarts;
 }
 
--- The session of a record, over a map and an image; None if it has no phase, or another version.
+-- The session of a record, over a map and an image; None for another version, or if the record has no phase.
 abbrev pub session_in : DfuseSession → (map : Bor MapContent) → (image : Bor (List Element)) → Option Session
-session_in r map image = option_map (session_with r map image) (phase_in r)
+session_in r map image = option_map (dfuse_session_in_phase r map image) (phase_in r)
 
 -- A bit as a number.
-abbrev pub bit : Bool → ℕ
-bit true = 1
-bit false = 0
+abbrev pub number_of_bit : Bool → ℕ
+number_of_bit true = 1
+number_of_bit false = 0
 
 -- The record that the library writes for a session.
 abbrev pub dfuse_record_of : Session → DfuseSession
@@ -78,16 +78,16 @@ dfuse_record_of s = record {
     restarts = s.restarts;
     transfer = s.plan.transfer;
     front = s.plan.front;
-    leaves = bit s.plan.leaves;
+    leaves = number_of_bit s.plan.leaves;
   };
 }
 
--- The record is that of this session, over the map of this string and over this image.
+-- The record belongs to the session s, over the map of a string and over an image.
 pub record IsDfuseRecordOf (r : DfuseSession) (text : List ℕ) (image : Bor (List Element)) (s : Session) : Type 0 where
   pub map : Bor MapContent
   pub is_map : IsMap map.now text
   pub says : session_in r map image ≡ Some s
 
--- The limits of a record for C.
+-- The limits of a record.
 abbrev pub dfuse_limits_of : DfusePlan → Limits
 dfuse_limits_of r = record { actions = r.actions; restarts = r.restarts }

@@ -1,11 +1,11 @@
-//! Action that is to be done next, as a record for C.
+//! The next action, as a record for C.
 
 ghost use Rattle.std.specs.Prelude.{◌≡◌, ◌⊎◌, ℕ, List, pos};
 ghost use Rattle.dfuse_host.specs.Deeds.{DfuseDeed, Send};
 ghost use Rattle.dfuse_host.specs.Wire.{IsDfuseSetupOf, DfuseSpells};
 ghost use Rattle.dfu_wire.specs.declared.requests.Request.{Request};
 ghost use Rattle.dfu_host_c.specs.dfuse.Actions.{BodyHasNoRoom, DfuseIsOther, DfuseActionRecord};
-ghost use Rattle.dfu_host_c.specs.dfuse.Calls.{DfuseIsNext, NoRoomFor, NoSession};
+ghost use Rattle.dfu_host_c.specs.dfuse.Calls.{DfuseIsNext, BodyFindsNoRoom, NoSession};
 ghost use Rattle.dfu_host_c.specs.Refusals.{no_room};
 ghost use Rattle.dfu_host_core.specs.Numbers.{no_session};
 
@@ -15,23 +15,23 @@ use crate::dfuse::session::DfuseSession;
 use crate::refusals::{NO_ROOM, NO_SESSION};
 use dfuse_host::{Action, Element};
 
-/// `struct dfuse_action`: what is to be done next. The header says what each number means.
+/// `struct dfuse_action`: the next action. The header says what each number means.
 #[repr(C)]
 #[derive(Drop)]
 pub struct DfuseAction {
-    /// Length of the body in bytes. It is at the front of the buffer.
+    /// Length in bytes of the body, which is at the front of the buffer.
     pub length: u64,
     /// 0 to send, 1 to wait, 3 if the session is over.
     pub what: u32,
     /// The milliseconds of a wait, or the number of a report.
     pub value: u32,
-    /// Detail of the report: how the device left, or a code.
+    /// Detail of the report: the way in which the device left, or a code.
     pub more: u32,
     /// The setup that is sent.
     pub setup: [u8; 8],
 }
 
-/// Writes what is sent, with its body.
+/// Writes a request that is sent, with its body.
 fn send(setup: [u8; 8], sent: &[u8], body: &mut [u8], action: &mut DfuseAction) -> i32
     ensures outcome { (request : Request) → IsDfuseSetupOf request setup
         → ((result ≡ pos 0) × DfuseActionRecord (Send request sent.now) action.new body.old body.new)
@@ -85,7 +85,7 @@ fn tell(given: Action<'_>, body: &mut [u8], action: &mut DfuseAction) -> i32
     }
 }
 
-/// Writes what a session wants done next: 0, `DFU_NO_SESSION` or `DFUSE_NO_ROOM`.
+/// Writes the next action of a session. Returns 0, `DFU_NO_SESSION` or `DFUSE_NO_ROOM`.
 #[unsafe(no_mangle)]
 pub extern "C" fn dfuse_next(
     session: &DfuseSession,
@@ -95,7 +95,7 @@ pub extern "C" fn dfuse_next(
     action: &mut DfuseAction,
 ) -> i32
     ensures outcome { ((result ≡ pos 0) × DfuseIsNext session.now map.now image.entry action.new body.old body.new)
-        ⊎ ((result ≡ no_room) × NoRoomFor session.now map.now image.entry body.old × (action.new ≡ action.old) × (body.new ≡ body.old))
+        ⊎ ((result ≡ no_room) × BodyFindsNoRoom session.now map.now image.entry body.old × (action.new ≡ action.old) × (body.new ≡ body.old))
         ⊎ ((result ≡ no_session) × NoSession session.now map.now × (action.new ≡ action.old) × (body.new ≡ body.old)) }
 {
     let Some(map) = map_of(map) else {

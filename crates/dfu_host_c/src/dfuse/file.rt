@@ -1,18 +1,18 @@
 //! Fields of a DfuSe file, as a record for C.
 
 ghost use Rattle.std.specs.Prelude.{◌≡◌, ◌⊎◌, pos};
-ghost use Rattle.dfu_host_c.specs.dfuse.Files.{file_record, setting_number, HasFile, IsNoDfuSe};
+ghost use Rattle.dfu_host_c.specs.dfuse.Files.{file_record, setting_number, HasFileRecord, IsNoDfuSe};
 
 use crate::refusals::Refusal;
 use dfu_formats::dfuse::{File, read};
 
-/// `struct dfuse_file`: what a DfuSe file says. The header says what each number means.
+/// `struct dfuse_file`: the fields of a DfuSe file. The header says what each number means.
 #[repr(C)]
 #[derive(Drop)]
 pub struct DfuseFile {
     /// Number of targets, 1 to 255.
     pub targets: u32,
-    /// The alternate setting that all targets are for, 0 to 255; 256 if there are several.
+    /// Alternate setting of all targets, 0 to 255; 256 if the targets have several.
     pub setting: u32,
     /// bcdDevice.
     pub device: u16,
@@ -22,7 +22,7 @@ pub struct DfuseFile {
     pub vendor: u16,
 }
 
-/// The number of a setting; 256 if there are several.
+/// Returns the number of a setting; 256 if there are several.
 fn setting_number(setting: Option<u8>) -> u32
     ensures { result ≡ setting_number setting }
 {
@@ -32,7 +32,7 @@ fn setting_number(setting: Option<u8>) -> u32
     }
 }
 
-/// The record of a file.
+/// Makes the record of a file.
 fn file_record(file: &File<'_>) -> DfuseFile
     ensures { result ≡ file_record file.now }
 {
@@ -46,10 +46,10 @@ fn file_record(file: &File<'_>) -> DfuseFile
     }
 }
 
-/// Reads a DfuSe file: 0, or its first fault.
+/// Reads DfuSe file `file` into `out`. Returns 0, or the number of its first fault.
 #[unsafe(no_mangle)]
 pub extern "C" fn dfuse_read_file(file: &[u8], out: &mut DfuseFile) -> i32
-    ensures outcome { ((result ≡ pos 0) × HasFile file.now out.new) ⊎ (IsNoDfuSe file.now result × (out.new ≡ out.old)) }
+    ensures outcome { ((result ≡ pos 0) × HasFileRecord file.now out.new) ⊎ (IsNoDfuSe file.now result × (out.new ≡ out.old)) }
 {
     match read(file) {
         Ok(read) => {

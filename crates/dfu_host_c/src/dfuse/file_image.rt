@@ -1,4 +1,4 @@
-//! Elements that a DfuSe file has for an alternate setting, for C.
+//! Elements of a DfuSe file for an alternate setting, for C.
 
 ghost use Rattle.std.specs.Prelude.{◌≡◌, ◌⊎◌, length, pos};
 ghost use Rattle.dfu_host_c.specs.dfuse.Files.{HasFileElements, HasNoElements, IsNoDfuSe};
@@ -7,8 +7,8 @@ use crate::refusals::Refusal;
 use dfu_formats::dfuse::read;
 use dfuse_host::Element;
 
-/// Lists the elements of a DfuSe file for an alternate setting, in the order of the file, at the front of the places: 0, or the file's
-/// first fault, or why it has no such image.
+/// Writes the elements of DfuSe file `file` for alternate setting `setting`, in the order of the file, to the front of `places`. Returns
+/// 0, or the number of the file's first fault, or of why it has no such image.
 #[unsafe(no_mangle)]
 pub extern "C" fn dfuse_file_image<'f>(
     file: &'f [u8],

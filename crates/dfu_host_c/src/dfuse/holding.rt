@@ -12,7 +12,7 @@ use crate::version::VERSION;
 use dfu_formats::memory::Map;
 use dfuse_host::{Element, Phase, Session};
 
-/// The numbers of a record's phase.
+/// Returns the numbers of a record's phase.
 fn numbers_in(given: &DfuseSession) -> EncodedDfusePhase
     ensures { result ≡ numbers_of given.now }
 {
@@ -28,7 +28,7 @@ fn numbers_in(given: &DfuseSession) -> EncodedDfusePhase
     }
 }
 
-/// The phase of a record; None if it has another version, or if there is no phase of its numbers.
+/// Returns the phase of a record; None for another version, or if its numbers are those of no phase.
 fn phase_in(given: &DfuseSession) -> Option<Phase>
     ensures { result ≡ phase_in given.now }
 {
@@ -38,7 +38,7 @@ fn phase_in(given: &DfuseSession) -> Option<Phase>
     phase_at(numbers_in(given))
 }
 
-/// The map of a string; None if it is not a map.
+/// Returns the map of a string; None if the string is not a map.
 pub(crate) fn map_of(text: &[u8]) -> Option<Map<'_>>
     ensures some { IfSome result (λ m. IsMap m text.now) }
     ensures none { result ≡ None → (m : MapContent) → IsMap m text.now → ⊥ }
@@ -49,7 +49,8 @@ pub(crate) fn map_of(text: &[u8]) -> Option<Map<'_>>
     }
 }
 
-/// The session of a record over a map and an image; None if the record has no phase, or another version.
+/// Returns the session of a record over a map and an image; None for another version, or if the record has no
+/// phase.
 pub(crate) fn session_of<'f>(
     given: &DfuseSession,
     map: &'f Map<'f>,
@@ -69,7 +70,7 @@ pub(crate) fn session_of<'f>(
     })
 }
 
-/// The record of a session.
+/// Makes the record of a session.
 pub(crate) fn record_of(session: &Session<'_>) -> DfuseSession
     ensures value { result ≡ dfuse_record_of session.now }
     ensures says { session_in result session.now.plan.map session.now.plan.image ≡ Some session.now }

@@ -1,13 +1,13 @@
 //! Memory maps, as records for C.
 
 ghost use Rattle.std.specs.Prelude.{◌≡◌, ◌⊎◌, pos};
-ghost use Rattle.dfu_host_c.specs.dfuse.Maps.{access_number, map_record, range_record, HasMap, HasRange, HasNoRange, IsNoMap};
+ghost use Rattle.dfu_host_c.specs.dfuse.Maps.{access_number, map_record, range_record, HasMapRecord, HasRangeRecord, HasNoRange, IsNoMap};
 ghost use Rattle.dfu_host_c.specs.Refusals.{no_range};
 
 use crate::refusals::{NO_RANGE, Refusal};
 use dfu_formats::memory::{Access, Map, Pages};
 
-/// `struct dfuse_map`: what a map has. The header says what each number means.
+/// `struct dfuse_map`: the numbers of a map. The header says what each number means.
 #[repr(C)]
 #[derive(Drop)]
 pub struct DfuseMap {
@@ -23,7 +23,7 @@ pub struct DfuseMap {
 pub struct DfuseRange {
     /// The address of the first byte.
     pub start: u64,
-    /// Bytes of each page.
+    /// Number of bytes of each page.
     pub size: u64,
     /// Number of pages.
     pub count: u32,
@@ -31,7 +31,7 @@ pub struct DfuseRange {
     pub access: u32,
 }
 
-/// The record of a map.
+/// Makes the record of a map.
 fn map_record(map: &Map<'_>) -> DfuseMap
     ensures { result ≡ map_record map.now }
 {
@@ -50,7 +50,7 @@ fn access_number(access: Access) -> u32
         + 4 * u32::from(access.is_writable)
 }
 
-/// The record of a range.
+/// Makes the record of a range.
 fn range_record(pages: &Pages) -> DfuseRange
     ensures { result ≡ range_record pages.now }
 {
@@ -62,10 +62,10 @@ fn range_record(pages: &Pages) -> DfuseRange
     }
 }
 
-/// Reads the string of an alternate setting: 0, or its first fault.
+/// Reads `text`, the string of an alternate setting, into `out`. Returns 0, or the number of its first fault.
 #[unsafe(no_mangle)]
 pub extern "C" fn dfuse_read_map(text: &[u8], out: &mut DfuseMap) -> i32
-    ensures outcome { ((result ≡ pos 0) × HasMap text.now out.new) ⊎ (IsNoMap text.now result × (out.new ≡ out.old)) }
+    ensures outcome { ((result ≡ pos 0) × HasMapRecord text.now out.new) ⊎ (IsNoMap text.now result × (out.new ≡ out.old)) }
 {
     match Map::read(text) {
         Ok(map) => {
@@ -76,10 +76,11 @@ pub extern "C" fn dfuse_read_map(text: &[u8], out: &mut DfuseMap) -> i32
     }
 }
 
-/// Reads one range of a map: 0, or the string's first fault, or that there is no such range.
+/// Reads range number `number` of the map `text` into `out`. Returns 0, or the number of the string's first fault, or of why the map has
+/// no such range.
 #[unsafe(no_mangle)]
 pub extern "C" fn dfuse_read_range(text: &[u8], number: u32, out: &mut DfuseRange) -> i32
-    ensures outcome { ((result ≡ pos 0) × HasRange text.now number out.new)
+    ensures outcome { ((result ≡ pos 0) × HasRangeRecord text.now number out.new)
         ⊎ ((result ≡ no_range) × HasNoRange text.now number × (out.new ≡ out.old))
         ⊎ (IsNoMap text.now result × (out.new ≡ out.old)) }
 {

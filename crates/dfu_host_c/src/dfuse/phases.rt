@@ -31,7 +31,7 @@ macro_rules! steps {
     };
 }
 
-/// The work of these numbers; None if there is no such work.
+/// Returns the work with those numbers; None if no work has them.
 fn work_at(number: u32, at: u64, end: u64) -> Option<Work>
     ensures { result ≡ work_at number at end }
 {
@@ -47,7 +47,7 @@ fn work_at(number: u32, at: u64, end: u64) -> Option<Work>
     }
 }
 
-/// Returns what is known of the pointer, by its number and address; None if there is no such number.
+/// Returns the knowledge of the pointer, by its number and address; None if the number has no such knowledge.
 fn place_at(number: u32, pointer: u64) -> Option<Place>
     ensures { result ≡ place_at number pointer }
 {
@@ -59,14 +59,14 @@ fn place_at(number: u32, pointer: u64) -> Option<Place>
     }
 }
 
-/// The step of a number, with its time; None if there is no such step.
+/// Returns the step with that number and its time; None if no step has the number.
 fn step_at(number: u32, ms: u32) -> Option<Step>
     ensures { result ≡ step_at number ms }
 {
     steps!(read number, ms)
 }
 
-/// The phase of these numbers; None if there is no such phase.
+/// Returns the phase with those numbers; None if no phase has them.
 pub(crate) fn phase_at(n: EncodedDfusePhase) -> Option<Phase>
     ensures { result ≡ dfuse_phase_at n }
 {
@@ -88,7 +88,7 @@ pub(crate) fn phase_at(n: EncodedDfusePhase) -> Option<Phase>
     Some(Phase::On(Standing { work, place, step }))
 }
 
-/// The number of a work, with the address that it has reached and the one at which it ends.
+/// Returns the number of a work, with the address that it has reached and the address at which it ends.
 fn work_numbers(work: Work) -> (u32, u64, u64)
     ensures work { work_at result.0 result.1 result.2 ≡ Some work }
     ensures on { result.0 ≢ 7 }
@@ -105,7 +105,7 @@ fn work_numbers(work: Work) -> (u32, u64, u64)
     }
 }
 
-/// The number of what is known of the pointer, and its address.
+/// Returns the number of the pointer's knowledge, and its address.
 fn place_numbers(place: Place) -> (u32, u64)
     ensures place { place_at result.0 result.1 ≡ Some place }
     ensures numbers { result ≡ place_numbers place }
@@ -117,7 +117,7 @@ fn place_numbers(place: Place) -> (u32, u64)
     }
 }
 
-/// The number of a step, and its time.
+/// Returns the number of a step, and its time.
 fn step_numbers(step: Step) -> (u32, u32)
     ensures step { step_at result.0 result.1 ≡ Some step }
     ensures numbers { result ≡ step_numbers step }
@@ -125,7 +125,7 @@ fn step_numbers(step: Step) -> (u32, u32)
     steps!(write step)
 }
 
-/// The numbers of a phase.
+/// Returns the numbers of a phase.
 pub(crate) fn numbers_of(phase: Phase) -> EncodedDfusePhase
     ensures phase { dfuse_phase_at result ≡ Some phase }
     ensures numbers { result ≡ dfuse_numbers_in phase }
@@ -148,7 +148,7 @@ pub(crate) fn numbers_of(phase: Phase) -> EncodedDfusePhase
     }
 }
 
-/// The numbers of a session that goes on.
+/// Returns the numbers of a session that goes on.
 fn numbers_on(standing: Standing) -> EncodedDfusePhase
     ensures phase { dfuse_phase_at result ≡ Some (On standing) }
     ensures numbers { result ≡ dfuse_numbers_in (On standing) }

@@ -6,26 +6,26 @@ ghost use Rattle.dfu_host_c.specs.dfuse.Sessions.{dfuse_plan_of};
 use dfu_formats::memory::Map;
 use dfuse_host::{Element, Plan};
 
-/// `struct dfuse_plan`: what a session is to do beside its map and its image. The header says what each number means.
+/// `struct dfuse_plan`: the plan of a session beside its map and its image. The header says what each number means.
 #[repr(C)]
 #[derive(Drop)]
 pub struct DfusePlan {
-    /// The address at which the application is to start.
+    /// Address at which the application must start.
     pub start: u32,
     /// Calls of `dfuse_take` after which the session is over; 0 counts as 1.
     pub actions: u32,
-    /// Restarts of the device that are taken.
+    /// Restarts of the device that the session takes.
     pub restarts: u16,
-    /// The most bytes of a block.
+    /// Largest number of bytes of a block.
     pub transfer: u16,
-    /// Bytes of the image that are written last.
+    /// Number of bytes of the image that are written last.
     pub front: u16,
-    /// Tells whether the device is to leave: 0 or else.
+    /// 0 if the device stays, any other number if it must leave.
     pub leaves: u16,
 }
 
 impl DfusePlan {
-    /// The plan over a map and an image.
+    /// Returns the plan over a map and an image.
     pub(crate) fn over<'f>(&self, map: &'f Map<'f>, image: &'f [Element<'f>]) -> Plan<'f>
         ensures { result ≡ dfuse_plan_of self.now map.entry image.entry }
     {

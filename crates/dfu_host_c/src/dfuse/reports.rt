@@ -17,7 +17,7 @@ macro_rules! reports {
     };
 }
 
-/// Returns the way in which a device left, by its number; None if it is over 2.
+/// Returns the way in which a device left, by its number; None over 2.
 fn leaving_at(number: u32) -> Option<Leaving>
     ensures { result ≡ leaving_at number }
 {
@@ -29,14 +29,14 @@ fn leaving_at(number: u32) -> Option<Leaving>
     }
 }
 
-/// The report of a number; None if it is 0 or over 7, or if there is no such code or way to leave.
+/// Returns the report with that number; None for 0, over 7, or if `more` is no code or no way to leave.
 pub(crate) fn report_at(number: u32, more: u32) -> Option<Report>
     ensures { result ≡ dfuse_report_at number more }
 {
     reports!(read number, more)
 }
 
-/// The number of how a device left.
+/// Returns the number of the way in which a device left.
 fn leaving_number(leaving: Leaving) -> u32
     ensures leaving { leaving_at result ≡ Some leaving }
     ensures number { result ≡ leaving_number leaving }
@@ -48,7 +48,7 @@ fn leaving_number(leaving: Leaving) -> u32
     }
 }
 
-/// The number of a report, and what it has: how the device left, or a code; else 0.
+/// Returns the number of a report, and its detail: the way in which the device left, or a code, else 0.
 pub(crate) fn report_numbers(report: Report) -> (u32, u32)
     ensures report { dfuse_report_at result.0 result.1 ≡ Some report }
     ensures numbers { result ≡ dfuse_report_numbers report }

@@ -8,7 +8,7 @@ use crate::dfuse::plan::DfusePlan;
 pub struct DfuseSession {
     /// The version of the library that wrote the record.
     pub version: u32,
-    /// Work of the session, 0 to 6; 7 if it is over.
+    /// Work of the session, 0 to 6; 7 once it is over.
     pub work: u32,
     /// The address that the work has reached.
     pub at: u64,
@@ -20,7 +20,7 @@ pub struct DfuseSession {
     pub place: u32,
     /// Step of the work, 0 to 14.
     pub step: u32,
-    /// The milliseconds of a step; of a report its code, or how the device left.
+    /// Milliseconds of a step; for a report its code, or the way in which the device left.
     pub more: u32,
     /// The report, 1 to 7, of a session that is over.
     pub report: u32,

@@ -14,7 +14,8 @@ use crate::seen::dfuse_seen_at;
 use dfu_formats::memory::Map;
 use dfuse_host::{Element, Limits, Session};
 
-/// Begins a session that writes an image and reads it back: 0, or why the string is not a map, or why the plan is refused.
+/// Begins a session that writes an image and reads it back. Returns 0, or the number of the string's fault, or of the
+/// plan's.
 #[unsafe(no_mangle)]
 pub extern "C" fn dfuse_begin(
     session: &mut DfuseSession,
@@ -43,7 +44,7 @@ pub extern "C" fn dfuse_begin(
     }
 }
 
-/// Gives a session what came of its action: 0, `DFU_NO_SESSION` or `DFU_NO_SEEN`.
+/// Gives a session the result of its action. Returns 0, `DFU_NO_SESSION` or `DFU_NO_SEEN`.
 #[unsafe(no_mangle)]
 pub extern "C" fn dfuse_take(
     session: &mut DfuseSession,

@@ -1,6 +1,6 @@
 //! Record that a program keeps beside a DfuSe session, for C.
 
-/// `struct dfuse_watch`: what has come of a session's requests so far. All 0 before it.
+/// `struct dfuse_watch`: what has come of a session's requests so far. All numbers are 0 before the session.
 #[repr(C)]
 #[derive(Drop)]
 pub struct DfuseWatch {

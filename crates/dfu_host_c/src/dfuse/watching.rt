@@ -1,7 +1,7 @@
 //! The calls that watch over a DfuSe session: when a program gives a device up, and how long it waits.
 
 ghost use Rattle.std.specs.Prelude.{◌≡◌};
-ghost use Rattle.dfu_host_c.specs.Watch.{as_number};
+ghost use Rattle.dfu_host_c.specs.Watch.{c_number_of_bool};
 ghost use Rattle.dfu_host_c.specs.dfuse.Watch.{
   dfuse_changes,
   dfuse_course,
@@ -11,7 +11,7 @@ ghost use Rattle.dfu_host_c.specs.dfuse.Watch.{
   dfuse_watched,
   is_closing,
   is_gone_by_then,
-  is_out,
+  is_dfuse_request_out,
   is_status,
 };
 
@@ -23,15 +23,15 @@ use crate::watching::{
     ENDS_GONE, ENDS_MANY, ENDS_OTHER, ENDS_SILENT, GOES_ON, MOST_SILENT, counted,
 };
 
-/// Result of `dfuse_watch_after` beside the numbers of `dfu_watch_after`: to report a restart in place of what was seen.
+/// Course of `dfuse_watch_after` beside those of `dfu_watch_after`: report a restart in place of the result.
 const GOES_RESTARTED: u32 = 8;
-/// To report nothing, since the user has stopped the session and the device is gone.
+/// Report nothing, because the user has stopped the session and the device is gone.
 const GOES_TO_STOP: u32 = 9;
 /// Requests in a row that may have no answer once the device was asked to leave, until it is taken for gone.
 const MOST_SILENT_AT_CLOSE: u32 = 3;
-/// Waits of 0 ms in a row that are kept to.
+/// Waits of 0 ms in a row that last 0 ms.
 const SHORT_WAITS: u32 = 3;
-/// Milliseconds that the next ones take.
+/// Milliseconds that further waits of 0 ms last.
 const SHORT_WAIT_MS: u32 = 5;
 
 /// Returns whether the device was asked to leave: the DNLOAD of no bytes is the next action, or was sent.
@@ -43,7 +43,7 @@ fn is_closing(session: &DfuseSession) -> bool
 
 /// Returns whether a request went out to the device.
 fn is_out(action: &DfuseAction, facts: &DfuFacts) -> bool
-    ensures { result ≡ is_out action.now facts.now }
+    ensures { result ≡ is_dfuse_request_out action.now facts.now }
 {
     action.what == 0 && facts.reached != 0
 }
@@ -55,7 +55,7 @@ fn is_status(action: &DfuseAction) -> bool
     action.setup[0] == 0xa1 && action.setup[1] == 3
 }
 
-/// Returns whether the memory may be another one after an action: a block of data, whose number isn't 0, or the command 41h, which erases.
+/// Returns whether an action may change the memory: a block of data, whose number isn't 0, or the command 41h, which erases.
 fn changes(action: &DfuseAction, command: u32) -> bool
     ensures { result ≡ dfuse_changes action.now command }
 {
@@ -100,8 +100,8 @@ fn watched(
     }
 }
 
-/// Returns whether a device that was asked to leave is taken for gone after this action, a request: another one is open, or it is gone, or
-/// it left by itself, or at least three requests in a row had no answer.
+/// Returns whether a device that was asked to leave is taken for gone after a request: another one is open, or it is gone, or it left by
+/// itself, or at least three requests in a row had no answer.
 fn is_gone_by_then(watch: &DfuseWatch, action: &DfuseAction, seen: u32, facts: &DfuFacts) -> bool
     ensures { result ≡ is_gone_by_then watch.now action.now seen facts.now }
 {
@@ -110,7 +110,7 @@ fn is_gone_by_then(watch: &DfuseWatch, action: &DfuseAction, seen: u32, facts: &
         && (is_other || facts.gone != 0 || seen == 7 || watch.silent >= MOST_SILENT_AT_CLOSE)
 }
 
-/// Returns the course of the program, by the record and by what it sees of the device.
+/// Returns the course of the program, by the record and by the facts of the device.
 fn course(
     watch: &DfuseWatch,
     session: &DfuseSession,
@@ -143,12 +143,13 @@ fn course(
 /// Returns whether the device was asked to leave, and may be gone with any request: 1, or 0.
 #[unsafe(no_mangle)]
 pub extern "C" fn dfuse_watch_closes(session: &DfuseSession) -> u32
-    ensures { result ≡ as_number (is_closing session.now) }
+    ensures { result ≡ c_number_of_bool (is_closing session.now) }
 {
     u32::from(is_closing(session))
 }
 
-/// Returns the course after an action of which this was seen, and of the device these facts. `command` is the first byte of its body, or 0.
+/// Returns the course after an action, by what was seen of it and by the facts of the device. `command` is the first byte of the action's
+/// body, or 0.
 #[unsafe(no_mangle)]
 pub extern "C" fn dfuse_watch_after(
     watch: &mut DfuseWatch,
@@ -165,7 +166,7 @@ pub extern "C" fn dfuse_watch_after(
     course(watch, session, action, seen, facts)
 }
 
-/// Returns the milliseconds to wait if the host asks for these: as many, but 5 from the fourth wait of 0 in a row on.
+/// Returns the milliseconds to wait if the host asks for `ms`: as many, but 5 from the fourth wait of 0 in a row on.
 #[unsafe(no_mangle)]
 pub extern "C" fn dfuse_watch_wait(watch: &mut DfuseWatch, ms: u32) -> u32
     ensures waits { watch.new.waits ≡ dfuse_waits_after_wait watch.old ms }

@@ -1,37 +1,38 @@
--- A device whose program checks each image keeps one that the check accepts, and so does a board.
+-- Images of devices and boards whose program checks each image: the active image stays one that the check accepts.
 use Rattle.std.specs.Prelude.{◌≡◌, ◌⊎◌, ℕ, Bool, true, List, [], ◌∷◌}
 use Rattle.std.proofs.Common.{inl, inr, ap, ◌∙◌}
 use Rattle.dfu_laws.specs.board.Board.{BoardStep}
-use Rattle.dfu_laws.specs.board.ImageSurvival.{IsClosed, RunsKeepImage}
+use Rattle.dfu_laws.specs.board.ImageSurvival.{DownloadOfImageClosed, RunsKeepImage}
 use Rattle.dfu_slots.specs.StoreView.{image_of}
 use Rattle.dfu_device.specs.DeviceView.{DeviceView}
-use Rattle.dfu_device.specs.History.{IsRow, HistoryStep as TableRow}
-use Rattle.dfu_laws.specs.board.Accepts.{Heeds, RunAccepts, HeedsRow, HistoryAccepts}
-use Rattle.dfu_laws.proofs.board.Closing.{row_leads}
+use Rattle.dfu_device.specs.History.{IsTableRow, HistoryStep as TableRow}
+use Rattle.dfu_laws.specs.board.Accepts.{ClosesPassCheck, RunKeepsAcceptedImage, RowPassesCheck, HistoryKeepsAcceptedImage}
+use Rattle.dfu_laws.proofs.board.Closing.{row_has_image_outcome}
 
--- An image that was closed was accepted.
-closed_accepted : (check : List ℕ → Bool) (old steps : List BoardStep) (image : List ℕ) → Heeds check old steps → IsClosed old steps image
+-- An image whose download was closed passes the check.
+closed_image_passes_check : (check : List ℕ → Bool) (old steps : List BoardStep) (image : List ℕ) → ClosesPassCheck check old steps
+    → DownloadOfImageClosed old steps image
     → check image ≡ true
-closed_accepted check old steps image heeds c = ap check c.image_is ∙ heeds c.first c.close c.rest c.steps_are c.is
+closed_image_passes_check check old steps image heeds c = ap check c.image_is ∙ heeds c.first c.close c.rest c.steps_are c.is
 
--- So an image that is not the first one was accepted.
-pub run_accepts : RunsKeepImage → RunAccepts
-run_accepts keeps check b b' steps image on active run heeds =
+-- After a run whose closes pass the check, the active image is the first one or passes the check.
+pub run_image_passes_check : RunsKeepImage → RunKeepsAcceptedImage
+run_image_passes_check keeps check b b' steps image on active run heeds =
     let kept = keeps b b' steps image on active run in
     record {
       now = kept.now;
       active = kept.active;
       whence = elim (kept.whence) [
         | inl same ↦ inl same
-        | inr closed ↦ inr (closed, closed_accepted check [] steps kept.now heeds closed)
+        | inr closed ↦ inr (closed, closed_image_passes_check check [] steps kept.now heeds closed)
       ];
     }
 
--- A row at which the program heeds the check.
-row_accepts : (check : List ℕ → Bool) (s : TableRow) → IsRow s → HeedsRow check s
+-- If the program heeds the check at a row, the image after it is the image before it, or passes the check.
+row_image_passes_check : (check : List ℕ → Bool) (s : TableRow) → IsTableRow s → RowPassesCheck check s
     → (image_of s.after.slots ≡ image_of s.before.slots) ⊎ (check (image_of s.after.slots) ≡ true)
-row_accepts check s row heeds =
-    let leads = row_leads s.before s.cause s.answer s.out s.after row in
+row_image_passes_check check s row heeds =
+    let leads = row_has_image_outcome s.before s.cause s.answer s.out s.after row in
     elim leads.image [
       | inl same ↦ inl same
       | inr waits ↦ elim (heeds (image_of s.after.slots) waits) [
@@ -46,13 +47,14 @@ row_accepts check s row heeds =
       ]
     ]
 
--- So it is with a history.
-pub history_accepts : HistoryAccepts
-history_accepts check [] w w' same heeds = inl (ap (λ (x : DeviceView). image_of x.slots) same)
-history_accepts check (s ∷ rest) w w' (begins, row, more) heeds = elim (history_accepts check rest s.after w' more heeds.1) [
-  | inr accepted ↦ inr accepted
-  | inl same ↦ elim (row_accepts check s row heeds.0) [
-    | inl before ↦ inl (same ∙ before ∙ ap (λ (x : DeviceView). image_of x.slots) begins)
-    | inr accepted ↦ inr (ap check same ∙ accepted)
-  ]
-]
+-- If the program heeds the check at each row of a history, the image at its end is the first one, or passes the check.
+pub history_image_passes_check : HistoryKeepsAcceptedImage
+history_image_passes_check check [] w w' same heeds = inl (ap (λ (x : DeviceView). image_of x.slots) same)
+history_image_passes_check check (s ∷ rest) w w' (begins, row, more) heeds = elim (history_image_passes_check check rest s.after w' more
+    heeds.1) [
+      | inr accepted ↦ inr accepted
+      | inl same ↦ elim (row_image_passes_check check s row heeds.0) [
+        | inl before ↦ inl (same ∙ before ∙ ap (λ (x : DeviceView). image_of x.slots) begins)
+        | inr accepted ↦ inr (ap check same ∙ accepted)
+      ]
+    ]

@@ -3,7 +3,7 @@ use Rattle.std.specs.Prelude.{◌≡◌, ℕ, ◌+◌, true, List, [], ◌++◌,
 use Rattle.std.proofs.Common.{inl, inr, refl, sym, ap, ◌∙◌, subst}
 use Rattle.std.proofs.lemmas.List.{append-nil}
 use Rattle.dfu_slots.specs.StoreView.{image_of}
-use Rattle.dfu_slots.proofs.Torn.{keeps_same}
+use Rattle.dfu_slots.proofs.Torn.{no_change_keeps_all}
 use Rattle.dfu_device.specs.declared.answer.Answer.{Answer}
 use Rattle.dfu_device.specs.declared.objection.Objection.{Objection}
 use Rattle.dfu_device.specs.declared.answer.Answer.TheVariants as answer
@@ -11,51 +11,57 @@ use Rattle.dfu_device.specs.Stage.{state_of}
 use Rattle.dfu_device.specs.DeviceView.{DeviceView, situation}
 use Rattle.dfu_device.specs.Rows.{Cause, Transfer, Passing, BusReset, RefusingClose, Refusing, Row}
 use Rattle.dfu_device.specs.History.{HistoryStep as TableRow}
-use Rattle.dfu_device.specs.AcceptedBytes.{accepted_of, held_in, acknowledged, is_dnload}
+use Rattle.dfu_device.specs.AcceptedBytes.{accepted_of, accepted_in_state, acknowledged_bytes, is_dnload}
 use Rattle.dfu_device.specs.AcceptedHistory.{RowAcceptsBody}
 use Rattle.dfu_asks.specs.declared.reply.Reply.{Reply}
 use Rattle.dfu_asks.specs.Due.{IsDueRow}
-use Rattle.dfu_asks.specs.Asks.{store_in, device_in}
-use Rattle.dfu_asks.specs.Calls.{IsRowOnAnyMedium, DeviceCalled, called_ended, called_asks}
-use Rattle.dfu_asks.proofs.Unseen.{of_mapped}
-use Rattle.dfu_laws.specs.board.Board.{Board, lent_on, device_on, Event, Handle, Elapse, UsbReset, RefuseClose, Refuse, BoardReply, Answers}
-use Rattle.dfu_laws.specs.board.Happens.{reply_of_call, IsServedBy, IsReset, IsObjected}
+use Rattle.dfu_asks.specs.Lent.{SameSetup}
+use Rattle.dfu_asks.specs.Mapped.{grain_of, mapped_medium}
+use Rattle.dfu_asks.specs.Asks.{flash_store, device_in}
+use Rattle.dfu_asks.specs.Calls.{IsRowOnEveryMedium, DeviceCalled, call_answered, call_asks}
+use Rattle.dfu_asks.proofs.Unseen.{unseen_of_mapped}
+use Rattle.dfu_laws.specs.board.Board.{Board, lent_on, medium_on, device_on, Event, Handle, Elapse, UsbReset, RefuseClose, Refuse, BoardReply, Answers}
+use Rattle.dfu_laws.specs.board.Happens.{reply_of_call, IsServedBy, ResetServed, ObjectionServed}
 use Rattle.dfu_laws.specs.board.ImageSurvival.{acknowledged_body}
-use Rattle.dfu_laws.specs.board.Refines.{CallRows, EventRows, IsIdle}
-use Rattle.dfu_laws.proofs.board.Closing.{row_leads}
-use Rattle.dfu_laws.proofs.board.Installs.{never_both, row_puts}
-use Rattle.dfu_laws.proofs.board.Turns.{stage_holds, TurnedBy, Turned, idle_there, said_there, one_row, tells_answer}
+use Rattle.dfu_laws.specs.board.Refines.{CallRows, EventRows, IsIdleBoard}
+use Rattle.dfu_laws.proofs.board.Closing.{row_has_image_outcome}
+use Rattle.dfu_laws.proofs.board.Installs.{manifesting_stage_is_not_over, row_out_of_manifest_installs}
+use Rattle.dfu_laws.proofs.board.Turns.{accepted_bytes_stay_in_stage, MakesRowsOfDevice, StepMakesRows, board_is_idle_after_row, answered_bytes_of_row, row_of_answer, answer_tells_one_row}
 
--- A call's body that was acknowledged.
-abbrev pub block_by : Cause → BoardReply → List ℕ
-block_by cause (Answers a out) = acknowledged cause a
-block_by cause says = []
+-- The body of a call if the call was acknowledged, and else no bytes.
+abbrev pub acknowledged_block_of : Cause → BoardReply → List ℕ
+acknowledged_block_of cause (Answers a out) = acknowledged_bytes cause a
+acknowledged_block_of cause says = []
 
 -- The cause is a DNLOAD of no bytes that was acknowledged.
 abbrev pub IsClosingCause : Cause → BoardReply → Type 0
 IsClosingCause cause says =
     (setup : List ℕ) × (cause ≡ Transfer setup []) × (is_dnload setup ≡ true) × (says ≡ Answers answer.Ack [])
 
--- A call of a board for this cause as such rows.
-abbrev pub CallTurned : Board → Option Cause → DeviceView → Cause → BoardReply → Type 0
-CallTurned b' due d cause says =
-    TurnedBy b' d (λ rows due'. CallRows cause due says rows due') (block_by cause says) (IsClosingCause cause says) (Unit {0})
+-- A call of a board for a cause makes rows of the device, as `MakesRowsOfDevice` says.
+abbrev pub CallMakesRowsOfDevice : Board → Option Cause → DeviceView → Cause → BoardReply → Type 0
+CallMakesRowsOfDevice b' due d cause says =
+    MakesRowsOfDevice b' d (λ rows due'. CallRows cause due says rows due') (acknowledged_block_of cause says) (IsClosingCause cause says)
+    (Unit {0})
 
 module _ (takes : RowAcceptsBody) where
-  -- A call that was answered.
-  row_turn : (b' : Board) (d : DeviceView) (cause : Cause) (says : BoardReply) (x : Answer) (sent : List ℕ) → Row d cause x sent (device_on b')
-      → IsIdle b' (device_on b') → says ≡ Answers x sent → CallTurned b' None d cause says
-  row_turn b' d cause says x sent row idle is =
-      let leads = row_leads d cause x sent (device_on b') row in
+  -- A call that was answered makes the row of its cause.
+  answered_call_makes_row : (b' : Board) (d : DeviceView) (cause : Cause) (says : BoardReply) (x : Answer) (sent : List ℕ) →
+      Row d cause x sent (device_on b')
+      → IsIdleBoard b' (device_on b') → says ≡ Answers x sent → medium_on b' ≡ d.slots.medium → CallMakesRowsOfDevice b' None d cause says
+  answered_call_makes_row b' d cause says x sent row idle is same =
+      let leads = row_has_image_outcome d cause x sent (device_on b') row in
       record {
-        rows = one_row d cause x sent (device_on b');
+        rows = row_of_answer d cause x sent (device_on b');
         due' = None;
         device = device_on b';
         history = (refl, row, refl);
-        tells = tells_answer None d cause x sent (device_on b') says is;
+        tells = answer_tells_one_row None d cause x sent (device_on b') says is;
         stands = idle;
         taken = takes d cause x sent (device_on b') row
-            ∙ ap (λ (y : BoardReply). held_in (state_of (device_on b').stage) (accepted_of (situation d) ++ block_by cause y)) (sym is);
+            ∙ ap (λ (y : BoardReply). accepted_in_state (state_of (device_on b').stage) (accepted_of (situation d)
+            ++ acknowledged_block_of cause y))
+            (sym is);
         waits = λ t m. elim (leads.waits t m) [
           | inl before ↦ inl before
           | inr closed ↦
@@ -63,13 +69,20 @@ module _ (takes : RowAcceptsBody) where
               inr ((c.0, c.1, c.2, is ∙ (λ i. Answers (c.3 i) (c.4 i))), closed.1)
         ];
         image = leads.image;
-        puts = λ _ on over. row_puts d cause x sent (device_on b') row on over;
+        puts = λ _ on over. row_out_of_manifest_installs d cause x sent (device_on b') row on over;
+        slots = inl same;
       }
 
+  -- The medium is that of the device if the flash and the setup stay.
+  same_medium : (b b' : Board) (d : DeviceView) → IsIdleBoard b d → SameSetup b.asking b'.asking → b'.flash ≡ b.flash
+      → medium_on b' ≡ d.slots.medium
+  same_medium b b' d k alike flash = (λ i. mapped_medium (grain_of (alike.unit i) (alike.sector i)) (flash i))
+      ∙ ap (λ (x : DeviceView). x.slots.medium) k.device
+
   -- `handle` and `elapse`.
-  pub served : (b b' : Board) (d : DeviceView) (cause : Cause) (says : BoardReply) → IsIdle b d → IsServedBy b cause says b'
-      → CallTurned b' None d cause says
-  served b b' d cause says k h =
+  pub served : (b b' : Board) (d : DeviceView) (cause : Cause) (says : BoardReply) → IsIdleBoard b d → SameSetup b.asking b'.asking
+      → IsServedBy b cause says b' → CallMakesRowsOfDevice b' None d cause says
+  served b b' d cause says k alike h =
       let o = h.outcome (record { fits = h.fits; is = k.is }) in
       from o.0 o.1 h.reply o.2 o.3
     where
@@ -78,13 +91,15 @@ module _ (takes : RowAcceptsBody) where
 
       from : (out out' : List ℕ) (r : Reply) → DeviceCalled (lent_on b) b.flash out rows
           (lent_on b') out' r
-          → says ≡ reply_of_call r out' → CallTurned b' None d cause says
-      from out out' _ (called_ended x count e) is = row_turn b' d cause says x e.gave.sent
+          → says ≡ reply_of_call r out' → CallMakesRowsOfDevice b' None d cause says
+      from out out' _ (call_answered x count e) is = answered_call_makes_row b' d cause says x e.gave.sent
           (subst (λ (z : DeviceView). Row z cause x e.gave.sent (device_on b')) k.device
-          (subst (λ (f : List ℕ). Row (device_on b) cause x e.gave.sent (device_in (lent_on b') f)) (sym h.flash) (e.gave.row of_mapped)))
-          (idle_there b' b.flash x count out out' (IsRowOnAnyMedium (lent_on b) b.flash rows (lent_on b')) h.flash e)
-          (said_there says b.flash x count out out' (lent_on b') (IsRowOnAnyMedium (lent_on b) b.flash rows (lent_on b')) e is)
-      from out out' _ (called_asks len asks same due out_is) is = record {
+          (subst (λ (f : List ℕ). Row (device_on b) cause x e.gave.sent (device_in (lent_on b') f)) (sym h.flash) (e.gave.row
+          unseen_of_mapped)))
+          (board_is_idle_after_row b' b.flash x count out out' (IsRowOnEveryMedium (lent_on b) b.flash rows (lent_on b')) h.flash e)
+          (answered_bytes_of_row says b.flash x count out out' (lent_on b') (IsRowOnEveryMedium (lent_on b) b.flash rows (lent_on b')) e is)
+          (same_medium b b' d k alike h.flash)
+      from out out' _ (call_asks len asks same due out_is) is = record {
         rows = [];
         due' = Some cause;
         device = d;
@@ -92,49 +107,54 @@ module _ (takes : RowAcceptsBody) where
         tells = subst (λ (y : BoardReply). CallRows cause None y [] (Some cause)) (sym is) (refl, refl);
         stands = record {
           len = len;
-          s = store_in (lent_on b) b.flash;
+          s = flash_store (lent_on b) b.flash;
           was = b.flash;
           stood = b.flash;
           asks = asks;
           device = same ∙ k.device;
-          row = subst (λ (z : DeviceView). IsDueRow len z (λ x sent d'. Row z cause x sent d')) k.device (due of_mapped);
-          torn = λ p piece. keeps_same p.write.at (p.write.at + length p.write.bytes) b.flash b'.flash h.flash;
+          row = subst (λ (z : DeviceView). IsDueRow len z (λ x sent d'. Row z cause x sent d')) k.device (due unseen_of_mapped);
+          torn = λ p piece. no_change_keeps_all p.write.at (p.write.at + length p.write.bytes) b.flash b'.flash h.flash;
         };
-        taken = sym (ap (λ (y : BoardReply). held_in (state_of d.stage) (accepted_of (situation d) ++ block_by cause y)) is
-            ∙ ap (λ (l : List ℕ). held_in (state_of d.stage) l) (append-nil (accepted_of (situation d)))
-            ∙ stage_holds (image_of d.slots) d.stage);
+        taken = sym (ap (λ (y : BoardReply). accepted_in_state (state_of d.stage) (accepted_of (situation d)
+            ++ acknowledged_block_of cause y)) is
+            ∙ ap (λ (l : List ℕ). accepted_in_state (state_of d.stage) l) (append-nil (accepted_of (situation d)))
+            ∙ accepted_bytes_stay_in_stage (image_of d.slots) d.stage);
         waits = λ t m. inl m;
         image = inl refl;
-        puts = λ _ on over. absurd (never_both d.stage on over);
+        puts = λ _ on over. absurd (manifesting_stage_is_not_over d.stage on over);
+        slots = inl refl;
       }
 
   -- `usb_reset`.
-  pub was_reset : (b b' : Board) (d : DeviceView) (says : BoardReply) → IsIdle b d → IsReset b says b' → CallTurned b' None d BusReset says
-  was_reset b b' d says k h = row_turn b' d BusReset says answer.Ack []
+  pub bus_reset_makes_row : (b b' : Board) (d : DeviceView) (says : BoardReply) → IsIdleBoard b d → SameSetup b.asking b'.asking
+      → ResetServed b says b'
+      → CallMakesRowsOfDevice b' None d BusReset says
+  bus_reset_makes_row b b' d says k alike h = answered_call_makes_row b' d BusReset says answer.Ack []
       (subst (λ (z : DeviceView). Row z BusReset answer.Ack [] (device_on b')) k.device (refl, refl, h.row))
       (record { work = h.work; is = (h.is (record { fits = h.fits; is = k.is })).is; device = refl }) h.says_is
+      (same_medium b b' d k alike h.flash)
 
   -- `refuse_close` and `refuse`.
-  pub objected : (b b' : Board) (d : DeviceView) (cause : Cause) (a : Answer) (says : BoardReply) → IsIdle b d → IsObjected b cause a says b'
-      → CallTurned b' None d cause says
-  objected b b' d cause a says k h =
+  pub objected : (b b' : Board) (d : DeviceView) (cause : Cause) (a : Answer) (says : BoardReply) → IsIdleBoard b d
+      → SameSetup b.asking b'.asking → ObjectionServed b cause a says b' → CallMakesRowsOfDevice b' None d cause says
+  objected b b' d cause a says k alike h =
       let both = h.row k.is in
-      row_turn b' d cause says a [] (subst (λ (z : DeviceView). Row z cause a [] (device_on b')) k.device both.1)
-      (record { work = h.work; is = both.0; device = refl }) h.says_is
+      answered_call_makes_row b' d cause says a [] (subst (λ (z : DeviceView). Row z cause a [] (device_on b')) k.device both.1)
+      (record { work = h.work; is = both.0; device = refl }) h.says_is (same_medium b b' d k alike h.flash)
 
--- A call as the event that it is: it takes the same block, and closes a download as that event does.
-pub of_call : (b' : Board) (due : Option Cause) (d : DeviceView) (e : Event) (cause : Cause) (says : BoardReply)
+-- The rows of a call are those of its event, because both take the same block and close the same download.
+pub call_rows_are_event_rows : (b' : Board) (due : Option Cause) (d : DeviceView) (e : Event) (cause : Cause) (says : BoardReply)
     → ((rows : List TableRow) (due' : Option Cause) → CallRows cause due says rows due' → EventRows due e says rows due')
-    → block_by cause says ≡ acknowledged_body e says → ((setup : List ℕ) → cause ≡ Transfer setup [] → e ≡ Handle setup [])
-    → CallTurned b' due d cause says → Turned b' due d e says
-of_call b' due d e cause says tells block closes c = record {
+    → acknowledged_block_of cause says ≡ acknowledged_body e says → ((setup : List ℕ) → cause ≡ Transfer setup [] → e ≡ Handle setup [])
+    → CallMakesRowsOfDevice b' due d cause says → StepMakesRows b' due d e says
+call_rows_are_event_rows b' due d e cause says tells block closes c = record {
   rows = c.rows;
   due' = c.due';
   device = c.device;
   history = c.history;
   tells = tells c.rows c.due' c.tells;
   stands = c.stands;
-  taken = c.taken ∙ ap (λ (l : List ℕ). held_in (state_of c.device.stage) (accepted_of (situation d) ++ l)) block;
+  taken = c.taken ∙ ap (λ (l : List ℕ). accepted_in_state (state_of c.device.stage) (accepted_of (situation d) ++ l)) block;
   waits = λ t m. elim (c.waits t m) [
     | inl before ↦ inl before
     | inr closed ↦
@@ -143,44 +163,54 @@ of_call b' due d e cause says tells block closes c = record {
   ];
   image = c.image;
   puts = λ other on over. c.puts tt on over;
+  slots = c.slots;
 }
 
--- Each of them as an event.
-pub of_handle : (b' : Board) (d : DeviceView) (setup body : List ℕ) (says : BoardReply) → CallTurned b' None d (Transfer setup body) says
-    → Turned b' None d (Handle setup body) says
-of_handle b' d setup body says c =
-    of_call b' None d (Handle setup body) (Transfer setup body) says (λ rows due' t. t) (same_block says) same_event c
+-- Calls as events of a board.
+pub handle_makes_event_rows : (b' : Board) (d : DeviceView) (setup body : List ℕ) (says : BoardReply) →
+    CallMakesRowsOfDevice b' None d (Transfer setup body) says
+    → StepMakesRows b' None d (Handle setup body) says
+handle_makes_event_rows b' d setup body says c =
+    call_rows_are_event_rows b' None d (Handle setup body) (Transfer setup body) says (λ rows due' t. t) (acknowledged_body_same says)
+    same_cause_same_handle c
   where
-    same_block : (says : BoardReply) → block_by (Transfer setup body) says ≡ acknowledged_body (Handle setup body) says
-    same_block (Answers a out) = refl
-    same_block says = refl
+    acknowledged_body_same : (says : BoardReply) → acknowledged_block_of (Transfer setup body) says
+        ≡ acknowledged_body (Handle setup body) says
+    acknowledged_body_same (Answers a out) = refl
+    acknowledged_body_same says = refl
 
-    same_event : (other : List ℕ) → Transfer setup body ≡ Transfer other [] → Handle setup body ≡ Handle other []
-    same_event other e = cc
+    same_cause_same_handle : (other : List ℕ) → Transfer setup body ≡ Transfer other [] → Handle setup body ≡ Handle other []
+    same_cause_same_handle other e = cc
 
--- A call that has no body takes no block.
-no_block : (cause : Cause) → ((a : Answer) → acknowledged cause a ≡ []) → (says : BoardReply) → block_by cause says ≡ []
-no_block cause none (Answers a out) = none a
-no_block cause none says = refl
+-- A call without a body takes no block.
+call_without_body_adds_none : (cause : Cause) → ((a : Answer) → acknowledged_bytes cause a ≡ []) → (says : BoardReply) →
+    acknowledged_block_of cause says ≡ []
+call_without_body_adds_none cause none (Answers a out) = none a
+call_without_body_adds_none cause none says = refl
 
-pub of_elapse : (b' : Board) (d : DeviceView) (ms : ℕ) (says : BoardReply) → CallTurned b' None d (Passing ms) says
-    → Turned b' None d (Elapse ms) says
-of_elapse b' d ms says c =
-    of_call b' None d (Elapse ms) (Passing ms) says (λ rows due' t. t) (no_block (Passing ms) (λ a. refl) says)
+pub elapse_makes_event_rows : (b' : Board) (d : DeviceView) (ms : ℕ) (says : BoardReply) → CallMakesRowsOfDevice b' None d (Passing ms) says
+    → StepMakesRows b' None d (Elapse ms) says
+elapse_makes_event_rows b' d ms says c =
+    call_rows_are_event_rows b' None d (Elapse ms) (Passing ms) says (λ rows due' t. t) (call_without_body_adds_none (Passing ms) (λ a.
+    refl) says)
     (λ own e. absurd (cc)) c
 
-pub of_reset : (b' : Board) (d : DeviceView) (says : BoardReply) → CallTurned b' None d BusReset says → Turned b' None d UsbReset says
-of_reset b' d says c = of_call b' None d UsbReset BusReset says (λ rows due' t. t) (no_block BusReset (λ a. refl) says)
+pub usb_reset_makes_event_rows : (b' : Board) (d : DeviceView) (says : BoardReply) → CallMakesRowsOfDevice b' None d BusReset says →
+    StepMakesRows b' None d UsbReset says
+usb_reset_makes_event_rows b' d says c = call_rows_are_event_rows b' None d UsbReset BusReset says (λ rows due' t. t)
+    (call_without_body_adds_none BusReset (λ a. refl) says)
     (λ own e. absurd (cc)) c
 
-pub of_refuse_close : (b' : Board) (d : DeviceView) (setup : List ℕ) (why : Objection) (says : BoardReply)
-    → CallTurned b' None d (RefusingClose setup why) says → Turned b' None d (RefuseClose setup why) says
-of_refuse_close b' d setup why says c =
-    of_call b' None d (RefuseClose setup why) (RefusingClose setup why) says (λ rows due' t. t)
-    (no_block (RefusingClose setup why) (λ a. refl) says) (λ own e. absurd (cc)) c
+pub refuse_close_makes_event_rows : (b' : Board) (d : DeviceView) (setup : List ℕ) (why : Objection) (says : BoardReply)
+    → CallMakesRowsOfDevice b' None d (RefusingClose setup why) says → StepMakesRows b' None d (RefuseClose setup why) says
+refuse_close_makes_event_rows b' d setup why says c =
+    call_rows_are_event_rows b' None d (RefuseClose setup why) (RefusingClose setup why) says (λ rows due' t. t)
+    (call_without_body_adds_none (RefusingClose setup why) (λ a. refl) says) (λ own e. absurd (cc)) c
 
-pub of_refuse : (b' : Board) (d : DeviceView) (why : Objection) (says : BoardReply) → CallTurned b' None d (Refusing why) says
-    → Turned b' None d (Refuse why) says
-of_refuse b' d why says c =
-    of_call b' None d (Refuse why) (Refusing why) says (λ rows due' t. t) (no_block (Refusing why) (λ a. refl) says)
+pub refuse_makes_event_rows : (b' : Board) (d : DeviceView) (why : Objection) (says : BoardReply) →
+    CallMakesRowsOfDevice b' None d (Refusing why) says
+    → StepMakesRows b' None d (Refuse why) says
+refuse_makes_event_rows b' d why says c =
+    call_rows_are_event_rows b' None d (Refuse why) (Refusing why) says (λ rows due' t. t) (call_without_body_adds_none (Refusing why) (λ
+    a. refl) says)
     (λ own e. absurd (cc)) c

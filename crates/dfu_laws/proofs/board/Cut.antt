@@ -1,4 +1,4 @@
--- A board that works for a row: the row broken off, with the flash as it is.
+-- A board at work whose row is broken off with the flash as it is.
 use Rattle.std.proofs.Common.{◌≡◌, Bool, true, false, if◌then◌else◌, ℕ, ◌<◌, List, [], ◌∷◌, length, take, Option, Some, None, refl, sym, subst}
 use Rattle.dfu_wire.specs.declared.codes.Code.{Code}
 use Rattle.dfu_wire.specs.Code.{code_byte}
@@ -13,56 +13,56 @@ use Rattle.dfu_device.specs.declared.answer.Answer.TheVariants as answer
 use Rattle.dfu_device.specs.declared.device_state.DeviceState.{DeviceState}
 use Rattle.dfu_device.specs.declared.device_state.DeviceState.TheVariants as device_state
 use Rattle.dfu_device.specs.Setting.{Setting}
-use Rattle.dfu_device.specs.Parts.{shows}
+use Rattle.dfu_device.specs.Parts.{view_of_parts}
 use Rattle.dfu_device.specs.Table.{write_code, commit_code}
 use Rattle.dfu_device.specs.Rows.{Cause}
 use Rattle.dfu_device.specs.DeviceView.{DeviceView}
 use Rattle.dfu_asks.specs.declared.pending_writes.SlotWrite.{SlotWrite}
 use Rattle.dfu_asks.specs.declared.pending_writes.PendingWrites.{PendingWrites}
-use Rattle.dfu_asks.specs.Mapped.{mapped}
+use Rattle.dfu_asks.specs.Mapped.{mapped_medium}
 use Rattle.dfu_asks.specs.Steps.{Step, step_writes}
 use Rattle.dfu_asks.specs.Jobs.{job_writes, job_steps}
-use Rattle.dfu_asks.specs.Carried.{total, carried, AreWithin, IsPiece}
-use Rattle.dfu_asks.specs.Due.{Fails}
-use Rattle.dfu_asks.specs.Asks.{grain_in, writes_in, steps_in, is_block, failed_mode, IsAnswered}
+use Rattle.dfu_asks.specs.Carried.{total, bytes_after_writes, WritesWithin, IsStepPiece}
+use Rattle.dfu_asks.specs.Due.{DueRowFails}
+use Rattle.dfu_asks.specs.Asks.{grain_in, writes_in, steps_in, is_block, failed_mode, IsRowEndAnswer}
 use Rattle.dfu_laws.specs.board.Board.{Board, lent_on, medium_on}
-use Rattle.dfu_laws.specs.board.Refines.{IsAtWork}
-use Rattle.dfu_laws.proofs.board.Broken.{BlocksBreak, CommitsBreak, fails}
-use Rattle.dfu_laws.proofs.board.Pieces.{piece_there}
-use Rattle.dfu_asks.proofs.Inside.{working_within}
+use Rattle.dfu_laws.specs.board.Refines.{IsBoardAtWork}
+use Rattle.dfu_laws.proofs.board.Broken.{BrokenBlockFailsCall, BrokenCommitFailsCall, fails}
+use Rattle.dfu_laws.proofs.board.Pieces.{series_has_next_piece}
+use Rattle.dfu_asks.proofs.Inside.{work_writes_within_flash}
 
 -- The clause `torn` of the law `pieces_are_the_writes`.
-abbrev pub PiecesTear : Type 0
-PiecesTear = (grain : Grain) (fault : WriteFault) (steps : List Step) (bytes now : List ℕ) (n : ℕ) (piece : Step)
-    → AreWithin (step_writes steps) (length bytes) → IsPiece steps n piece
-    → Torn (carried bytes (step_writes steps) n) piece.write.at piece.write.bytes now
-    → BrokenWrites fault (mapped grain bytes) (step_writes steps) (mapped grain now)
+abbrev pub TornPieceBreaksWrites : Type 0
+TornPieceBreaksWrites = (grain : Grain) (fault : WriteFault) (steps : List Step) (bytes now : List ℕ) (n : ℕ) (piece : Step)
+    → WritesWithin (step_writes steps) (length bytes) → IsStepPiece steps n piece
+    → Torn (bytes_after_writes bytes (step_writes steps) n) piece.write.at piece.write.bytes now
+    → BrokenWrites fault (mapped_medium grain bytes) (step_writes steps) (mapped_medium grain now)
 
 -- The law `steps_are_the_writes`.
 abbrev pub StepsAreWrites : Type 0
 StepsAreWrites = (job : SlotWrite) (grain : Grain) (end : ℕ) (held block : List ℕ)
     → step_writes (job_steps job grain end held block) ≡ job_writes job grain end held block
 
--- The laws of dfu_asks that the proof goes by.
+-- Laws of dfu_asks on which the proof stands.
 pub record WriteLaws : Type 0 where
-  pub tear : PiecesTear
+  pub tear : TornPieceBreaksWrites
   pub same : StepsAreWrites
-  pub blocks : BlocksBreak
-  pub commits : CommitsBreak
+  pub blocks : BrokenBlockFailsCall
+  pub commits : BrokenCommitFailsCall
 
--- Each of them gives its part.
-pub write_laws : PiecesTear → StepsAreWrites → BlocksBreak → CommitsBreak → WriteLaws
+-- The laws together.
+pub write_laws : TornPieceBreaksWrites → StepsAreWrites → BrokenBlockFailsCall → BrokenCommitFailsCall → WriteLaws
 write_laws tear same blocks commits = record { tear = tear; same = same; blocks = blocks; commits = commits }
 
--- Answer of a device in dfuERROR at the end of a row.
-record IsSaid (c : Setting) (m : DeviceState) (asked : Option ℕ) : Type 0 where
+-- Answer of a device at the end of a row.
+record HasRowEndAnswer (c : Setting) (m : DeviceState) (asked : Option ℕ) : Type 0 where
   answer : Answer
   out : List ℕ
-  says : IsAnswered c m asked answer out
+  says : IsRowEndAnswer c m asked answer out
 
-error_said : (c : Setting) (code : Code) (asked : Option ℕ) → IsSaid c (device_state.Error code) asked
-error_said c code None = record { answer = answer.Ack; out = []; says = (0, λ room spare block holds. (refl, refl)) }
-error_said c code (Some len) =
+error_has_row_end_answer : (c : Setting) (code : Code) (asked : Option ℕ) → HasRowEndAnswer c (device_state.Error code) asked
+error_has_row_end_answer c code None = record { answer = answer.Ack; out = []; says = (0, λ room spare block holds. (refl, refl)) }
+error_has_row_end_answer c code (Some len) =
     let bytes : List ℕ = code_byte code ∷ 0 ∷ 0 ∷ 0 ∷ 10 ∷ 0 ∷ [] in
     record {
       answer = answer.Bytes;
@@ -79,72 +79,74 @@ error_said c code (Some len) =
       );
     }
 
-fault_said : (c : Setting) (fault : WriteFault) (m : DeviceState) (asked : Option ℕ) → IsSaid c (failed_mode fault m) asked
-fault_said c fault m asked = by_test (is_block m)
+failed_mode_has_row_end_answer : (c : Setting) (fault : WriteFault) (m : DeviceState) (asked : Option ℕ) →
+    HasRowEndAnswer c (failed_mode fault m) asked
+failed_mode_has_row_end_answer c fault m asked = by_test (is_block m)
   where
-    by_test : (b : Bool) → IsSaid c (if b then device_state.Error (write_code fault) else device_state.Error (commit_code fault)) asked
-    by_test true = error_said c (write_code fault) asked
-    by_test false = error_said c (commit_code fault) asked
+    by_test : (b : Bool) → HasRowEndAnswer c (if b then device_state.Error (write_code fault) else device_state.Error (commit_code fault))
+        asked
+    by_test true = error_has_row_end_answer c (write_code fault) asked
+    by_test false = error_has_row_end_answer c (commit_code fault) asked
 
--- The row that is due in a device came to this, by a write that failed: the flash stays as it is.
-pub record IsCutOff (b : Board) (len : ℕ) (d : DeviceView) : Type 0 where
+-- The row that is due failed by a write, and leaves a device whose store is on the flash as it is.
+pub record IsRowCutOff (b : Board) (len : ℕ) (d : DeviceView) : Type 0 where
   pub answer : Answer
   pub out : List ℕ
   pub after : DeviceView
-  pub row : Fails Failed len d answer out after
+  pub row : DueRowFails Failed len d answer out after
   pub config : after.config ≡ b.asking.config
   pub slots : after.slots ≡ store_on (medium_on b)
   pub store : IsStore (store_on (medium_on b))
 
--- The next piece of the work, and the bytes in its range.
-pub record IsNextOf (b : Board) (cause : Cause) (d : DeviceView) (k : IsAtWork b cause d) : Type 0 where
+-- The next piece of the work, whose range may have any bytes.
+pub record HasNextPiece (b : Board) (cause : Cause) (d : DeviceView) (k : IsBoardAtWork b cause d) : Type 0 where
   pub piece : Step
-  pub is : IsPiece (steps_in (lent_on b) k.asks.work) k.asks.work.done piece
+  pub is : IsStepPiece (steps_in (lent_on b) k.asks.work) k.asks.work.done piece
   pub torn : Torn k.stood piece.write.at piece.write.bytes b.flash
 
 module _ (laws : WriteLaws) where
   -- The steps of the work are its writes.
-  pub steps_same : (b : Board) (w : PendingWrites) → step_writes (steps_in (lent_on b) w) ≡ writes_in (lent_on b) w
-  steps_same b w = laws.same w.job (grain_in (lent_on b)) (lent_on b).put_end (lent_on b).held (lent_on b).block
+  pub work_steps_are_writes : (b : Board) (w : PendingWrites) → step_writes (steps_in (lent_on b) w) ≡ writes_in (lent_on b) w
+  work_steps_are_writes b w = laws.same w.job (grain_in (lent_on b)) (lent_on b).put_end (lent_on b).held (lent_on b).block
 
   -- A board at work has a next piece.
-  pub next_of : (b : Board) (cause : Cause) (d : DeviceView) (k : IsAtWork b cause d) → IsNextOf b cause d k
-  next_of b cause d k =
+  pub board_at_work_has_next_piece : (b : Board) (cause : Cause) (d : DeviceView) (k : IsBoardAtWork b cause d) → HasNextPiece b cause d k
+  board_at_work_has_next_piece b cause d k =
       let w = k.asks.work in
-      let there = piece_there (steps_in (lent_on b) w) w.done
-      (subst (λ (ws : List Write). w.done < total ws) (sym (steps_same b w)) k.asks.left) in
+      let there = series_has_next_piece (steps_in (lent_on b) w) w.done
+      (subst (λ (ws : List Write). w.done < total ws) (sym (work_steps_are_writes b w)) k.asks.left) in
       record { piece = there.0; is = there.1; torn = k.torn there.0 there.1 }
 
-  broken_off : (b : Board) (cause : Cause) (d : DeviceView) (k : IsAtWork b cause d) (fault : WriteFault)
-      → BrokenWrites fault (mapped (grain_in (lent_on b)) k.was) (writes_in (lent_on b) k.asks.work) (medium_on b)
-  broken_off b cause d k fault =
+  work_writes_broken_off : (b : Board) (cause : Cause) (d : DeviceView) (k : IsBoardAtWork b cause d) (fault : WriteFault)
+      → BrokenWrites fault (mapped_medium (grain_in (lent_on b)) k.was) (writes_in (lent_on b) k.asks.work) (medium_on b)
+  work_writes_broken_off b cause d k fault =
       let a = lent_on b in
       let w = k.asks.work in
-      let same = steps_same b w in
-      let next = next_of b cause d k in
+      let same = work_steps_are_writes b w in
+      let next = board_at_work_has_next_piece b cause d k in
       let p = next.piece.write in
-      subst (λ (ws : List Write). BrokenWrites fault (mapped (grain_in a) k.was) ws (medium_on b)) same
+      subst (λ (ws : List Write). BrokenWrites fault (mapped_medium (grain_in a) k.was) ws (medium_on b)) same
       (laws.tear (grain_in a) fault (steps_in a w) k.was b.flash w.done next.piece
-      (subst (λ (ws : List Write). AreWithin ws (length k.was)) (sym same) (working_within a w k.len k.s k.was k.asks.working))
+      (subst (λ (ws : List Write). WritesWithin ws (length k.was)) (sym same) (work_writes_within_flash a w k.len k.s k.was k.asks.working))
       next.is
-      (subst (λ (ws : List Write). Torn (carried k.was ws w.done) p.at p.bytes b.flash) (sym same)
+      (subst (λ (ws : List Write). Torn (bytes_after_writes k.was ws w.done) p.at p.bytes b.flash) (sym same)
       (subst (λ (l : List ℕ). Torn l p.at p.bytes b.flash) k.asks.flash_is next.torn)))
 
-  -- With any bytes in the range of the piece that is due, the row was broken off by a write that failed.
-  pub cut_off : (b : Board) (cause : Cause) (d : DeviceView) (k : IsAtWork b cause d) → IsCutOff b k.len d
-  cut_off b cause d k =
+  -- Whatever bytes are in the range of the piece that is due, the row was broken off by a write that failed.
+  pub torn_piece_cuts_row_off : (b : Board) (cause : Cause) (d : DeviceView) (k : IsBoardAtWork b cause d) → IsRowCutOff b k.len d
+  torn_piece_cuts_row_off b cause d k =
       let a = lent_on b in
       let w = k.asks.work in
       let on = k.asks.working in
-      let said = fault_said a.config Failed a.mode w.asked in
-      let left : DeviceView = shows a.config (store_on (medium_on b)) (failed_mode Failed a.mode) a.block in
+      let said = failed_mode_has_row_end_answer a.config Failed a.mode w.asked in
+      let left : DeviceView = view_of_parts a.config (store_on (medium_on b)) (failed_mode Failed a.mode) a.block in
       let e = fails laws.blocks laws.commits a.config (grain_in a) a.block a.held a.put_end w.job k.s k.was b.flash on.medium on.store
-      Failed a.mode w.asked k.len on.sound on.due (broken_off b cause d k Failed) said.answer said.out said.says in
+      Failed a.mode w.asked k.len on.sound on.due (work_writes_broken_off b cause d k Failed) said.answer said.out said.says in
       record {
         answer = said.answer;
         out = said.out;
         after = left;
-        row = subst (λ (x : DeviceView). Fails Failed k.len x said.answer said.out left) k.device e.0;
+        row = subst (λ (x : DeviceView). DueRowFails Failed k.len x said.answer said.out left) k.device e.0;
         config = refl;
         slots = refl;
         store = e.1;

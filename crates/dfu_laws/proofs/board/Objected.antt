@@ -8,7 +8,7 @@ use Rattle.dfu_device.specs.Table.{objection_code, refuse_stage}
 use Rattle.dfu_asks.specs.Asks.{IsDevice}
 use Rattle.dfu_asks.specs.declared.reply.Refusal.{Refusal}
 use Rattle.dfu_laws.specs.board.Board.{Board, lent_on, device_on, RefuseClose, Refuse}
-use Rattle.dfu_laws.specs.board.Happens.{Happens}
+use Rattle.dfu_laws.specs.board.Happens.{EventOutcome}
 use Rattle.dfu_laws.specs.board.Steps.{reply_of_close, reply_of_reset}
 
 module _ (b b' : Board) (flash : b'.flash ≡ b.flash) where
@@ -17,7 +17,7 @@ module _ (b b' : Board) (flash : b'.flash ≡ b.flash) where
       → OnOk r ((b.asking.work ≡ None) × (b'.asking.work ≡ None)) → OnOk r (IsDevice (lent_on b) b.flash → IsDevice (lent_on b') b'.flash)
       → (IsDevice (lent_on b) b.flash → IfOk r (λ x. IsTrue x ↔ ClosesDownload setup (device_on b)))
       → IfOk r (λ x. IsTrue x → device_on b' ≡ record (device_on b) { stage = InError (objection_code why) })
-      → IfOk r (λ x. IsTrue (not x) → b' ≡ b) → OnErr r (b' ≡ b) → Happens b (RefuseClose setup why) (reply_of_close r) b'
+      → IfOk r (λ x. IsTrue (not x) → b' ≡ b) → OnErr r (b' ≡ b) → EventOutcome b (RefuseClose setup why) (reply_of_close r) b'
   close_step setup why (Ok true) work is closes row other bad = record {
     idle = work.0;
     flash = flash;
@@ -29,15 +29,16 @@ module _ (b b' : Board) (flash : b'.flash ≡ b.flash) where
   close_step setup why (Err e) work is closes row other bad = bad
 
   -- `refuse`.
-  pub refuse_step : (why : Objection) (r : Result (Unit {0}) Refusal) → OnOk r ((b.asking.work ≡ None) × (b'.asking.work ≡ None))
+  pub refuse_result_is_outcome : (why : Objection) (r : Result (Unit {0}) Refusal) → OnOk r ((b.asking.work ≡ None) × (b'.asking.work
+      ≡ None))
       → OnOk r (IsDevice (lent_on b) b.flash → IsDevice (lent_on b') b'.flash)
       → OnOk r (device_on b' ≡ record (device_on b) { stage = refuse_stage why (device_on b).stage }) → OnErr r (b' ≡ b)
-      → Happens b (Refuse why) (reply_of_reset r) b'
-  refuse_step why (Ok x) work is row bad = record {
+      → EventOutcome b (Refuse why) (reply_of_reset r) b'
+  refuse_result_is_outcome why (Ok x) work is row bad = record {
     idle = work.0;
     flash = flash;
     row = λ d. (is d, (refl, refl, row));
     work = work.1;
     says_is = refl;
   }
-  refuse_step why (Err e) work is row bad = bad
+  refuse_result_is_outcome why (Err e) work is row bad = bad

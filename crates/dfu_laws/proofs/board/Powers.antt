@@ -7,66 +7,71 @@ use Rattle.dfu_wire.specs.declared.requests.Request.TheVariants as request
 use Rattle.dfu_wire.specs.Setup.{IsSetup}
 use Rattle.dfu_wire.specs.Request.{SetupRequest as AsksFor}
 use Rattle.dfu_slots.specs.declared.fault.WriteFault.TheVariants.{Failed}
+use Rattle.dfu_slots.specs.Medium.{MediumState}
+use Rattle.dfu_slots.specs.Image.{HasImage}
 use Rattle.dfu_slots.specs.StoreView.{SlotsState, store_on, image_of}
 use Rattle.dfu_device.specs.declared.answer.Answer.TheVariants as answer
 use Rattle.dfu_device.specs.Stage.{InAppIdle, InAppDetach, state_of}
 use Rattle.dfu_device.specs.DeviceView.{DeviceView, profile, situation}
-use Rattle.dfu_device.specs.Rows.{Cause, Transfer, BusReset, PowerOn, handled_as}
+use Rattle.dfu_device.specs.Rows.{Cause, Transfer, BusReset, PowerOn, handled_by_reading}
 use Rattle.dfu_device.specs.History.{IsHistory, HistoryStep as TableRow}
-use Rattle.dfu_device.specs.AcceptedBytes.{accepted_in, accepted_of, held_in}
-use Rattle.dfu_asks.specs.Lent.{IsSetUpAs}
-use Rattle.dfu_asks.specs.Mapped.{grain_of, mapped}
-use Rattle.dfu_laws.specs.board.Board.{Board, medium_on, device_on, Restart, BoardReply}
+use Rattle.dfu_device.specs.AcceptedBytes.{accepted_in, accepted_of, accepted_in_state}
+use Rattle.dfu_asks.specs.Lent.{SameSetup}
+use Rattle.dfu_asks.specs.Due.{DueRowFails}
+use Rattle.dfu_asks.specs.Mapped.{grain_of, mapped_medium}
+use Rattle.dfu_laws.specs.board.Board.{Board, lent_on, medium_on, device_on, Restart, BoardReply}
 use Rattle.dfu_laws.specs.board.Happens.{start_stage, IsPoweredOn, BoardStarts}
-use Rattle.dfu_laws.specs.board.Refines.{IsStart, IsAtWork, IsIdle}
-use Rattle.dfu_laws.proofs.board.Cut.{WriteLaws, cut_off}
+use Rattle.dfu_laws.specs.board.Refines.{AreStartRows, IsBoardAtWork, IsIdleBoard}
+use Rattle.dfu_laws.proofs.board.Cut.{WriteLaws, torn_piece_cuts_row_off}
 use Rattle.dfu_laws.specs.board.Accepts.{IsPending}
-use Rattle.dfu_laws.proofs.board.Closing.{same_image}
-use Rattle.dfu_laws.proofs.board.Installs.{IsOver}
-use Rattle.dfu_laws.proofs.board.Due.{fails_lead}
-use Rattle.dfu_laws.proofs.board.Turns.{Turned, one_row}
+use Rattle.dfu_laws.proofs.board.Closing.{reopened_store_keeps_image}
+use Rattle.dfu_laws.proofs.board.Installs.{IsManifestationOver}
+use Rattle.dfu_laws.proofs.board.Due.{failing_due_row_outcome}
+use Rattle.dfu_laws.proofs.board.SlotCalls.{SlotImagesKeptOrActive, failing_row_keeps_slot_images}
+use Rattle.dfu_laws.proofs.board.Turns.{StepMakesRows, row_of_answer}
 
--- The device as which it comes back.
+-- The device of a board once power is back.
 
--- Power that comes back makes this of a device.
-abbrev powered : DeviceView → DeviceView
-powered w = record { config = w.config; slots = store_on w.slots.medium; stage = InAppIdle }
+-- The device after a loss of power, in appIDLE on the same medium.
+abbrev device_after_power_loss : DeviceView → DeviceView
+device_after_power_loss w = record { config = w.config; slots = store_on w.slots.medium; stage = InAppIdle }
 
--- And this, if it begins or not.
-abbrev started : DeviceView → Bool → DeviceView
-started w begins = record (powered w) { stage = start_stage begins }
+-- The device after a loss of power, in the stage in which it starts.
+abbrev device_after_start : DeviceView → Bool → DeviceView
+device_after_start w begins = record (device_after_power_loss w) { stage = start_stage begins }
 
-start_there : (b b' : Board) (w : DeviceView) → w.config ≡ b.asking.config → w.slots.medium ≡ medium_on b → IsSetUpAs b.asking b'.asking
-    → b'.flash ≡ b.flash → (begins : Bool) → BoardStarts begins b' → device_on b' ≡ started w begins
-start_there b b' w config medium same flash begins (on, is) =
-    let again : medium_on b' ≡ w.slots.medium = (λ i. mapped (grain_of (same.unit i) (same.sector i)) (flash i)) ∙ sym medium in
+started_board_device : (b b' : Board) (w : DeviceView) → w.config ≡ b.asking.config → w.slots.medium ≡ medium_on b →
+    SameSetup b.asking b'.asking
+    → b'.flash ≡ b.flash → (begins : Bool) → BoardStarts begins b' → device_on b' ≡ device_after_start w begins
+started_board_device b b' w config medium same flash begins (on, is) =
+    let again : medium_on b' ≡ w.slots.medium = (λ i. mapped_medium (grain_of (same.unit i) (same.sector i)) (flash i)) ∙ sym medium in
     let set : b'.asking.config ≡ w.config = same.config ∙ sym config in
     on.device ∙ (λ i. record { config = set i; slots = store_on (again i); stage = start_stage (is i) })
 
--- Its rows.
+-- The rows of the device table for power and a DETACH.
 
--- The bytes of a DETACH, and the setup that they are.
-abbrev detach : List ℕ
-detach = 0x21 ∷ 0 ∷ 0 ∷ 0 ∷ 0 ∷ 0 ∷ 0 ∷ 0 ∷ []
+-- The eight bytes of a DETACH.
+abbrev detach_bytes : List ℕ
+detach_bytes = 0x21 ∷ 0 ∷ 0 ∷ 0 ∷ 0 ∷ 0 ∷ 0 ∷ 0 ∷ []
 
-abbrev detach_read : Setup
-detach_read = record { kind = 0x21; request = 0; value = 0; index = 0; length = 0 }
+abbrev detach_setup : Setup
+detach_setup = record { kind = 0x21; request = 0; value = 0; index = 0; length = 0 }
 
-detach_fields : IsSetup detach_read detach
-detach_fields = record { length = refl; kind = refl; request = refl; value = refl; index = refl; size = refl }
+detach_setup_has_its_bytes : IsSetup detach_setup detach_bytes
+detach_setup_has_its_bytes = record { length = refl; kind = refl; request = refl; value = refl; index = refl; size = refl }
 
-detach_asks : AsksFor detach_read (request.Detach 0)
-detach_asks = (record { kind = refl; request = refl; index = refl }, refl, refl)
+detach_setup_asks_detach : AsksFor detach_setup (request.Detach 0)
+detach_setup_asks_detach = (record { kind = refl; request = refl; index = refl }, refl, refl)
 
--- The rows of power that comes back to a device.
+-- The rows that a device makes as power comes back.
 record PowerRows (w : DeviceView) (begins : Bool) (w' : DeviceView) : Type 0 where
   rows : List TableRow
   history : IsHistory w rows w'
-  start : IsStart begins rows
+  start : AreStartRows begins rows
 
-power_rows : (w w' : DeviceView) (begins : Bool) → w' ≡ started w begins → PowerRows w begins w'
+power_rows : (w w' : DeviceView) (begins : Bool) → w' ≡ device_after_start w begins → PowerRows w begins w'
 power_rows w w' false e = record {
-  rows = one_row w PowerOn answer.Ack [] w';
+  rows = row_of_answer w PowerOn answer.Ack [] w';
   history = (refl, (refl, refl, e), refl);
   start = record {
     row = record { before = w; cause = PowerOn; answer = answer.Ack; out = []; after = w' };
@@ -77,10 +82,10 @@ power_rows w w' false e = record {
   };
 }
 power_rows w w' true e =
-    let up : DeviceView = powered w in
+    let up : DeviceView = device_after_power_loss w in
     let left : DeviceView = record up { stage = InAppDetach (min (profile up).detach_ms 0) 0 } in
     let first : TableRow = record { before = w; cause = PowerOn; answer = answer.Ack; out = []; after = up } in
-    let second : TableRow = record { before = up; cause = Transfer detach []; answer = answer.Ack; out = []; after = left } in
+    let second : TableRow = record { before = up; cause = Transfer detach_bytes []; answer = answer.Ack; out = []; after = left } in
     let third : TableRow = record { before = left; cause = BusReset; answer = answer.Ack; out = []; after = w' } in
     record {
       rows = first ∷ second ∷ third ∷ [];
@@ -89,7 +94,7 @@ power_rows w w' true e =
         (refl, refl, refl),
         (
           refl,
-          handled_as detach_read (request.Detach 0) detach_fields detach_asks ((refl, refl), refl),
+          handled_by_reading detach_setup (request.Detach 0) detach_setup_has_its_bytes detach_setup_asks_detach ((refl, refl), refl),
           (refl, (refl, refl, e), refl),
         ),
       );
@@ -100,53 +105,55 @@ power_rows w w' true e =
         rows_are = refl;
         power_is = refl;
         detach_is = record {
-          setup = detach;
+          setup = detach_bytes;
           cause_is = refl;
-          read = detach_read;
-          fields = detach_fields;
+          read = detach_setup;
+          fields = detach_setup_has_its_bytes;
           timeout = 0;
-          asks = detach_asks;
+          asks = detach_setup_asks_detach;
         };
         reset_is = refl;
       };
     }
 
--- Facts of the powered board.
+-- Facts of a board that was just powered on.
 
--- A board that got power stands for a device.
-pub on_idle : (b : Board) → IsPoweredOn b → IsIdle b (device_on b)
-on_idle b on = record { work = on.work; is = on.is; device = refl }
+-- A board that was just powered on has no writes due, and represents a device.
+pub powered_board_is_idle : (b : Board) → IsPoweredOn b → IsIdleBoard b (device_on b)
+powered_board_is_idle b on = record { work = on.work; is = on.is; device = refl }
 
--- Nothing is taken in it.
-pub start_takes : (begins : Bool) (image : List ℕ) → accepted_in image (start_stage begins) ≡ []
-start_takes true image = refl
-start_takes false image = refl
+-- The device that starts has accepted no bytes of a download.
+pub nothing_taken_at_start : (begins : Bool) (image : List ℕ) → accepted_in image (start_stage begins) ≡ []
+nothing_taken_at_start true image = refl
+nothing_taken_at_start false image = refl
 
-start_drops : (begins : Bool) (image t : List ℕ) → accepted_in image (start_stage begins) ≡ held_in (state_of (start_stage begins)) t
-start_drops true image t = refl
-start_drops false image t = refl
+start_drops_taken_bytes : (begins : Bool) (image t : List ℕ) → accepted_in image (start_stage begins) ≡ accepted_in_state
+    (state_of (start_stage begins)) t
+start_drops_taken_bytes true image t = refl
+start_drops_taken_bytes false image t = refl
 
-start_waits : (begins : Bool) (t : List ℕ) → IsPending (start_stage begins) t → ⊥
-start_waits true t m = m
-start_waits false t m = m
+nothing_pending_at_start : (begins : Bool) (t : List ℕ) → IsPending (start_stage begins) t → ⊥
+nothing_pending_at_start true t m = m
+nothing_pending_at_start false t m = m
 
-start_over : (begins : Bool) → Restart begins ≢ Restart true → IsOver (start_stage begins) → ⊥
-start_over true other over = other refl
-start_over false other over = false≢true over
+start_is_not_over : (begins : Bool) → Restart begins ≢ Restart true → IsManifestationOver (start_stage begins) → ⊥
+start_is_not_over true other over = other refl
+start_is_not_over false other over = false≢true over
 
--- Nothing waits in a board that just got power.
-pub none_waits : (b : Board) (t : List ℕ) → IsPoweredOn b → IsPending (device_on b).stage t → ⊥
-none_waits b t on m = start_waits on.begins t (subst (λ (x : DeviceView). IsPending x.stage t) on.device m)
+-- No image waits to be put in place on a board that was just powered on.
+pub nothing_waits_at_power : (b : Board) (t : List ℕ) → IsPoweredOn b → IsPending (device_on b).stage t → ⊥
+nothing_waits_at_power b t on m = nothing_pending_at_start on.begins t (subst (λ (x : DeviceView). IsPending x.stage t) on.device m)
 
--- Power leaves the image.
-image_left : (w w' : DeviceView) (begins : Bool) → w' ≡ started w begins → image_of w'.slots ≡ image_of w.slots
-image_left w w' begins e = ap (λ (x : DeviceView). image_of x.slots) e ∙ same_image w.slots
+-- A loss of power leaves the active image as it was.
+power_loss_keeps_image : (w w' : DeviceView) (begins : Bool) → w' ≡ device_after_start w begins → image_of w'.slots ≡ image_of w.slots
+power_loss_keeps_image w w' begins e = ap (λ (x : DeviceView). image_of x.slots) e ∙ reopened_store_keeps_image w.slots
 
--- Of a board with nothing due.
-pub restarts : (b b' : Board) (d : DeviceView) (begins : Bool) (says : BoardReply) → IsIdle b d → IsSetUpAs b.asking b'.asking
-    → b'.flash ≡ b.flash → BoardStarts begins b' → Turned b' None d (Restart begins) says
-restarts b b' d begins says k same flash on =
-    let there = start_there b b' d (ap (λ (x : DeviceView). x.config) (sym k.device))
+-- A restart of a board with no writes due.
+pub idle_restart_makes_rows : (b b' : Board) (d : DeviceView) (begins : Bool) (says : BoardReply) → IsIdleBoard b d →
+    SameSetup b.asking b'.asking
+    → b'.flash ≡ b.flash → BoardStarts begins b' → StepMakesRows b' None d (Restart begins) says
+idle_restart_makes_rows b b' d begins says k same flash on =
+    let there = started_board_device b b' d (ap (λ (x : DeviceView). x.config) (sym k.device))
     (ap (λ (x : DeviceView). x.slots.medium) (sym k.device))
     same flash begins on in
     let r = power_rows d (device_on b') begins there in
@@ -156,38 +163,54 @@ restarts b b' d begins says k same flash on =
       device = device_on b';
       history = r.history;
       tells = (r.start, refl);
-      stands = on_idle b' on.0;
-      taken = subst (λ (x : DeviceView). accepted_of (situation x) ≡ held_in (state_of x.stage) (accepted_of (situation d) ++ [])) (sym there)
-          (start_drops begins (image_of (powered d).slots) (accepted_of (situation d) ++ []));
-      waits = λ t m. absurd (none_waits b' t on.0 m);
-      image = inl (image_left d (device_on b') begins there);
-      puts = λ other manifests over. absurd (start_over begins other (subst (λ (x : DeviceView). IsOver x.stage) there over));
+      stands = powered_board_is_idle b' on.0;
+      taken =
+          subst (λ (x : DeviceView). accepted_of (situation x) ≡ accepted_in_state (state_of x.stage) (accepted_of (situation d) ++ []))
+          (sym there)
+          (start_drops_taken_bytes begins (image_of (device_after_power_loss d).slots) (accepted_of (situation d) ++ []));
+      waits = λ t m. absurd (nothing_waits_at_power b' t on.0 m);
+      image = inl (power_loss_keeps_image d (device_on b') begins there);
+      puts = λ other manifests over. absurd (start_is_not_over begins other (subst (λ (x : DeviceView). IsManifestationOver x.stage) there
+          over));
+      slots = inl (ap (λ (x : DeviceView). x.slots.medium) there);
     }
 
--- Of one at work.
-pub cuts : (laws : WriteLaws) (b b' : Board) (cause : Cause) (d : DeviceView) (begins : Bool) (says : BoardReply) → IsAtWork b cause d
-    → IsSetUpAs b.asking b'.asking → b'.flash ≡ b.flash → BoardStarts begins b' → Turned b' (Some cause) d (Restart begins) says
-cuts laws b b' cause d begins says k same flash on =
-    let c = cut_off laws b cause d k in
-    let there = start_there b b' c.after c.config (ap (λ (s : SlotsState). s.medium) c.slots) same flash begins on in
+-- A restart of a board while its writes are due.
+pub restart_cuts_due_row : (laws : WriteLaws) (b b' : Board) (cause : Cause) (d : DeviceView) (begins : Bool) (says : BoardReply) →
+    IsBoardAtWork b cause d
+    → SameSetup b.asking b'.asking → b'.flash ≡ b.flash → BoardStarts begins b' → StepMakesRows b' (Some cause) d (Restart begins) says
+restart_cuts_due_row laws b b' cause d begins says k same flash on =
+    let c = torn_piece_cuts_row_off laws b cause d k in
+    let there = started_board_device b b' c.after c.config (ap (λ (s : SlotsState). s.medium) c.slots) same flash begins on in
     let r = power_rows c.after (device_on b') begins there in
     let first : TableRow = record { before = d; cause = cause; answer = c.answer; out = c.out; after = c.after } in
-    let due = fails_lead d c.after k.len c.answer c.out Failed c.row in
+    let due = failing_due_row_outcome d c.after k.len c.answer c.out Failed c.row in
     record {
       rows = first ∷ r.rows;
       due' = None;
       device = device_on b';
       history = (refl, k.row.fails Failed c.answer c.out c.after c.row, r.history);
       tells = (record { row = first; rest = r.rows; rows_are = refl; cause_is = refl; start = r.start }, refl);
-      stands = on_idle b' on.0;
-      taken = subst (λ (x : DeviceView). accepted_of (situation x) ≡ held_in (state_of x.stage) (accepted_of (situation d) ++ [])) (sym there)
-          (start_drops begins (image_of (powered c.after).slots) (accepted_of (situation d) ++ []));
-      waits = λ t m. absurd (none_waits b' t on.0 m);
+      stands = powered_board_is_idle b' on.0;
+      taken =
+          subst (λ (x : DeviceView). accepted_of (situation x) ≡ accepted_in_state (state_of x.stage) (accepted_of (situation d) ++ []))
+          (sym there)
+          (start_drops_taken_bytes begins (image_of (device_after_power_loss c.after).slots) (accepted_of (situation d) ++ []));
+      waits = λ t m. absurd (nothing_waits_at_power b' t on.0 m);
       image =
-          let left = image_left c.after (device_on b') begins there in
+          let left = power_loss_keeps_image c.after (device_on b') begins there in
           elim (due.image) [
             | inl old ↦ inl (left ∙ old)
             | inr new ↦ inr (subst (λ (t : List ℕ). IsPending d.stage t) (sym left) new)
           ];
-      puts = λ other manifests over. absurd (start_over begins other (subst (λ (x : DeviceView). IsOver x.stage) there over));
+      puts = λ other manifests over. absurd (start_is_not_over begins other (subst (λ (x : DeviceView). IsManifestationOver x.stage) there
+          over));
+      slots = inr (
+        refl,
+        subst (λ (x : MediumState). SlotImagesKeptOrActive d.slots.medium x) (sym (ap (λ (x : DeviceView). x.slots.medium) there))
+            (subst (λ (z : DeviceView). SlotImagesKeptOrActive z.slots.medium c.after.slots.medium) k.device
+            (failing_row_keeps_slot_images (lent_on b) k.asks.work k.len k.s k.was k.asks.working c.answer c.out c.after
+            (subst (λ (x : SlotsState). HasImage x.medium) (sym c.slots) c.store.has_image) Failed
+            (subst (λ (z : DeviceView). DueRowFails Failed k.len z c.answer c.out c.after) (sym k.device) c.row))),
+      );
     }

@@ -10,46 +10,51 @@ use Rattle.dfu_device.specs.declared.device_state.DeviceState.{DeviceState}
 use Rattle.dfu_device.specs.declared.device_state.DeviceState.TheVariants as device_state
 use Rattle.dfu_device.specs.Rows.{Cause}
 use Rattle.dfu_device.specs.History.{IsHistory, HistoryStep as TableRow}
-use Rattle.dfu_device.specs.AcceptedBytes.{accepted_of, held_in}
+use Rattle.dfu_device.specs.AcceptedBytes.{accepted_of, accepted_in_state}
 use Rattle.dfu_device.specs.AcceptedHistory.{RowAcceptsBody}
 use Rattle.dfu_laws.specs.board.Board.{Board, state_on, BoardStep}
 use Rattle.dfu_laws.specs.board.Happens.{IsRun}
-use Rattle.dfu_laws.specs.board.ImageSurvival.{acknowledged_body, accepted_by, IsClosed}
+use Rattle.dfu_laws.specs.board.ImageSurvival.{acknowledged_body, accepted_bytes_of, DownloadOfImageClosed}
 use Rattle.dfu_laws.specs.board.Refines.{StepRows, RepresentsDevice}
 use Rattle.dfu_laws.proofs.board.Cut.{WriteLaws}
 use Rattle.dfu_laws.specs.board.Accepts.{IsPending}
-use Rattle.dfu_laws.proofs.board.Turns.{Turned}
-use Rattle.dfu_laws.proofs.board.Each.{turn}
+use Rattle.dfu_laws.proofs.board.Turns.{StepMakesRows}
+use Rattle.dfu_laws.proofs.board.Each.{board_step_makes_rows}
 
--- The state.
+-- The state of a board.
 
-mode_state : (m : DeviceState) (xs ys xs' ys' : List ℕ) → state_of (stage_of m xs ys) ≡ state_of (stage_of m xs' ys')
-mode_state m xs ys xs' ys' = by_mode m
+state_of_mode_alone : (m : DeviceState) (xs ys xs' ys' : List ℕ) → state_of (stage_of m xs ys) ≡ state_of (stage_of m xs' ys')
+state_of_mode_alone m xs ys xs' ys' = by_mode m
   where
     by_mode : (m : DeviceState) → state_of (stage_of m xs ys) ≡ state_of (stage_of m xs' ys')
     by_mode device_state.AppIdle = refl
     by_mode m = refl
 
 -- A board is in the state of the device that it stands for.
-pub state_stands : (b : Board) (due : Option Cause) (d : DeviceView) → RepresentsDevice b due d → state_on b ≡ state_of d.stage
-state_stands b None d k = mode_state b.asking.mode [] [] _ _ ∙ ap (λ (x : DeviceView). state_of x.stage) k.device
-state_stands b (Some cause) d k = mode_state b.asking.mode [] [] _ _ ∙ ap (λ (x : DeviceView). state_of x.stage) k.device
+pub board_state_is_device_state : (b : Board) (due : Option Cause) (d : DeviceView) → RepresentsDevice b due d → state_on b
+    ≡ state_of d.stage
+board_state_is_device_state b None d k = state_of_mode_alone b.asking.mode [] [] _ _ ∙ ap (λ (x : DeviceView). state_of x.stage) k.device
+board_state_is_device_state b (Some cause) d k = state_of_mode_alone b.asking.mode [] [] _ _
+    ∙ ap (λ (x : DeviceView). state_of x.stage) k.device
 
--- What is kept.
+-- Facts that each step keeps.
 
--- Behind these old steps, the bytes that a device has taken are those of the steps, those that wait were closed by one, and so were those
--- of the image, or it is this one.
-pub record KeptAt (image : List ℕ) (old steps : List BoardStep) (d : DeviceView) : Type 0 where
-  pub taken : accepted_by [] (old ++ steps) ≡ accepted_of (situation d)
-  pub waits : (t : List ℕ) → IsPending d.stage t → IsClosed old steps t
-  pub whence : (image_of d.slots ≡ image) ⊎ IsClosed old steps (image_of d.slots)
+-- The bytes that a device has taken are those of the old steps and the steps. An image that waits was closed by one of the steps. The
+-- active image is the one given, or was closed by one of the steps.
+pub record DeviceBytesFromSteps (image : List ℕ) (old steps : List BoardStep) (d : DeviceView) : Type 0 where
+  pub taken : accepted_bytes_of [] (old ++ steps) ≡ accepted_of (situation d)
+  pub waits : (t : List ℕ) → IsPending d.stage t → DownloadOfImageClosed old steps t
+  pub whence : (image_of d.slots ≡ image) ⊎ DownloadOfImageClosed old steps (image_of d.slots)
 
-taken_append : (t : List ℕ) (xs ys : List BoardStep) → accepted_by t (xs ++ ys) ≡ accepted_by (accepted_by t xs) ys
-taken_append t [] ys = refl
-taken_append t (x ∷ xs) ys = taken_append (held_in (state_on x.after) (t ++ acknowledged_body x.event x.says)) xs ys
+accepted_bytes_append : (t : List ℕ) (xs ys : List BoardStep) → accepted_bytes_of t (xs ++ ys)
+    ≡ accepted_bytes_of (accepted_bytes_of t xs) ys
+accepted_bytes_append t [] ys = refl
+accepted_bytes_append t (x ∷ xs) ys = accepted_bytes_append (accepted_in_state (state_on x.after) (t
+    ++ acknowledged_body x.event x.says)) xs ys
 
-longer : (old steps : List BoardStep) (s : BoardStep) (t : List ℕ) → IsClosed old steps t → IsClosed old (steps ++ s ∷ []) t
-longer old steps s t c = record {
+closed_download_stays_closed : (old steps : List BoardStep) (s : BoardStep) (t : List ℕ) → DownloadOfImageClosed old steps t
+    → DownloadOfImageClosed old (steps ++ s ∷ []) t
+closed_download_stays_closed old steps s t c = record {
   first = c.first;
   close = c.close;
   rest = c.rest ++ s ∷ [];
@@ -58,18 +63,19 @@ longer old steps s t c = record {
   image_is = c.image_is;
 }
 
--- Each step keeps them.
-pub kept_step : (image : List ℕ) (old steps : List BoardStep) (s : BoardStep) (due : Option Cause) (d : DeviceView)
-    → KeptAt image old steps d
-    → (x : Turned s.after due d s.event s.says) → KeptAt image old (steps ++ s ∷ []) x.device
-kept_step image old steps s due d k x =
+-- Each step keeps the facts of `DeviceBytesFromSteps`.
+pub step_keeps_device_bytes : (image : List ℕ) (old steps : List BoardStep) (s : BoardStep) (due : Option Cause) (d : DeviceView)
+    → DeviceBytesFromSteps image old steps d
+    → (x : StepMakesRows s.after due d s.event s.says) → DeviceBytesFromSteps image old (steps ++ s ∷ []) x.device
+step_keeps_device_bytes image old steps s due d k x =
     record {
-      taken = ap (λ (l : List BoardStep). accepted_by [] l) (sym (append_assoc old steps (s ∷ [])))
-          ∙ taken_append [] (old ++ steps) (s ∷ [])
-          ∙ (λ i. held_in (state_stands s.after x.due' x.device x.stands i) (k.taken i ++ acknowledged_body s.event s.says))
+      taken = ap (λ (l : List BoardStep). accepted_bytes_of [] l) (sym (append_assoc old steps (s ∷ [])))
+          ∙ accepted_bytes_append [] (old ++ steps) (s ∷ [])
+          ∙ (λ i. accepted_in_state (board_state_is_device_state s.after x.due' x.device x.stands i) (k.taken i
+          ++ acknowledged_body s.event s.says))
           ∙ sym x.taken;
       waits = λ t m. elim (x.waits t m) [
-        | inl before ↦ longer old steps s t (k.waits t before)
+        | inl before ↦ closed_download_stays_closed old steps s t (k.waits t before)
         | inr closed ↦
             let c = closed.0 in
             record {
@@ -84,21 +90,21 @@ kept_step image old steps s due d k x =
       whence = elim (x.image) [
         | inl same ↦ elim (k.whence) [
           | inl here ↦ inl (same ∙ here)
-          | inr closed ↦ inr (subst (λ (t : List ℕ). IsClosed old (steps ++ s ∷ []) t) (sym same)
-              (longer old steps s (image_of d.slots) closed))
+          | inr closed ↦ inr (subst (λ (t : List ℕ). DownloadOfImageClosed old (steps ++ s ∷ []) t) (sym same)
+              (closed_download_stays_closed old steps s (image_of d.slots) closed))
         ]
-        | inr waited ↦ inr (longer old steps s (image_of x.device.slots) (k.waits (image_of x.device.slots) waited))
+        | inr waited ↦ inr (closed_download_stays_closed old steps s (image_of x.device.slots) (k.waits (image_of x.device.slots) waited))
       ];
     }
 
--- Runs.
+-- Runs of a board.
 
 history_append : (w mid w' : DeviceView) (xs ys : List TableRow) → IsHistory w xs mid → IsHistory mid ys w' → IsHistory w (xs ++ ys) w'
 history_append w mid w' [] ys h more = subst (λ (x : DeviceView). IsHistory x ys w') h more
 history_append w mid w' (x ∷ xs) ys h more = (h.0, h.1, history_append x.after mid w' xs ys h.2 more)
 
--- Result of a run, after these steps, if this is kept of the steps and the device.
-pub record RanOn (Kept : List BoardStep → DeviceView → Type 0) (steps rest : List BoardStep) (b' : Board) (due : Option Cause)
+-- Result of the rest of a run after the steps, if each step keeps the fact `Kept` of all steps and of the device.
+pub record RunOutcome (Kept : List BoardStep → DeviceView → Type 0) (steps rest : List BoardStep) (b' : Board) (due : Option Cause)
     (d : DeviceView)
     : Type 0 where
   pub rows : List TableRow
@@ -109,16 +115,17 @@ pub record RanOn (Kept : List BoardStep → DeviceView → Type 0) (steps rest :
   pub stands : RepresentsDevice b' due' device
   pub kept : Kept (steps ++ rest) device
 
--- Each step keeps this.
-abbrev pub KeptOn : (List BoardStep → DeviceView → Type 0) → Type 0
-KeptOn Kept = (steps : List BoardStep) (s : BoardStep) (due : Option Cause) (d : DeviceView) → Kept steps d
-    → (x : Turned s.after due d s.event s.says) → Kept (steps ++ s ∷ []) x.device
+-- Each step keeps the fact `Kept`.
+abbrev pub EachStepKeeps : (List BoardStep → DeviceView → Type 0) → Type 0
+EachStepKeeps Kept = (steps : List BoardStep) (s : BoardStep) (due : Option Cause) (d : DeviceView) → Kept steps d
+    → (x : StepMakesRows s.after due d s.event s.says) → Kept (steps ++ s ∷ []) x.device
 
-module _ (laws : WriteLaws) (takes : RowAcceptsBody) (Kept : List BoardStep → DeviceView → Type 0) (keeps : KeptOn Kept) where
-  -- A run makes rows of the device that the board stands for, and what each step keeps is kept.
-  pub run_on : (steps rest : List BoardStep) (b b' : Board) (due : Option Cause) (d : DeviceView) → RepresentsDevice b due d
-      → Kept steps d → IsRun b rest b' → RanOn Kept steps rest b' due d
-  run_on steps [] b b' due d k kept run = record {
+module _ (laws : WriteLaws) (takes : RowAcceptsBody) (Kept : List BoardStep → DeviceView → Type 0) (keeps : EachStepKeeps Kept) where
+  -- A run makes rows of the device for which the board stands, and keeps each fact that each step keeps.
+  pub run_keeps_and_makes_rows : (steps rest : List BoardStep) (b b' : Board) (due : Option Cause) (d : DeviceView) →
+      RepresentsDevice b due d
+      → Kept steps d → IsRun b rest b' → RunOutcome Kept steps rest b' due d
+  run_keeps_and_makes_rows steps [] b b' due d k kept run = record {
     rows = [];
     due' = due;
     device = d;
@@ -127,9 +134,9 @@ module _ (laws : WriteLaws) (takes : RowAcceptsBody) (Kept : List BoardStep → 
     stands = subst (λ (x : Board). RepresentsDevice x due d) (sym run) k;
     kept = subst (λ (l : List BoardStep). Kept l d) (sym (append-nil steps)) kept;
   }
-  run_on steps (s ∷ rest) b b' due d k kept run =
-      let x = turn laws takes b s.after due d s.event s.says k run.1 run.2 in
-      let y = run_on (steps ++ s ∷ []) rest s.after b' x.due' x.device x.stands (keeps steps s due d kept x) run.3 in
+  run_keeps_and_makes_rows steps (s ∷ rest) b b' due d k kept run =
+      let x = board_step_makes_rows laws takes b s.after due d s.event s.says k run.1 run.2 in
+      let y = run_keeps_and_makes_rows (steps ++ s ∷ []) rest s.after b' x.due' x.device x.stands (keeps steps s due d kept x) run.3 in
       record {
         rows = x.rows ++ y.rows;
         due' = y.due';

@@ -1,4 +1,4 @@
--- The clauses of a call say the step of a board.
+-- Clauses of a call of a device, as the step of a board.
 use Rattle.std.specs.Prelude.{◌≡◌, ℕ, Bool, false, List, [], length, take, Result, Ok, Err, Option, Some, None, IfOk, IfSome, IfNone, IsSome, OnOk, OnErr}
 use Rattle.std.proofs.Common.{refl, sym, ap, ◌∙◌}
 use Rattle.dfu_slots.specs.Medium.{Torn}
@@ -14,75 +14,78 @@ use Rattle.dfu_asks.specs.declared.reply.Refusal.{Refusal}
 use Rattle.dfu_asks.specs.declared.reply.Reply.{Reply}
 use Rattle.dfu_asks.specs.declared.reply.Reply.TheVariants as reply
 use Rattle.dfu_asks.specs.declared.sector.Sector.{Sector}
-use Rattle.dfu_asks.specs.Mapped.{grain_of, mapped}
+use Rattle.dfu_asks.specs.Mapped.{grain_of, mapped_medium}
 use Rattle.dfu_asks.specs.Steps.{Step}
-use Rattle.dfu_asks.specs.Carried.{IsPiece}
+use Rattle.dfu_asks.specs.Carried.{IsStepPiece}
 use Rattle.dfu_asks.specs.Asks.{device_in, device_of, IsDevice, steps_in}
-use Rattle.dfu_asks.specs.Calls.{WritesPending, DeviceCalled, called_ended, called_asks, DevicePieceReported}
-use Rattle.dfu_asks.specs.Refused.{IsDeviceOn, RoomForBlocks, HasRemainingWrites, IsServed, ReportAccepted}
+use Rattle.dfu_asks.specs.Calls.{WritesPending, DeviceCalled, call_answered, call_asks, DevicePieceReported}
+use Rattle.dfu_asks.specs.Refused.{IsDeviceOn, RoomForBlocks, HasRemainingWrites, IsServedCall, ReportAccepted}
 use Rattle.dfu_asks.specs.Lent.{lent}
-use Rattle.dfu_asks.proofs.Unseen.{of_mapped}
+use Rattle.dfu_asks.proofs.Unseen.{unseen_of_mapped}
 use Rattle.dfu_laws.specs.board.Board.{Board, lent_on, BoardReply, Answers}
 use Rattle.dfu_laws.specs.board.Happens.{IsServedBy, TookResult, BoardStarts, IsRefusedOr, reply_of_call}
-use Rattle.dfu_laws.specs.board.Steps.{board, reply_of_result}
+use Rattle.dfu_laws.specs.board.Steps.{board_of_parts, reply_of_result}
 
--- A consequence in one case of a refusal follows in each.
-pub on_err : {T E P Q : Type 0} (r : Result T E) → (P → Q) → OnErr r P → OnErr r Q
-on_err (Ok x) follows p = tt
-on_err (Err e) follows p = follows p
+-- If P gives Q, a result that gives P in case of an error gives Q.
+pub weaken_on_error : {T E P Q : Type 0} (r : Result T E) → (P → Q) → OnErr r P → OnErr r Q
+weaken_on_error (Ok x) follows p = tt
+weaken_on_error (Err e) follows p = follows p
 
--- A reply always says something, so what holds of a board after a call that is not refused holds after a reply.
-by_reply : (b b' : Board) (out : List ℕ) (P : Type 0) (r : Reply) → P → IsRefusedOr (reply_of_call r out) b b' P
-by_reply b b' out P reply.Asks is = is
-by_reply b b' out P (reply.Answered x count) is = is
+-- A reply is no refusal, so what holds after a call that is not refused holds after a reply.
+holds_after_any_reply : (b b' : Board) (out : List ℕ) (P : Type 0) (r : Reply) → P → IsRefusedOr (reply_of_call r out) b b' P
+holds_after_any_reply b b' out P reply.Asks is = is
+holds_after_any_reply b b' out P (reply.Answered x count) is = is
 
--- A board serves a call by this outcome, which says what the board says.
-by_outcome : (b b' : Board) (cause : Cause) (said : BoardReply) (r : Reply) → b.asking.work ≡ None → RoomForBlocks b.asking (length b.block)
+-- A board serves a call by the outcome of its reply.
+served_by_call_outcome : (b b' : Board) (cause : Cause) (said : BoardReply) (r : Reply) → b.asking.work ≡ None →
+    RoomForBlocks b.asking (length b.block)
     → b'.flash ≡ b.flash
     → (IsDeviceOn b.asking b.block b.held b.flash → (out out' : List ℕ)
     × DeviceCalled (lent_on b) b.flash out (λ d x sent d'. Row d cause x sent d') (lent_on b') out' r
     × (said ≡ reply_of_call r out'))
     → IsServedBy b cause said b'
-by_outcome b b' cause said r idle fits flash outcome =
+served_by_call_outcome b b' cause said r idle fits flash outcome =
     record { idle = idle; fits = fits; flash = flash; reply = r; outcome = outcome }
 
 -- A reply to a setup is what a board does that serves it.
-pub served_step : (b b' : Board) (cause : Cause) (out out' : List ℕ) (r : Reply) → b.asking.work ≡ None → RoomForBlocks b.asking (length b.block)
+pub reply_to_setup_is_served : (b b' : Board) (cause : Cause) (out out' : List ℕ) (r : Reply) → b.asking.work ≡ None →
+    RoomForBlocks b.asking (length b.block)
     → b'.flash ≡ b.flash
     → (IsDeviceOn b.asking b.block b.held b.flash
     → DeviceCalled (lent_on b) b.flash out (λ d x sent d'. Row d cause x sent d') (lent_on b') out' r)
     → IsRefusedOr (reply_of_call r out') b b' (IsServedBy b cause (reply_of_call r out') b')
-served_step b b' cause out out' r idle fits flash outcome =
-    by_reply b b' out' (IsServedBy b cause (reply_of_call r out') b') r
-    (by_outcome b b' cause (reply_of_call r out') r idle fits flash (λ kept. (out, out', outcome kept, refl)))
+reply_to_setup_is_served b b' cause out out' r idle fits flash outcome =
+    holds_after_any_reply b b' out' (IsServedBy b cause (reply_of_call r out') b') r
+    (served_by_call_outcome b b' cause (reply_of_call r out') r idle fits flash (λ kept. (out, out', outcome kept, refl)))
 
 -- `handle`.
-pub call_step : (b b' : Board) (cause : Cause) (need room : ℕ) (out out' : List ℕ) (r : Result Reply Refusal) → b'.flash ≡ b.flash
-    → OnOk r (IsServed b.asking b.block b.flash need room)
+pub handle_result_is_served : (b b' : Board) (cause : Cause) (need room : ℕ) (out out' : List ℕ) (r : Result Reply Refusal) → b'.flash
+    ≡ b.flash
+    → OnOk r (IsServedCall b.asking b.block b.flash need room)
     → IfOk r (λ y. IsDeviceOn b.asking b.block b.held b.flash
     → DeviceCalled (lent_on b) b.flash out (λ d x sent d'. Row d cause x sent d') (lent_on b') out' y)
     → OnErr r (b' ≡ b)
     → IsRefusedOr (reply_of_result r out') b b' (IsServedBy b cause (reply_of_result r out') b')
-call_step b b' cause need room out out' (Ok r) flash served outcome same =
-    served_step b b' cause out out' r served.work served.fits flash outcome
-call_step b b' cause need room out out' (Err e) flash served outcome same = same
+handle_result_is_served b b' cause need room out out' (Ok r) flash served outcome same =
+    reply_to_setup_is_served b b' cause out out' r served.work served.fits flash outcome
+handle_result_is_served b b' cause need room out out' (Err e) flash served outcome same = same
 
 module _ (b b' : Board) (ms : ℕ) (zeros : List ℕ) where
-  of_none : (out : List ℕ) (x : Answer) (count : ℕ) (r : Reply) → r ≡ reply.Answered x count
+  time_answer_has_no_bytes : (out : List ℕ) (x : Answer) (count : ℕ) (r : Reply) → r ≡ reply.Answered x count
       → DeviceCalled (lent_on b) b.flash zeros (λ d y sent d'. Row d (Passing ms) y sent d') (lent_on b') out r → count ≡ 0
-  of_none out x count _ is (called_ended y n e) =
+  time_answer_has_no_bytes out x count _ is (call_answered y n e) =
       let one : n ≡ count = cc in
-      sym one ∙ e.gave.count_is ∙ ap (λ (l : List ℕ). length l) (e.gave.row of_mapped).1
-  of_none out x count _ is (called_asks len asks device due out_is) = absurd (cc)
+      sym one ∙ e.gave.count_is ∙ ap (λ (l : List ℕ). length l) (e.gave.row unseen_of_mapped).1
+  time_answer_has_no_bytes out x count _ is (call_asks len asks device due out_is) = absurd (cc)
 
   -- A reply to time that passed, which has no bytes, is what a board does as time passes.
-  pub passed_step : (r : Reply) → b.asking.work ≡ None → RoomForBlocks b.asking (length b.block) → b'.flash ≡ b.flash
+  pub reply_to_time_is_served : (r : Reply) → b.asking.work ≡ None → RoomForBlocks b.asking (length b.block) → b'.flash ≡ b.flash
       → (IsDeviceOn b.asking b.block b.held b.flash → (out : List ℕ)
       × DeviceCalled (lent_on b) b.flash zeros (λ d x sent d'. Row d (Passing ms) x sent d') (lent_on b') out r)
       → IsRefusedOr (reply_of_call r []) b b' (IsServedBy b (Passing ms) (reply_of_call r []) b')
-  passed_step r idle fits flash outcome =
-      by_reply b b' [] (IsServedBy b (Passing ms) (reply_of_call r []) b') r
-      (by_outcome b b' (Passing ms) (reply_of_call r []) r idle fits flash
+  reply_to_time_is_served r idle fits flash outcome =
+      holds_after_any_reply b b' [] (IsServedBy b (Passing ms) (reply_of_call r []) b') r
+      (served_by_call_outcome b b' (Passing ms) (reply_of_call r []) r idle fits flash
       (λ kept. let o = outcome kept in (zeros, o.0, o.1, no_bytes r o.0 o.1)))
     where
       no_bytes : (r : Reply) (out : List ℕ)
@@ -90,76 +93,79 @@ module _ (b b' : Board) (ms : ℕ) (zeros : List ℕ) where
           → reply_of_call r [] ≡ reply_of_call r out
       no_bytes reply.Asks out called = refl
       no_bytes (reply.Answered x count) out called =
-          let none : count ≡ 0 = of_none out x count (reply.Answered x count) refl called in
+          let none : count ≡ 0 = time_answer_has_no_bytes out x count (reply.Answered x count) refl called in
           ap (λ (n : ℕ). Answers x (take n [])) none ∙ sym (ap (λ (n : ℕ). Answers x (take n out)) none)
 
   -- `elapse`.
-  pub elapse_step : (r : Result Reply Refusal) → b'.flash ≡ b.flash → OnOk r (IsServed b.asking b.block b.flash 0 0)
+  pub elapse_result_is_served : (r : Result Reply Refusal) → b'.flash ≡ b.flash → OnOk r (IsServedCall b.asking b.block b.flash 0 0)
       → IfOk r (λ y. IsDeviceOn b.asking b.block b.held b.flash
       → (out : List ℕ) × DeviceCalled (lent_on b) b.flash zeros (λ d x sent d'. Row d (Passing ms) x sent d') (lent_on b') out y)
       → OnErr r (b' ≡ b)
       → IsRefusedOr (reply_of_result r []) b b' (IsServedBy b (Passing ms) (reply_of_result r []) b')
-  elapse_step (Ok r) flash served outcome same = passed_step r served.work served.fits flash outcome
-  elapse_step (Err e) flash served outcome same = same
+  elapse_result_is_served (Ok r) flash served outcome same = reply_to_time_is_served r served.work served.fits flash outcome
+  elapse_result_is_served (Err e) flash served outcome same = same
 
 -- A reply to how a piece went is what a board does after that report.
-pub told_step : (b b' : Board) (failed : Bool) (out out' : List ℕ) (r : Reply) (w : PendingWrites) → HasRemainingWrites (lent_on b) w
+pub reply_to_report_is_outcome : (b b' : Board) (failed : Bool) (out out' : List ℕ) (r : Reply) (w : PendingWrites) →
+    HasRemainingWrites (lent_on b) w
     → b'.flash ≡ b.flash
     → ((len : ℕ) (s : SlotsState) (was before : List ℕ) (asks : WritesPending (lent_on b) len s was before) (p : Step)
-    → IsPiece (steps_in (lent_on b) asks.work) asks.work.done p → Torn before p.write.at p.write.bytes b.flash
+    → IsStepPiece (steps_in (lent_on b) asks.work) asks.work.done p → Torn before p.write.at p.write.bytes b.flash
     → DevicePieceReported (device_of (lent_on b) s) len s was p.write failed b.flash out (lent_on b') out' r)
     → IsRefusedOr (reply_of_call r out') b b' (TookResult b failed (reply_of_call r out') b')
-told_step b b' failed out out' r w left flash outcome = by_reply b b' out' (TookResult b failed (reply_of_call r out') b') r (record {
-  work = w;
-  left = left;
-  flash = flash;
-  reply = r;
-  out = out;
-  out' = out';
-  outcome = outcome;
-  says_is = refl;
-})
+reply_to_report_is_outcome b b' failed out out' r w left flash outcome = holds_after_any_reply b b' out' (TookResult b failed
+    (reply_of_call r out') b') r (record {
+      work = w;
+      left = left;
+      flash = flash;
+      reply = r;
+      out = out;
+      out' = out';
+      outcome = outcome;
+      says_is = refl;
+    })
 
 -- `took`.
-pub took_step : (b b' : Board) (failed : Bool) (room : ℕ) (out out' : List ℕ) (r : Result Reply Refusal) → b'.flash ≡ b.flash
+pub took_result_is_outcome : (b b' : Board) (failed : Bool) (room : ℕ) (out out' : List ℕ) (r : Result Reply Refusal) → b'.flash ≡ b.flash
     → OnOk r (ReportAccepted (lent_on b) room)
     → IfOk r (λ y. (len : ℕ) (s : SlotsState) (was before : List ℕ) (asks : WritesPending (lent_on b) len s was before) (p : Step)
-    → IsPiece (steps_in (lent_on b) asks.work) asks.work.done p → Torn before p.write.at p.write.bytes b.flash
+    → IsStepPiece (steps_in (lent_on b) asks.work) asks.work.done p → Torn before p.write.at p.write.bytes b.flash
     → DevicePieceReported (device_of (lent_on b) s) len s was p.write failed b.flash out (lent_on b') out' y)
     → OnErr r (b' ≡ b)
     → IsRefusedOr (reply_of_result r out') b b' (TookResult b failed (reply_of_result r out') b')
-took_step b b' failed room out out' (Ok r) flash taken outcome same =
-    told_step b b' failed out out' r taken.work taken.is_left flash outcome
-took_step b b' failed room out out' (Err e) flash taken outcome same = same
+took_result_is_outcome b b' failed room out out' (Ok r) flash taken outcome same =
+    reply_to_report_is_outcome b b' failed out out' r taken.work taken.is_left flash outcome
+took_result_is_outcome b b' failed room out out' (Err e) flash taken outcome same = same
 
--- A result that is None only against a fact is Some by it.
-pub some_of : {A P : Type 0} (r : Option A) → IfNone r (¬ P) → P → IsSome r
-some_of (Some x) never p = refl
-some_of None never p = absurd (never p)
+-- If a result is None only where P is false, and P is true, the result is Some.
+pub result_is_some : {A P : Type 0} (r : Option A) → IfNone r (¬ P) → P → IsSome r
+result_is_some (Some x) never p = refl
+result_is_some None never p = absurd (never p)
 
 -- `power_on`.
-pub on_step : (r : Option Asking) (block held flash : List ℕ) (config : Setting) (unit : WriteUnit) (sector : Sector)
-    → IfSome r (λ a. device_in (lent a block held) flash ≡ powered_on config (mapped (grain_of unit sector) flash))
+pub power_on_result_starts_board : (r : Option Asking) (block held flash : List ℕ) (config : Setting) (unit : WriteUnit) (sector : Sector)
+    → IfSome r (λ a. device_in (lent a block held) flash ≡ powered_on config (mapped_medium (grain_of unit sector) flash))
     → IfSome r (λ a. IsDevice (lent a block held) flash)
     → IfSome r (λ a. (a.work ≡ None) × (a.block_len ≡ 0) × (a.config ≡ config) × (a.unit ≡ unit))
     → IfSome r (λ a. a.sector ≡ sector)
-    → IfSome r (λ a. BoardStarts false (board a block held flash))
-on_step (Some a) block held flash config unit sector device is kept sector_is = (
+    → IfSome r (λ a. BoardStarts false (board_of_parts a block held flash))
+power_on_result_starts_board (Some a) block held flash config unit sector device is kept sector_is = (
   record {
     begins = false;
-    device = device ∙ (λ i. powered_on (sym kept.2 i) (mapped (grain_of (sym kept.3 i) (sym sector_is i)) flash));
+    device = device ∙ (λ i. powered_on (sym kept.2 i) (mapped_medium (grain_of (sym kept.3 i) (sym sector_is i)) flash));
     is = is;
     work = kept.0;
   },
   refl,
 )
-on_step None block held flash config unit sector device is kept sector_is = tt
+power_on_result_starts_board None block held flash config unit sector device is kept sector_is = tt
 
--- A consequence of a value from one fact, or from two, follows if there is a value.
-pub on_some : {A : Type 0} (P Q : A → Type 0) (r : Option A) → ((x : A) → P x → Q x) → IfSome r P → IfSome r Q
-on_some P Q (Some x) follows p = follows x p
-on_some P Q None follows p = tt
+-- If P of a value gives Q of it, a result that gives P for Some gives Q for Some; and likewise from two facts.
+pub weaken_on_some : {A : Type 0} (P Q : A → Type 0) (r : Option A) → ((x : A) → P x → Q x) → IfSome r P → IfSome r Q
+weaken_on_some P Q (Some x) follows p = follows x p
+weaken_on_some P Q None follows p = tt
 
-pub on_both : {A : Type 0} (P R Q : A → Type 0) (r : Option A) → ((x : A) → P x → R x → Q x) → IfSome r P → IfSome r R → IfSome r Q
-on_both P R Q (Some x) follows p t = follows x p t
-on_both P R Q None follows p t = tt
+pub weaken_on_some_by_two : {A : Type 0} (P R Q : A → Type 0) (r : Option A) → ((x : A) → P x → R x → Q x) → IfSome r P → IfSome r R →
+    IfSome r Q
+weaken_on_some_by_two P R Q (Some x) follows p t = follows x p t
+weaken_on_some_by_two P R Q None follows p t = tt

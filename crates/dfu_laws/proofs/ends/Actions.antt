@@ -1,4 +1,4 @@
--- The action of a session in C says the deed of its host.
+-- Actions of a session in C, as deeds of its host.
 use Rattle.std.specs.Prelude.{◌≡◌, ◌≢◌, ℕ, pos, Bool, List, take, drop}
 use Rattle.std.proofs.Common.{inl, refl, sym, ap, ◌∙◌, subst, arith}
 use Rattle.dfu_wire.specs.declared.states.State.{State}
@@ -8,99 +8,106 @@ use Rattle.dfu_host.specs.Phases.{Deed, Send, Wait, Reset, Done}
 use Rattle.dfu_host.specs.Table.{deed}
 use Rattle.dfu_host.specs.Host.{HostState}
 use Rattle.dfu_host.specs.Wire.{IsSetupOf}
-use Rattle.dfu_sim.specs.LinkView.{Session, Nobody, Hosted}
+use Rattle.dfu_sim.specs.LinkView.{Session, NoLiveSession, HostSession}
 use Rattle.dfu_host_core.specs.declared.action.DfuAction.{DfuAction}
 use Rattle.dfu_host_core.specs.Actions.{ActionRecord}
-use Rattle.dfu_host_core.specs.Runs.{CoreHost, IsCoreHost, NextsOfHosts, NextOfHost}
+use Rattle.dfu_host_core.specs.Runs.{CoreHost, CoreHostMatches, NextOfCoreSessions, NextOfHost}
 use Rattle.dfu_laws.specs.board.Board.{Event, Elapse, Handle}
-use Rattle.dfu_laws.specs.link.Trials.{MayEnd}
-use Rattle.dfu_laws.specs.link.LinkSteps.{IsUnderWay}
-use Rattle.dfu_laws.specs.ends.Sessions.{CoreSession, NoSession, InSession, IsSessionOf, Wants, sent_body, MayBeUnderWay, MayEndIn}
+use Rattle.dfu_laws.specs.link.Trials.{TrialMayEnd}
+use Rattle.dfu_laws.specs.link.LinkSteps.{CallMayBeUnderWay}
+use Rattle.dfu_laws.specs.ends.Sessions.{CoreSession, NoSession, InSession, IsSessionOf, WantsAction, sent_body, CoreCallMayBeUnderWay, CoreTrialMayEnd}
 
--- The live session in C is the one of this host.
-pub record HostOf (payload : List ℕ) (x : CoreHost) (session : Session) : Type 0 where
+-- The live session in C is the session of a host.
+pub record LiveHostOf (payload : List ℕ) (x : CoreHost) (session : Session) : Type 0 where
   pub host : HostState
-  pub live : session ≡ Hosted host
-  pub is : IsCoreHost payload x host
+  pub live : session ≡ HostSession host
+  pub is : CoreHostMatches payload x host
 
 pub host_of_session : (payload : List ℕ) (x : CoreHost) (s : CoreSession) (session : Session) → s ≡ InSession payload x
-    → IsSessionOf s session → HostOf payload x session
+    → IsSessionOf s session → LiveHostOf payload x session
 host_of_session payload x s session e is = held session (subst (λ (y : CoreSession). IsSessionOf y session) e is)
   where
-    held : (y : Session) → IsSessionOf (InSession payload x) y → HostOf payload x y
-    held (Hosted h) is = record { host = h; live = refl; is = is }
-    held Nobody is = absurd is
+    held : (y : Session) → IsSessionOf (InSession payload x) y → LiveHostOf payload x y
+    held (HostSession h) is = record { host = h; live = refl; is = is }
+    held NoLiveSession is = absurd is
 
--- A trial may end as with that host.
-pub may_end : (s : CoreSession) (session : Session) (state : State) (begins : Bool) → IsSessionOf s session → MayEndIn s state begins
-    → MayEnd session state begins
-may_end NoSession Nobody state begins is may = tt
-may_end (InSession payload x) (Hosted h) state begins is may = may h is
-may_end NoSession (Hosted h) state begins is may = absurd is
-may_end (InSession payload x) Nobody state begins is may = absurd is
+-- If a trial may end with the session in C, it may end with its host.
+pub trial_may_end_with_host : (s : CoreSession) (session : Session) (state : State) (begins : Bool) → IsSessionOf s session
+    → CoreTrialMayEnd s state begins
+    → TrialMayEnd session state begins
+trial_may_end_with_host NoSession NoLiveSession state begins is may = tt
+trial_may_end_with_host (InSession payload x) (HostSession h) state begins is may = may h is
+trial_may_end_with_host NoSession (HostSession h) state begins is may = absurd is
+trial_may_end_with_host (InSession payload x) NoLiveSession state begins is may = absurd is
 
--- The action sends a request of its host.
-pub record SendsOf (payload : List ℕ) (d : Deed) (a : DfuAction) : Type 0 where
+-- The action sends the request of its host.
+pub record SendsRequestOf (payload : List ℕ) (d : Deed) (a : DfuAction) : Type 0 where
   pub request : Request
   pub deed_is : d ≡ Send request (sent_body payload a)
   pub asked : IsSetupOf request a.setup
 
-sends_of : (payload : List ℕ) (from : ℕ) (d : Deed) (a : DfuAction) → ActionRecord payload from d a → a.what ≡ 0 → SendsOf payload d a
-sends_of payload from (Send q body) a t e = record {
+action_0_sends_request : (payload : List ℕ) (from : ℕ) (d : Deed) (a : DfuAction) → ActionRecord payload from d a → a.what ≡ 0 →
+    SendsRequestOf payload d a
+action_0_sends_request payload from (Send q body) a t e = record {
   request = q;
   deed_is = ap (λ (l : List ℕ). Send q l) (t.cut ∙ λ i. take (sym t.size i) (drop (sym t.place i) payload));
   asked = t.asked;
 }
-sends_of payload from (Wait ms) a t e = absurd (omega (arith, t.what_is, e))
-sends_of payload from Reset a t e = absurd (omega (arith, t.what_is, e))
-sends_of payload from (Done report) a t e = absurd (omega (arith, t.other.what_is, e))
+action_0_sends_request payload from (Wait ms) a t e = absurd (omega (arith, t.action_number_matches, e))
+action_0_sends_request payload from Reset a t e = absurd (omega (arith, t.action_number_matches, e))
+action_0_sends_request payload from (Done report) a t e = absurd (omega (arith, t.other.action_number_matches, e))
 
-waits_of : (payload : List ℕ) (from : ℕ) (d : Deed) (a : DfuAction) → ActionRecord payload from d a → a.what ≡ 1 → (ms : ℕ) × (d ≡ Wait ms)
-waits_of payload from (Send q body) a t e = absurd (omega (arith, t.what, e))
-waits_of payload from (Wait ms) a t e = (ms, refl)
-waits_of payload from Reset a t e = absurd (omega (arith, t.what_is, e))
-waits_of payload from (Done report) a t e = absurd (omega (arith, t.other.what_is, e))
+action_1_waits : (payload : List ℕ) (from : ℕ) (d : Deed) (a : DfuAction) → ActionRecord payload from d a → a.what ≡ 1 → (ms : ℕ) × (d
+    ≡ Wait ms)
+action_1_waits payload from (Send q body) a t e = absurd (omega (arith, t.what, e))
+action_1_waits payload from (Wait ms) a t e = (ms, refl)
+action_1_waits payload from Reset a t e = absurd (omega (arith, t.action_number_matches, e))
+action_1_waits payload from (Done report) a t e = absurd (omega (arith, t.other.action_number_matches, e))
 
-resets_of : (payload : List ℕ) (from : ℕ) (d : Deed) (a : DfuAction) → ActionRecord payload from d a → a.what ≡ 2 → d ≡ Reset
-resets_of payload from (Send q body) a t e = absurd (omega (arith, t.what, e))
-resets_of payload from (Wait ms) a t e = absurd (omega (arith, t.what_is, e))
-resets_of payload from Reset a t e = refl
-resets_of payload from (Done report) a t e = absurd (omega (arith, t.other.what_is, e))
+action_2_resets : (payload : List ℕ) (from : ℕ) (d : Deed) (a : DfuAction) → ActionRecord payload from d a → a.what ≡ 2 → d ≡ Reset
+action_2_resets payload from (Send q body) a t e = absurd (omega (arith, t.what, e))
+action_2_resets payload from (Wait ms) a t e = absurd (omega (arith, t.action_number_matches, e))
+action_2_resets payload from Reset a t e = refl
+action_2_resets payload from (Done report) a t e = absurd (omega (arith, t.other.action_number_matches, e))
 
-done_of : (payload : List ℕ) (from : ℕ) (d : Deed) (a : DfuAction) (report : Report) → ActionRecord payload from d a → d ≡ Done report
+done_deed_is_action_3 : (payload : List ℕ) (from : ℕ) (d : Deed) (a : DfuAction) (report : Report) → ActionRecord payload from d a → d
+    ≡ Done report
     → a.what ≡ 3
-done_of payload from (Done other) a report t e = t.other.what_is
-done_of payload from (Send q body) a report t e = absurd cc
-done_of payload from (Wait ms) a report t e = absurd cc
-done_of payload from Reset a report t e = absurd cc
+done_deed_is_action_3 payload from (Done other) a report t e = t.other.action_number_matches
+done_deed_is_action_3 payload from (Send q body) a report t e = absurd cc
+done_deed_is_action_3 payload from (Wait ms) a report t e = absurd cc
+done_deed_is_action_3 payload from Reset a report t e = absurd cc
 
-module _ (tells : NextsOfHosts) (payload : List ℕ) (x : CoreHost) (h : HostState) (here : IsCoreHost payload x h) where
-  -- Answer of dfu_host_next for it.
-  pub told : (a : DfuAction) → Wants payload x a → NextOfHost payload h (pos 0) a
+module _ (tells : NextOfCoreSessions) (payload : List ℕ) (x : CoreHost) (h : HostState) (here : CoreHostMatches payload x h) where
+  -- dfu_host_next returns the action of the host.
+  pub told : (a : DfuAction) → WantsAction payload x a → NextOfHost payload h (pos 0) a
   told a wants = tells payload x h wants.0 (pos 0) a a here wants.1 (inl (refl, wants.2))
 
-  pub sends_so : (a : DfuAction) → Wants payload x a → a.what ≡ 0 → SendsOf payload (deed h.task h.phase) a
-  sends_so a wants e = let t = told a wants in sends_of payload t.from (deed h.task h.phase) a t.tells e
+  pub wanted_action_0_sends : (a : DfuAction) → WantsAction payload x a → a.what ≡ 0 → SendsRequestOf payload (deed h.task h.phase) a
+  wanted_action_0_sends a wants e = let t = told a wants in action_0_sends_request payload t.from (deed h.task h.phase) a t.tells e
 
-  pub waits_so : (a : DfuAction) → Wants payload x a → a.what ≡ 1 → (ms : ℕ) × (deed h.task h.phase ≡ Wait ms)
-  waits_so a wants e = let t = told a wants in waits_of payload t.from (deed h.task h.phase) a t.tells e
+  pub wanted_action_1_waits : (a : DfuAction) → WantsAction payload x a → a.what ≡ 1 → (ms : ℕ) × (deed h.task h.phase ≡ Wait ms)
+  wanted_action_1_waits a wants e = let t = told a wants in action_1_waits payload t.from (deed h.task h.phase) a t.tells e
 
-  pub resets_so : (a : DfuAction) → Wants payload x a → a.what ≡ 2 → deed h.task h.phase ≡ Reset
-  resets_so a wants e = let t = told a wants in resets_of payload t.from (deed h.task h.phase) a t.tells e
+  pub wanted_action_2_resets : (a : DfuAction) → WantsAction payload x a → a.what ≡ 2 → deed h.task h.phase ≡ Reset
+  wanted_action_2_resets a wants e = let t = told a wants in action_2_resets payload t.from (deed h.task h.phase) a t.tells e
 
-  pub not_done : (a : DfuAction) → Wants payload x a → a.what ≢ 3 → (report : Report) → deed h.task h.phase ≡ Done report → ⊥
-  not_done a wants on report e = let t = told a wants in on (done_of payload t.from (deed h.task h.phase) a report t.tells e)
+  pub host_is_done_only_by_action_3 : (a : DfuAction) → WantsAction payload x a → a.what ≢ 3 → (report : Report) → deed h.task h.phase
+      ≡ Done report → ⊥
+  host_is_done_only_by_action_3 a wants on report e = let t = told a wants in on (done_deed_is_action_3 payload t.from (deed h.task
+      h.phase) a report t.tells e)
 
--- A call that may be under way with the session in C may be so with its host.
-pub way_so : (tells : NextsOfHosts) (s : CoreSession) (session : Session) (call : Event) → IsSessionOf s session → MayBeUnderWay s call
-    → IsUnderWay session call
-way_so tells s session (Elapse ms) is way = tt
-way_so tells (InSession payload x) (Hosted h) (Handle setup body) is (a, wants, what, same, cut) =
-    let q = sends_so tells payload x h is a wants what in (
+-- A call that may be under way with the session in C may be under way with its host.
+pub call_under_way_with_host : (tells : NextOfCoreSessions) (s : CoreSession) (session : Session) (call : Event) →
+    IsSessionOf s session → CoreCallMayBeUnderWay s call
+    → CallMayBeUnderWay session call
+call_under_way_with_host tells s session (Elapse ms) is way = tt
+call_under_way_with_host tells (InSession payload x) (HostSession h) (Handle setup body) is (a, wants, what, same, cut) =
+    let q = wanted_action_0_sends tells payload x h is a wants what in (
       q.request,
       q.deed_is ∙ ap (λ (l : List ℕ). Send q.request l) (sym cut),
       subst (λ (l : List ℕ). IsSetupOf q.request l) (sym same) q.asked,
     )
-way_so tells (InSession payload x) Nobody (Handle setup body) is way = absurd is
-way_so tells NoSession session (Handle setup body) is way = absurd way
-way_so tells s session call is way = absurd way
+call_under_way_with_host tells (InSession payload x) NoLiveSession (Handle setup body) is way = absurd is
+call_under_way_with_host tells NoSession session (Handle setup body) is way = absurd way
+call_under_way_with_host tells s session call is way = absurd way

@@ -1,11 +1,13 @@
--- A payload in place after a session between both ends in C stays what runs, while it is on trial.
-use Rattle.dfu_host_core.specs.Runs.{BeginIsInitial, HostsRefine, NextsOfHosts}
-use Rattle.dfu_laws.specs.in_c.Stays.{CorePlaysStay}
-use Rattle.dfu_laws.specs.ends.Stays.{EndsStay}
-use Rattle.dfu_laws.proofs.ends.Played.{next_so}
+-- A payload that a session between both ends in C put in place on trial is what runs, as `EndsReportedTrialStays` says.
+use Rattle.dfu_host_core.specs.Runs.{BeginIsInitial, CoreSessionsRefineHosts, NextOfCoreSessions}
+use Rattle.dfu_laws.specs.in_c.Stays.{CoreReportedTrialStays}
+use Rattle.dfu_laws.specs.ends.Stays.{EndsReportedTrialStays}
+use Rattle.dfu_laws.proofs.ends.Played.{next_event_with_host}
 
-pub ends_stay : BeginIsInitial → HostsRefine → NextsOfHosts → CorePlaysStay → EndsStay
-ends_stay begin refine tells stays b steps more past last l l' answer tries t list on p c says are stands came =
-    let n = next_so begin refine tells b steps more past last l l' answer p c in
-    stays b steps more past last (record { board = l.board; session = n.session }) (record { board = l'.board; session = n.later }) answer
+pub ends_reported_trial_stays : BeginIsInitial → CoreSessionsRefineHosts → NextOfCoreSessions → CoreReportedTrialStays →
+    EndsReportedTrialStays
+ends_reported_trial_stays begin refine tells stays b steps more past back last l l' answer tries t list on p c says are stands came =
+    let n = next_event_with_host begin refine tells b steps more past back last l l' answer p c in
+    stays b steps more past back last (record { board = l.board; session = n.session })
+    (record { board = l'.board; session = n.later }) answer
     tries t list on n.plays n.comes says are stands came

@@ -1,4 +1,4 @@
--- A call of dfu_core_handle, dfu_core_elapse, dfu_core_usb_reset, dfu_core_took or dfu_core_too_long is a step of a board.
+-- Calls of dfu_core_handle, dfu_core_elapse, dfu_core_usb_reset, dfu_core_took and dfu_core_too_long, as steps of a board.
 use Rattle.std.specs.Prelude.{◌≡◌, ◌≤◌, ◌==◌, not, ℕ, ℤ, List, [], length, replicate, Some}
 use Rattle.std.proofs.Common.{inl, inr, refl, sym, subst, arith}
 use Rattle.dfu_device.specs.declared.answer.Answer.TheVariants as answer
@@ -6,132 +6,135 @@ use Rattle.dfu_device.specs.Table.{reset_stage}
 use Rattle.dfu_device.specs.DeviceView.{DeviceView}
 use Rattle.dfu_device.specs.Rows.{Transfer, Handles}
 use Rattle.dfu_asks.specs.declared.asking.Asking.{Asking}
-use Rattle.dfu_asks.specs.Carried.{IsPiece}
+use Rattle.dfu_asks.specs.Carried.{IsStepPiece}
 use Rattle.dfu_asks.specs.Asks.{device_in, steps_in}
 use Rattle.dfu_laws.specs.board.Board.{Answers}
 use Rattle.dfu_laws.specs.board.Happens.{reply_of_call}
 use Rattle.dfu_core.specs.declared.records.DfuAsk.{DfuAsk}
 use Rattle.dfu_core.specs.Config.{transfer_of}
-use Rattle.dfu_asks.specs.Addressed.{addressed}
+use Rattle.dfu_asks.specs.Addressed.{addressed_setup}
 use Rattle.dfu_core.specs.RecordMeaning.{with_memory}
-use Rattle.dfu_core.specs.Calls.{IsIntact}
-use Rattle.dfu_core.specs.Writes.{ask_step, HandsOut, RefusesPiece, refuses_unfound, refuses_piece}
+use Rattle.dfu_core.specs.Calls.{IsIntactBlock}
+use Rattle.dfu_core.specs.Writes.{ask_step, WriteHandedOut, RefusesPiece, device_is_not_found, piece_is_refused}
 use Rattle.dfu_core.specs.declared.numbers.Refusal.TheVariants as refusal
 use Rattle.dfu_core.specs.Idle.{RefusesSetup}
 use Rattle.dfu_asks.specs.Verdict.{IsBodyOf}
 use Rattle.dfu_asks.specs.declared.reply.Reply.TheVariants as reply
-use Rattle.dfu_asks.specs.Calls.{DeviceCalled, called_ended}
+use Rattle.dfu_asks.specs.Calls.{DeviceCalled, call_answered}
 use Rattle.dfu_core.specs.Board.{CoreBoard, CoreHandle, CoreElapse, CoreReset, CoreTooLong, CoreTook}
-use Rattle.dfu_core.specs.Happens.{IsCalled, Handled, Elapsed, Reset, TooLongCalled, CoreTookResult}
-use Rattle.dfu_laws.specs.in_c.Steps.{board_of_core, IsRefusal}
-use Rattle.dfu_laws.proofs.in_c.Same.{no_work, one_device}
-use Rattle.dfu_laws.proofs.in_c.Parts.{reply_says, passed_says}
-use Rattle.dfu_laws.proofs.board.Served.{served_step, passed_step, told_step}
-use Rattle.dfu_laws.proofs.in_c.Turned.{IsSound, IsTurn, fits_of, unchanged, goes_on, turns, sound_as}
+use Rattle.dfu_core.specs.Happens.{KeepsConfigAndFlash, HandleOutcome, ElapseOutcome, ResetOutcome, TooLongOutcome, CoreTookOutcome}
+use Rattle.dfu_laws.specs.in_c.Steps.{board_of_core, IsRefusalNumber}
+use Rattle.dfu_laws.proofs.in_c.Same.{work_number_0_is_no_work, record_is_one_device}
+use Rattle.dfu_laws.proofs.in_c.Parts.{reply_number_tells_reply, time_reply_number_tells_reply}
+use Rattle.dfu_laws.proofs.board.Served.{reply_to_setup_is_served, reply_to_time_is_served, reply_to_report_is_outcome}
+use Rattle.dfu_laws.proofs.in_c.Turned.{IsSoundCoreBoard, CoreStepIsBoardStep, block_memory_fits, refused_call_is_board_step, record_call_is_of_device, record_call_is_board_step, sound_with_same_config}
 
--- dfu_core_handle.
-pub handle_turn : (b : CoreBoard) (a : Asking) (setup body out : List ℕ) (n : ℤ) (out' : List ℕ) (b' : CoreBoard) → IsSound b a
-    → IsCalled b b' → Handled b setup body out n out' b' → IsTurn b a (CoreHandle setup body out) n out' b'
-handle_turn b a setup body out n out' b' sound called (inl g) =
-    let does = goes_on b a b'.kept b'.block _ sound g in
-    turns b a _ n out' b' (reply_of_call does.reply out') sound called.config g
-    (served_step (board_of_core b a) (board_of_core b' g.after) (Transfer (addressed b.config.interface setup) body) out out' does.reply
-    does.idle (fits_of b a sound (omega (arith, g.room))) called.flash does.called)
-    (reply_says n out' does.reply does.number_is)
-handle_turn b a setup body out n out' b' sound called (inr (inl (denied, out_is))) =
-    unchanged b a _ n out' b' sound called.config called.flash denied.unchanged denied.block_is (λ same. same)
+-- dfu_core_handle, in its three outcomes: the record handled the setup, the call was refused, or the buffer has no room for the answer.
+pub core_handle_is_board_step : (b : CoreBoard) (a : Asking) (setup body out : List ℕ) (n : ℤ) (out' : List ℕ) (b' : CoreBoard) →
+    IsSoundCoreBoard b a
+    → KeepsConfigAndFlash b b' → HandleOutcome b setup body out n out' b' → CoreStepIsBoardStep b a (CoreHandle setup body out) n out' b'
+core_handle_is_board_step b a setup body out n out' b' sound called (inl g) =
+    let does = record_call_is_of_device b a b'.kept b'.block _ sound g in
+    record_call_is_board_step b a _ n out' b' (reply_of_call does.reply out') sound called.config g
+    (reply_to_setup_is_served (board_of_core b a) (board_of_core b' g.after)
+    (Transfer (addressed_setup b.config.interface setup) body) out out' does.reply
+    does.idle (block_memory_fits b a sound (omega (arith, g.room))) called.flash does.called)
+    (reply_number_tells_reply n out' does.reply does.number_is)
+core_handle_is_board_step b a setup body out n out' b' sound called (inr (inl (denied, out_is))) =
+    refused_call_is_board_step b a _ n out' b' sound called.config called.flash denied.unchanged denied.block_is (λ same. same)
     (inr (inr (denied.why, denied.number_is)))
-handle_turn b a setup body out n out' b' sound called (inr (inr denied)) =
-    unchanged b a _ n out' b' sound called.config called.flash denied.unchanged denied.block_is (λ same. same)
+core_handle_is_board_step b a setup body out n out' b' sound called (inr (inr denied)) =
+    refused_call_is_board_step b a _ n out' b' sound called.config called.flash denied.unchanged denied.block_is (λ same. same)
     (inl denied.number_is)
 
 -- dfu_core_elapse.
-pub elapse_turn : (b : CoreBoard) (a : Asking) (ms : ℕ) (n : ℤ) (out' : List ℕ) (b' : CoreBoard) → IsSound b a
-    → IsCalled b b' → Elapsed b ms n b' → IsTurn b a (CoreElapse ms) n out' b'
-elapse_turn b a ms n out' b' sound called (inl g) =
-    let does = goes_on b a b'.kept b'.block _ sound g in
-    turns b a _ n out' b' (reply_of_call does.reply []) sound called.config g
-    (passed_step (board_of_core b a) (board_of_core b' g.after) ms (replicate 6 0) does.reply
-    does.idle (fits_of b a sound (omega (arith, g.room))) called.flash does.called)
-    (passed_says n does.reply does.number_is)
-elapse_turn b a ms n out' b' sound called (inr denied) =
-    unchanged b a _ n out' b' sound called.config called.flash denied.unchanged denied.block_is (λ same. same)
+pub core_elapse_is_board_step : (b : CoreBoard) (a : Asking) (ms : ℕ) (n : ℤ) (out' : List ℕ) (b' : CoreBoard) → IsSoundCoreBoard b a
+    → KeepsConfigAndFlash b b' → ElapseOutcome b ms n b' → CoreStepIsBoardStep b a (CoreElapse ms) n out' b'
+core_elapse_is_board_step b a ms n out' b' sound called (inl g) =
+    let does = record_call_is_of_device b a b'.kept b'.block _ sound g in
+    record_call_is_board_step b a _ n out' b' (reply_of_call does.reply []) sound called.config g
+    (reply_to_time_is_served (board_of_core b a) (board_of_core b' g.after) ms (replicate 6 0) does.reply
+    does.idle (block_memory_fits b a sound (omega (arith, g.room))) called.flash does.called)
+    (time_reply_number_tells_reply n does.reply does.number_is)
+core_elapse_is_board_step b a ms n out' b' sound called (inr denied) =
+    refused_call_is_board_step b a _ n out' b' sound called.config called.flash denied.unchanged denied.block_is (λ same. same)
     (inr (inr (denied.why, denied.number_is)))
 
 -- dfu_core_usb_reset.
-pub reset_turn : (b : CoreBoard) (a : Asking) (n : ℤ) (out' : List ℕ) (b' : CoreBoard) → IsSound b a
-    → IsCalled b b' → Reset b n b' → IsTurn b a CoreReset n out' b'
-reset_turn b a n out' b' sound called (inl g) =
-    let does = goes_on b a b'.kept b'.block _ sound g in
+pub core_reset_is_board_step : (b : CoreBoard) (a : Asking) (n : ℤ) (out' : List ℕ) (b' : CoreBoard) → IsSoundCoreBoard b a
+    → KeepsConfigAndFlash b b' → ResetOutcome b n b' → CoreStepIsBoardStep b a CoreReset n out' b'
+core_reset_is_board_step b a n out' b' sound called (inl g) =
+    let does = record_call_is_of_device b a b'.kept b'.block _ sound g in
     let was : DeviceView = device_in (with_memory b.block a) b.flash in
-    turns b a _ n out' b' (Answers answer.Ack []) sound called.config g
+    record_call_is_board_step b a _ n out' b' (Answers answer.Ack []) sound called.config g
     (record {
       idle = does.0;
-      fits = fits_of b a sound (omega (arith, g.room));
+      fits = block_memory_fits b a sound (omega (arith, g.room));
       flash = called.flash;
       row = subst (λ (f : List ℕ). device_in (with_memory b'.block g.after) f ≡ record was { stage = reset_stage was.stage })
           (sym called.flash) does.3;
-      is = λ whole. subst (λ (f : List ℕ). IsIntact b'.block f g.after) (sym called.flash) (does.4 whole);
+      is = λ whole. subst (λ (f : List ℕ). IsIntactBlock b'.block f g.after) (sym called.flash) (does.4 whole);
       work = does.2;
       says_is = refl;
     })
     does.1
-reset_turn b a n out' b' sound called (inr denied) =
-    unchanged b a _ n out' b' sound called.config called.flash denied.unchanged denied.block_is (λ same. same)
+core_reset_is_board_step b a n out' b' sound called (inr denied) =
+    refused_call_is_board_step b a _ n out' b' sound called.config called.flash denied.unchanged denied.block_is (λ same. same)
     (inr (inr (denied.why, denied.number_is)))
 
--- The work that is handed out is due in the device that the record is.
-pub handed_work : (b : CoreBoard) (a : Asking) (flash : List ℕ) (n : ℤ) (ask : DfuAsk) → IsSound b a
-    → (h : HandsOut b.config b.kept b.block flash n ask)
-    → (a.work ≡ Some h.work) × IsPiece (steps_in (with_memory b.block a) h.work) h.work.done (ask_step ask)
-handed_work b a flash n ask sound h =
-    subst (λ (x : Asking). (x.work ≡ Some h.work) × IsPiece (steps_in (with_memory b.block x) h.work) h.work.done (ask_step ask))
-    (one_device b.config b.kept h.asking a h.is sound.kept) (h.work_is, h.piece)
+-- The work that is handed out is due in the device of the record.
+pub handed_out_work_is_due : (b : CoreBoard) (a : Asking) (flash : List ℕ) (n : ℤ) (ask : DfuAsk) → IsSoundCoreBoard b a
+    → (h : WriteHandedOut b.config b.kept b.block flash n ask)
+    → (a.work ≡ Some h.work) × IsStepPiece (steps_in (with_memory b.block a) h.work) h.work.done (ask_step ask)
+handed_out_work_is_due b a flash n ask sound h =
+    subst (λ (x : Asking). (x.work ≡ Some h.work) × IsStepPiece (steps_in (with_memory b.block x) h.work) h.work.done (ask_step ask))
+    (record_is_one_device b.config b.kept h.asking a h.is sound.kept) (h.work_is, h.piece)
 
--- A call of dfu_core_took that is refused for its piece has the number of a refusal.
-piece_refused : (b : CoreBoard) (Why : Asking → Type 0) (n : ℤ) → RefusesPiece b.config b.kept b.block Why n → IsRefusal n
-piece_refused b Why n (refuses_unfound e is cause) = inr (inr (e, is))
-piece_refused b Why n (refuses_piece x is config room kept why) = inr (inr (refusal.NoDevice, is))
+-- If dfu_core_took refuses a piece, its number is that of a refusal.
+refused_piece_number : (b : CoreBoard) (Why : Asking → Type 0) (n : ℤ) → RefusesPiece b.config b.kept b.block Why n → IsRefusalNumber n
+refused_piece_number b Why n (device_is_not_found e is cause) = inr (inr (e, is))
+refused_piece_number b Why n (piece_is_refused x is config room kept why) = inr (inr (refusal.NoDevice, is))
 
 -- dfu_core_took.
-pub took_turn : (b : CoreBoard) (a : Asking) (failed : ℕ) (out : List ℕ) (n : ℤ) (out' : List ℕ) (b' : CoreBoard)
-    → IsSound b a → IsCalled b b' → CoreTookResult b failed out n out' b'
-    → IsTurn b a (CoreTook failed out) n out' b'
-took_turn b a failed out n out' b' sound called (inl g) =
-    let does = goes_on b a b'.kept b'.block _ sound g in
-    turns b a _ n out' b' (reply_of_call does.reply out') sound called.config g
-    (told_step (board_of_core b a) (board_of_core b' g.after)
+pub core_took_is_board_step : (b : CoreBoard) (a : Asking) (failed : ℕ) (out : List ℕ) (n : ℤ) (out' : List ℕ) (b' : CoreBoard)
+    → IsSoundCoreBoard b a → KeepsConfigAndFlash b b' → CoreTookOutcome b failed out n out' b'
+    → CoreStepIsBoardStep b a (CoreTook failed out) n out' b'
+core_took_is_board_step b a failed out n out' b' sound called (inl g) =
+    let does = record_call_is_of_device b a b'.kept b'.block _ sound g in
+    record_call_is_board_step b a _ n out' b' (reply_of_call does.reply out') sound called.config g
+    (reply_to_report_is_outcome (board_of_core b a) (board_of_core b' g.after)
     (not (failed == 0)) out out' does.reply does.work does.left called.flash does.took)
-    (reply_says n out' does.reply does.number_is)
-took_turn b a failed out n out' b' sound called (inr (inl (denied, kept, block, out_is))) =
-    unchanged b a _ n out' b' sound called.config called.flash kept block (λ same. same)
-    (piece_refused b _ n denied)
-took_turn b a failed out n out' b' sound called (inr (inr denied)) =
-    unchanged b a _ n out' b' sound called.config called.flash denied.unchanged denied.block_is (λ same. same)
+    (reply_number_tells_reply n out' does.reply does.number_is)
+core_took_is_board_step b a failed out n out' b' sound called (inr (inl (denied, kept, block, out_is))) =
+    refused_call_is_board_step b a _ n out' b' sound called.config called.flash kept block (λ same. same)
+    (refused_piece_number b _ n denied)
+core_took_is_board_step b a failed out n out' b' sound called (inr (inr denied)) =
+    refused_call_is_board_step b a _ n out' b' sound called.config called.flash denied.unchanged denied.block_is (λ same. same)
     (inl denied.number_is)
 
--- A setup that is refused has the number of a refusal.
-pub setup_refused : (b : CoreBoard) (n : ℤ) → RefusesSetup b.config b.kept n → IsRefusal n
-setup_refused b n (inl (inl cause)) = inr (inr (refusal.NoConfig, cause.0))
-setup_refused b n (inl (inr cause)) = inr (inr (refusal.NoDevice, cause.0))
-setup_refused b n (inr cause) = inr (inr (refusal.Asked, cause.0))
+-- If a setup is refused, the number is that of a refusal.
+pub refused_setup_number : (b : CoreBoard) (n : ℤ) → RefusesSetup b.config b.kept n → IsRefusalNumber n
+refused_setup_number b n (inl (inl cause)) = inr (inr (refusal.NoConfig, cause.0))
+refused_setup_number b n (inl (inr cause)) = inr (inr (refusal.NoDevice, cause.0))
+refused_setup_number b n (inr cause) = inr (inr (refusal.Asked, cause.0))
 
 -- dfu_core_too_long.
-pub long_turn : (b : CoreBoard) (a : Asking) (setup body : List ℕ) (n : ℤ) (out' : List ℕ) (b' : CoreBoard) → IsSound b a → IsCalled b b'
-    → b'.block ≡ b.block → transfer_of b.config ≤ length b.block → IsBodyOf (addressed b.config.interface setup) body
-    → TooLongCalled b setup n b' → IsTurn b a (CoreTooLong setup body) n out' b'
-long_turn b a setup body n out' b' sound called block room is_body (inl (is, idle, long, takes)) =
+pub core_too_long_is_board_step : (b : CoreBoard) (a : Asking) (setup body : List ℕ) (n : ℤ) (out' : List ℕ) (b' : CoreBoard) →
+    IsSoundCoreBoard b a → KeepsConfigAndFlash b b'
+    → b'.block ≡ b.block → transfer_of b.config ≤ length b.block → IsBodyOf (addressed_setup b.config.interface setup) body
+    → TooLongOutcome b setup n b' → CoreStepIsBoardStep b a (CoreTooLong setup body) n out' b'
+core_too_long_is_board_step b a setup body n out' b' sound called block room is_body (inl (is, idle, long, takes)) =
     let t = takes a sound.kept in
-    let own = addressed b.config.interface setup in
+    let own = addressed_setup b.config.interface setup in
     let before = with_memory b.block a in
     record {
       config = called.config;
       after = t.0;
-      sound = sound_as b b' t.0 sound.config called.config t.1 (omega (arith, sound.short, t.3));
+      sound = sound_with_same_config b b' t.0 sound.config called.config t.1 (omega (arith, sound.short, t.3));
       says = Answers answer.Stall [];
       happens = record {
-        idle = no_work b.kept a.work sound.kept.work idle.idle;
-        fits = fits_of b a sound room;
+        idle = work_number_0_is_no_work b.kept a.work sound.kept.work idle.idle;
+        fits = block_memory_fits b a sound room;
         flash = called.flash;
         reply = reply.Answered answer.Stall 0;
         outcome = λ whole.
@@ -141,7 +144,7 @@ long_turn b a setup body n out' b' sound called block room is_body (inl (is, idl
               subst (λ (x : List ℕ). DeviceCalled before b.flash []
                   (λ d y sent d'. Handles own body d y sent d')
                   (with_memory x t.0) [] (reply.Answered answer.Stall 0)) (sym block)
-                  (called_ended answer.Stall 0 (record {
+                  (call_answered answer.Stall 0 (record {
                     gave = record { sent = []; count_is = refl; out_is = refl; row = row.1 };
                     work = t.2;
                     is = row.0;
@@ -151,9 +154,9 @@ long_turn b a setup body n out' b' sound called block room is_body (inl (is, idl
       };
       told = (0, is, refl);
     }
-long_turn b a setup body n out' b' sound called block room is_body (inr (kept, inl denied)) =
-    unchanged b a _ n out' b' sound called.config called.flash kept block (λ same. same)
+core_too_long_is_board_step b a setup body n out' b' sound called block room is_body (inr (kept, inl denied)) =
+    refused_call_is_board_step b a _ n out' b' sound called.config called.flash kept block (λ same. same)
     (inr (inl denied.0))
-long_turn b a setup body n out' b' sound called block room is_body (inr (kept, inr denied)) =
-    unchanged b a _ n out' b' sound called.config called.flash kept block (λ same. same)
-    (setup_refused b n denied)
+core_too_long_is_board_step b a setup body n out' b' sound called block room is_body (inr (kept, inr denied)) =
+    refused_call_is_board_step b a _ n out' b' sound called.config called.flash kept block (λ same. same)
+    (refused_setup_number b n denied)

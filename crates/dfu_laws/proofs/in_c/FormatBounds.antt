@@ -1,38 +1,39 @@
--- How many pieces a format has.
+-- Bounds of the number of pieces of a format.
 use Rattle.std.proofs.Common.{◌≡◌, inl, inr, Bool, true, false, not, if◌then◌else◌, ◌==◌, ℕ, zero, suc, ◌+◌, ◌-◌, ◌*◌, ◌/◌, ◌%◌, ◌≤◌, ◌<◌, List, [], ◌∷◌, ◌++◌, length, take, drop, refl, ap, arith, length-drop}
 use Rattle.std.proofs.lemmas.Bool.{ne_eqb}
 use Rattle.std.proofs.lemmas.List.{length-take}
 use Rattle.dfu_slots.specs.declared.layout.Unit.{Unit as WriteUnit}
 use Rattle.dfu_slots.specs.declared.layout.Unit.TheVariants.{Byte}
-use Rattle.dfu_slots.specs.Units.{Grain, unit_size, gate_size, gate_room, filled}
+use Rattle.dfu_slots.specs.Units.{Grain, unit_size, gate_size, gate_room, filled_units}
 use Rattle.dfu_slots.specs.Layout.{OPEN, gate_unit, header_unit}
-use Rattle.dfu_slots.specs.Writes.{erases}
-use Rattle.dfu_slots.proofs.Multiples.{filled_within}
+use Rattle.dfu_slots.specs.Writes.{sector_erases}
+use Rattle.dfu_slots.proofs.Multiples.{filled_bytes_within}
 use Rattle.dfu_asks.specs.declared.formatting.FormatStep.TheVariants.{CloseSecond}
-use Rattle.dfu_asks.specs.Steps.{Step, anew_steps, open_steps, close_step}
-use Rattle.dfu_asks.specs.Phases.{piece_steps, image_steps, steps_from}
+use Rattle.dfu_asks.specs.Steps.{Step, write_anew_steps, open_steps, close_step}
+use Rattle.dfu_asks.specs.Phases.{piece_steps, image_steps, format_steps_from}
 use Rattle.dfu_laws.specs.in_c.FormatCounts.{format_erases, format_programs}
 use Rattle.dfu_laws.proofs.board.Pieces.{below_or_not}
-use Rattle.dfu_laws.proofs.board.Counting.{count, count_append, erased, count_anew, erases_parts, spans, spans_add, spans_most, erases_few}
-use Rattle.dfu_laws.proofs.board.Bounds.{one_if, header_length, gate_length, close_count, unit_count, chosen, erased_some}
+use Rattle.dfu_laws.proofs.board.Counting.{piece_count, count_append, erases_for_write, write_anew_count_bound, erases_of_joined_ranges, bytes_of_sectors, bytes_of_sectors_add, sectors_that_fit, sector_erases_bound}
+use Rattle.dfu_laws.proofs.board.Bounds.{number_of_flag, header_unit_at_most_256, gate_unit_length_at_most_256, gate_close_is_one_piece, unit_write_pieces_bound, false_takes_else, erased_with_sectors}
 
--- The image, 4096 bytes at a time.
+-- The image is written 4096 bytes at a time.
 
--- The erases of a range in two parts, if there are sectors.
-erased_parts : (s a b at : ℕ) → length (erased s at (a + b)) ≡ length (erased s at a) + length (erased s (at + a) b)
-erased_parts s a b at = by_test (s == 0)
+-- The erases of a range are as many as those of its two parts together, with sectors or without.
+erased_of_joined_ranges : (s a b at : ℕ) → length (erases_for_write s at (a + b))
+    ≡ length (erases_for_write s at a) + length (erases_for_write s (at + a) b)
+erased_of_joined_ranges s a b at = by_test (s == 0)
   where
-    by_test : (t : Bool) → length (if t then [] else erases s at (a + b))
-        ≡ length (if t then [] else erases s at a) + length (if t then [] else erases s (at + a) b)
+    by_test : (t : Bool) → length (if t then [] else sector_erases s at (a + b))
+        ≡ length (if t then [] else sector_erases s at a) + length (if t then [] else sector_erases s (at + a) b)
     by_test true = refl
-    by_test false = erases_parts s a b at
+    by_test false = erases_of_joined_ranges s a b at
 
--- Bytes that are written 4096 at a time have the pieces of one write.
-pieces_count : (sector n at : ℕ) (bytes : List ℕ)
-    → count (piece_steps sector n at bytes) ≤ length (erased sector at (length bytes)) + (length bytes + 255) / 256
-pieces_count sector zero at bytes = omega arith
-pieces_count sector (suc n) at [] = omega arith
-pieces_count sector (suc n) at (x ∷ xs) =
+-- Bytes that are written 4096 at a time make at most as many pieces as one write of all of them.
+pieces_of_4096_count_bound : (sector n at : ℕ) (bytes : List ℕ)
+    → piece_count (piece_steps sector n at bytes) ≤ length (erases_for_write sector at (length bytes)) + (length bytes + 255) / 256
+pieces_of_4096_count_bound sector zero at bytes = omega arith
+pieces_of_4096_count_bound sector (suc n) at [] = omega arith
+pieces_of_4096_count_bound sector (suc n) at (x ∷ xs) =
     let bytes : List ℕ = x ∷ xs in
     let front : List ℕ = take 4096 bytes in
     let back : List ℕ = drop 4096 bytes in
@@ -44,73 +45,73 @@ pieces_count sector (suc n) at (x ∷ xs) =
           let b : length back ≡ 0 = omega (arith, there, low) in
           omega (
             arith,
-            count_append (anew_steps sector at front) (piece_steps sector n (at + 4096) back),
-            count_anew sector at front,
-            pieces_count sector n (at + 4096) back,
+            count_append (write_anew_steps sector at front) (piece_steps sector n (at + 4096) back),
+            write_anew_count_bound sector at front,
+            pieces_of_4096_count_bound sector n (at + 4096) back,
             a,
             b,
-            ap (λ (i : ℕ). length (erased sector at i)) a,
-            ap (λ (i : ℕ). length (erased sector (at + 4096) i)) b,
-            erased_none sector (at + 4096),
+            ap (λ (i : ℕ). length (erases_for_write sector at i)) a,
+            ap (λ (i : ℕ). length (erases_for_write sector (at + 4096) i)) b,
+            nothing_erased_of_no_bytes sector (at + 4096),
           )
       | inr high ↦
           let a : length front ≡ 4096 = omega (arith, here, high) in
           let e : 4096 + length back ≡ length bytes = omega (arith, there, high) in
           omega (
             arith,
-            count_append (anew_steps sector at front) (piece_steps sector n (at + 4096) back),
-            count_anew sector at front,
-            pieces_count sector n (at + 4096) back,
+            count_append (write_anew_steps sector at front) (piece_steps sector n (at + 4096) back),
+            write_anew_count_bound sector at front,
+            pieces_of_4096_count_bound sector n (at + 4096) back,
             a,
             e,
-            ap (λ (i : ℕ). length (erased sector at i)) a,
-            ap (λ (i : ℕ). length (erased sector at i)) e,
-            erased_parts sector 4096 (length back) at,
+            ap (λ (i : ℕ). length (erases_for_write sector at i)) a,
+            ap (λ (i : ℕ). length (erases_for_write sector at i)) e,
+            erased_of_joined_ranges sector 4096 (length back) at,
           )
     ]
   where
-    erased_none : (s at : ℕ) → length (erased s at 0) ≡ 0
-    erased_none s at = by_test (s == 0)
+    nothing_erased_of_no_bytes : (s at : ℕ) → length (erases_for_write s at 0) ≡ 0
+    nothing_erased_of_no_bytes s at = by_test (s == 0)
       where
-        by_test : (t : Bool) → length (if t then [] else erases s at 0) ≡ 0
+        by_test : (t : Bool) → length (if t then [] else sector_erases s at 0) ≡ 0
         by_test true = refl
         by_test false = refl
 
 -- Sectors.
 
--- Whole sectors are whole pages of 256 bytes, and these whole units.
-spans_pages : (s q : ℕ) → s % 256 ≡ 0 → spans s q % 256 ≡ 0
-spans_pages s zero pages = refl
-spans_pages s (suc q) pages = omega (arith, pages, spans_pages s q pages)
+-- Whole sectors are whole pages of 256 bytes, and whole pages are whole units.
+sectors_are_whole_pages : (s q : ℕ) → s % 256 ≡ 0 → bytes_of_sectors s q % 256 ≡ 0
+sectors_are_whole_pages s zero pages = refl
+sectors_are_whole_pages s (suc q) pages = omega (arith, pages, sectors_are_whole_pages s q pages)
 
-pages_units : (u : WriteUnit) (n : ℕ) → n % 256 ≡ 0 → n % unit_size u ≡ 0
-pages_units Byte n pages = omega arith
-pages_units _ n pages = omega (arith, pages)
+pages_are_whole_units : (u : WriteUnit) (n : ℕ) → n % 256 ≡ 0 → n % unit_size u ≡ 0
+pages_are_whole_units Byte n pages = omega arith
+pages_are_whole_units _ n pages = omega (arith, pages)
 
--- As many sectors as an image begins in hold it, filled up.
-spans_hold : (s n : ℕ) → 0 < s → n ≤ spans s ((n + s - 1) / s)
-spans_hold s n some =
+-- ⌈n / s⌉ sectors of s bytes hold n bytes.
+begun_sectors_hold_bytes : (s n : ℕ) → 0 < s → n ≤ bytes_of_sectors s ((n + s - 1) / s)
+begun_sectors_hold_bytes s n some =
     let q = (n + s - 1) / s in
-    elim (below_or_not (n + s - 1) (spans s (suc q))) [
+    elim (below_or_not (n + s - 1) (bytes_of_sectors s (suc q))) [
       | inl low ↦ omega (arith, low)
-      | inr high ↦ absurd (omega (arith, spans_most s (suc q) (n + s - 1) some high))
+      | inr high ↦ absurd (omega (arith, sectors_that_fit s (suc q) (n + s - 1) some high))
     ]
 
--- Sectors that begin in a range from a sector's edge on are no more than those that hold it.
-sectors_few : (s c q n : ℕ) → 0 < s → n ≤ spans s q → spans s c ≤ n + s - 1 → c ≤ q
-sectors_few s c q n some hold le = elim (below_or_not q c) [
+-- In n bytes at most as many sectors begin as hold n bytes.
+begun_sectors_at_most_holding : (s c q n : ℕ) → 0 < s → n ≤ bytes_of_sectors s q → bytes_of_sectors s c ≤ n + s - 1 → c ≤ q
+begun_sectors_at_most_holding s c q n some hold le = elim (below_or_not q c) [
   | inl more ↦
       let d = c - suc q in
       let e : c ≡ suc q + d = omega (arith, more) in
-      absurd (omega (arith, some, hold, le, ap (λ (i : ℕ). spans s i) e, spans_add s (suc q) d))
+      absurd (omega (arith, some, hold, le, ap (λ (i : ℕ). bytes_of_sectors s i) e, bytes_of_sectors_add s (suc q) d))
   | inr few ↦ few
 ]
 
--- An image that is filled up to whole units has no more programs.
-filled_pages : (u : WriteUnit) (image : List ℕ) → (length (filled u image) + 255) / 256 ≤ (length image + 255) / 256
-filled_pages u image =
+-- An image that is filled up to whole units has no more pages of 256 bytes than before.
+filled_image_has_no_more_pages : (u : WriteUnit) (image : List ℕ) → (length (filled_units u image) + 255) / 256 ≤ (length image + 255) / 256
+filled_image_has_no_more_pages u image =
     let n = (length image + 255) / 256 * 256 in
-    omega (arith, filled_within u n image (pages_units u n (omega arith)) (omega arith))
+    omega (arith, filled_bytes_within u n image (pages_are_whole_units u n (omega arith)) (omega arith))
 
 -- All parts of a format.
 module _ (u : WriteUnit) (sector size crc : ℕ) (image : List ℕ) (pages : sector % 256 ≡ 0) where
@@ -118,39 +119,41 @@ module _ (u : WriteUnit) (sector size crc : ℕ) (image : List ℕ) (pages : sec
   w = record { unit = u; sector = sector }
 
   abbrev units : List ℕ
-  units = filled u image
+  units = filled_units u image
 
   abbrev data_at : ℕ
   data_at = 2 * gate_room w + 0
 
-  image_count : count (image_steps w image 0) ≤ length (erased sector data_at (length units)) + (length units + 255) / 256
-  image_count =
+  format_image_count_bound : piece_count (image_steps w image 0)
+      ≤ length (erases_for_write sector data_at (length units)) + (length units + 255) / 256
+  format_image_count_bound =
       let rest : List ℕ = drop 0 units in
       let e : length rest ≡ length units = omega (arith, length-drop 0 units) in
       omega (
         arith,
-        pieces_count sector (length rest) data_at rest,
+        pieces_of_4096_count_bound sector (length rest) data_at rest,
         e,
-        ap (λ (i : ℕ). length (erased sector data_at i)) e,
+        ap (λ (i : ℕ). length (erases_for_write sector data_at i)) e,
       )
 
-  open_count : count (open_steps w 0 0 (length image) crc) ≤ (one_if (not (sector == 0)) + 1) + (one_if (not (sector == 0)) + 1)
-  open_count =
+  format_open_count_bound : piece_count (open_steps w 0 0 (length image) crc)
+      ≤ (number_of_flag (not (sector == 0)) + 1) + (number_of_flag (not (sector == 0)) + 1)
+  format_open_count_bound =
       let head = header_unit (gate_size u) 0 (length image) crc in
       let gate = gate_unit (gate_size u) OPEN in
       let wide : 0 < sector → 256 ≤ sector = λ some. omega (arith, some, pages) in
       omega (
         arith,
-        count_append (anew_steps sector (0 + gate_room w) head) (anew_steps sector 0 gate),
-        count_anew sector (0 + gate_room w) head,
-        count_anew sector 0 gate,
-        unit_count sector (0 + gate_room w) (length head) wide (header_length u 0 (length image) crc),
-        unit_count sector 0 (length gate) wide (gate_length u OPEN),
+        count_append (write_anew_steps sector (0 + gate_room w) head) (write_anew_steps sector 0 gate),
+        write_anew_count_bound sector (0 + gate_room w) head,
+        write_anew_count_bound sector 0 gate,
+        unit_write_pieces_bound sector (0 + gate_room w) (length head) wide (header_unit_at_most_256 u 0 (length image) crc),
+        unit_write_pieces_bound sector 0 (length gate) wide (gate_unit_length_at_most_256 u OPEN),
       )
 
-  all_count : count (steps_from w size image crc CloseSecond)
-      ≤ 2 + (length (erased sector data_at (length units)) + (length units + 255) / 256)
-      + ((one_if (not (sector == 0)) + 1) + (one_if (not (sector == 0)) + 1))
+  all_count : piece_count (format_steps_from w size image crc CloseSecond)
+      ≤ 2 + (length (erases_for_write sector data_at (length units)) + (length units + 255) / 256)
+      + ((number_of_flag (not (sector == 0)) + 1) + (number_of_flag (not (sector == 0)) + 1))
   all_count =
       let rest = image_steps w image 0 ++ open_steps w 0 0 (length image) crc in
       let second : List Step = close_step w size ∷ [] in
@@ -160,39 +163,40 @@ module _ (u : WriteUnit) (sector size crc : ℕ) (image : List ℕ) (pages : sec
         count_append second (first ++ rest),
         count_append first rest,
         count_append (image_steps w image 0) (open_steps w 0 0 (length image) crc),
-        close_count u sector size,
-        close_count u sector 0,
-        image_count,
-        open_count,
+        gate_close_is_one_piece u sector size,
+        gate_close_is_one_piece u sector 0,
+        format_image_count_bound,
+        format_open_count_bound,
       )
 
-image_erases : (u : WriteUnit) (k at : ℕ) (image : List ℕ) → suc k % 256 ≡ 0
-    → length (erased (suc k) at (length (filled u image))) ≤ (length image + suc k - 1) / suc k
-image_erases u k at image pages =
+format_image_erases_bound : (u : WriteUnit) (k at : ℕ) (image : List ℕ) → suc k % 256 ≡ 0
+    → length (erases_for_write (suc k) at (length (filled_units u image))) ≤ (length image + suc k - 1) / suc k
+format_image_erases_bound u k at image pages =
     let s = suc k in
     let some : 0 < s = omega arith in
-    let n = length (filled u image) in
+    let n = length (filled_units u image) in
     let q = (length image + s - 1) / s in
     let on : (s == 0) ≡ false = ne_eqb s 0 (omega arith) in
-    let hold : n ≤ spans s q = filled_within u (spans s q) image (pages_units u (spans s q) (spans_pages s q pages))
-    (spans_hold s (length image) some) in
-    let le : spans s (length (erases s at n)) ≤ n + s - 1 = omega (arith, erases_few s some n at) in
-    omega (arith, erased_some s at n on, sectors_few s (length (erases s at n)) q n some hold le)
+    let hold : n ≤ bytes_of_sectors s q = filled_bytes_within u (bytes_of_sectors s q) image (pages_are_whole_units u (bytes_of_sectors s
+    q) (sectors_are_whole_pages s q pages))
+    (begun_sectors_hold_bytes s (length image) some) in
+    let le : bytes_of_sectors s (length (sector_erases s at n)) ≤ n + s - 1 = omega (arith, sector_erases_bound s some n at) in
+    omega (arith, erased_with_sectors s at n on, begun_sectors_at_most_holding s (length (sector_erases s at n)) q n some hold le)
 
--- A format has at most so many pieces.
-pub format_count : (u : WriteUnit) (sector size crc : ℕ) (image : List ℕ) → sector % 256 ≡ 0
-    → count (steps_from (record { unit = u; sector = sector }) size image crc CloseSecond)
+-- A format has at most `format_erases` plus `format_programs` pieces.
+pub format_pieces_bound : (u : WriteUnit) (sector size crc : ℕ) (image : List ℕ) → sector % 256 ≡ 0
+    → piece_count (format_steps_from (record { unit = u; sector = sector }) size image crc CloseSecond)
     ≤ format_erases (length image) sector + format_programs (length image) sector
-format_count u zero size crc image pages = omega (arith, all_count u 0 size crc image pages, filled_pages u image)
-format_count u (suc k) size crc image pages =
+format_pieces_bound u zero size crc image pages = omega (arith, all_count u 0 size crc image pages, filled_image_has_no_more_pages u image)
+format_pieces_bound u (suc k) size crc image pages =
     let on : (suc k == 0) ≡ false = ne_eqb (suc k) 0 (omega arith) in
     omega (
       arith,
       all_count u (suc k) size crc image pages,
-      filled_pages u image,
-      image_erases u k (data_at u (suc k) size crc image pages) image pages,
-      ap (λ (b : Bool). one_if (not b)) on,
-      chosen (suc k == 0) on (4 + (length image + suc k - 1) / suc k),
+      filled_image_has_no_more_pages u image,
+      format_image_erases_bound u k (data_at u (suc k) size crc image pages) image pages,
+      ap (λ (b : Bool). number_of_flag (not b)) on,
+      false_takes_else (suc k == 0) on (4 + (length image + suc k - 1) / suc k),
       fewer (suc k == 0) on,
     )
   where

@@ -1,14 +1,14 @@
--- A payload in place on a board in C stays what runs, while it is on trial.
+-- A payload that was put in place on trial on a board in C is what runs, as `CoreReportedTrialStays` says.
 use Rattle.dfu_boot.specs.trial.Trial.{image_at}
 use Rattle.dfu_boot.specs.trial.Lists.{Tried}
 use Rattle.dfu_core.specs.Board.{medium_of_core}
-use Rattle.dfu_laws.specs.in_c.Plays.{CorePlaysInstall}
-use Rattle.dfu_laws.specs.in_c.Stays.{CorePlaysStay}
+use Rattle.dfu_laws.specs.in_c.Plays.{CoreReportMeansInPlace}
+use Rattle.dfu_laws.specs.in_c.Stays.{CoreReportedTrialStays}
 use Rattle.dfu_laws.proofs.link.Stays.{TrialIsTrusted, ListIsTrusted}
 
-pub core_stay : TrialIsTrusted → ListIsTrusted → CorePlaysInstall → CorePlaysStay
-core_stay tried list_is installs b steps more past last l l' answer tries t list on plays comes says are stands came =
-    let x = installs b steps more past last l l' answer on plays comes says in
+pub core_reported_trial_stays : TrialIsTrusted → ListIsTrusted → CoreReportMeansInPlace → CoreReportedTrialStays
+core_reported_trial_stays tried list_is installs b steps more past back last l l' answer tries t list on plays comes says are stands came =
+    let x = installs b steps more past back last l l' answer on plays comes says in
     let m = medium_of_core l'.board in
     record {
       payload = x.payload;

@@ -1,4 +1,4 @@
--- Whole histories are kept.
+-- Histories of a device, as runs of the standard's table.
 use Rattle.std.specs.Prelude.{◌≡◌, ℕ, ◌<◌, Bool, true, false, List, [], ◌∷◌, length}
 use Rattle.std.proofs.Common.{refl, sym, ap, subst, ◌∙◌, inl, inr, lit<, ◌==◌}
 use Rattle.std.proofs.lemmas.Bool.{and_left, eq-eqb, eqb-true, cond-true, false≢true}
@@ -8,8 +8,8 @@ use Rattle.dfu_wire.specs.declared.requests.Request.{Request as Asked}
 use Rattle.dfu_wire.specs.declared.requests.Request.TheVariants as asked
 use Rattle.dfu_wire.specs.Setup.{IsSetup}
 use Rattle.dfu_wire.specs.Request.{SetupRequest}
-use Rattle.dfu_wire.specs.OneValue.{IsSetup-one}
-use Rattle.dfu_wire.specs.OneRequest.{SetupRequest-one}
+use Rattle.dfu_wire.specs.OneValue.{setup_bytes_one_value}
+use Rattle.dfu_wire.specs.OneRequest.{setup_asks_once}
 use Rattle.dfu_device.specs.declared.objection.Objection.{Objection}
 use Rattle.dfu_device.specs.declared.answer.Answer.{Answer}
 use Rattle.dfu_device.specs.declared.answer.Answer.TheVariants as answer
@@ -17,196 +17,228 @@ use Rattle.dfu_device.specs.Setting.{Setting}
 use Rattle.dfu_device.specs.Stage.{Profile, Stage, InDownloadIdle, InManifestSyncComplete, InUploadIdle, InError}
 use Rattle.dfu_device.specs.Table.{objection_code, may_close, Plan, Sure, Writes, Commits, plan, time_plan}
 use Rattle.dfu_device.specs.DeviceView.{DeviceView, profile, profile_of}
-use Rattle.dfu_device.specs.Rows.{Done, meant, Cause, Transfer, Passing, BusReset, RefusingClose, Refusing, PowerOn, Handles, Row, is_close, IsCloseSetup, body_length, is_served, asked_length}
+use Rattle.dfu_device.specs.Rows.{Done, request_for_table, Cause, Transfer, Passing, BusReset, RefusingClose, Refusing, PowerOn, Handles, Row, is_close, IsCloseSetup, body_length, is_served, asked_length}
 use Rattle.dfu_device.specs.PlanOutcomes.{row_of, not_served}
 use Rattle.dfu_slots.specs.StoreView.{image_of, room_of}
 use Rattle.dfu_conformance.specs.declared.row.StandardState.{StandardState}
 use Rattle.dfu_conformance.specs.declared.row.StandardState.TheVariants as place
 use Rattle.dfu_conformance.specs.declared.event.LogEvent.{LogEvent}
-use Rattle.dfu_conformance.specs.RowMatches.{stays_at, asks}
+use Rattle.dfu_conformance.specs.RowMatches.{device_stays_at, asks}
 use Rattle.dfu_conformance.specs.Setups.{event_of, is_plain}
 use Rattle.dfu_conformance.specs.MayAnswer.{Run}
-use Rattle.dfu_conformance.proofs.ForCallers.{moves_first}
-use Rattle.dfu_laws.specs.judge.Conformity.{attributes, attributes_of, place_of, seen, AddsEvent, EventsOfStep, StageInvariant, NeedsManifestTime, HistoriesConform, StartsConform}
-use Rattle.dfu_laws.proofs.judge.Leads.{PlanKept, stalls, write_stands, commit_stands}
-use Rattle.dfu_laws.proofs.judge.Rows.{plan_kept}
-use Rattle.dfu_laws.proofs.judge.Seen.{LedOn}
-use Rattle.dfu_laws.proofs.judge.Passing.{time_kept, time_moved, reset_led, reset_stands, refusal_moved, objection_stands, power_led}
+use Rattle.dfu_conformance.proofs.ForCallers.{run_from_move}
+use Rattle.dfu_laws.specs.judge.Conformity.{attributes, attributes_of, place_of, seen, TransferAddsEvent, EventsOfStep, StageInvariant, NeedsManifestTime, HistoriesConform, DevicesFromStartConform}
+use Rattle.dfu_laws.proofs.judge.Leads.{PlanOutcomesLead, stall_row_leads, write_code_allowed_in_error, commit_code_allowed_in_error}
+use Rattle.dfu_laws.proofs.judge.Rows.{all_plans_lead}
+use Rattle.dfu_laws.proofs.judge.Seen.{EventLeadsOn}
+use Rattle.dfu_laws.proofs.judge.Passing.{time_plan_moves, passed_time_moves_device, reset_leads_run_on, reset_stage_keeps_invariant, late_refusal_moves_device, objection_code_allowed_in_error, power_leads_run_on}
 
--- A plan that is kept and was carried out led the device on.
-done_led : (pl : Plan) (c : Profile) (p : Setup) (q : Asked) (body : List ℕ) (st : Stage) (w : DeviceView) (a : Answer) (out : List ℕ)
-    (w' : DeviceView) → PlanKept c p q body st pl → Done pl (asked_length q) w a out w'
-    → LedOn (attributes_of c) (place_of st) (event_of p q (length body) (seen a out)) (place_of w'.stage) × StageInvariant c w'.stage
-done_led (Sure reply next) c p q body st w a out w' (leads, stands) (says, is) =
-    subst (λ (z : DeviceView). LedOn (attributes_of c) (place_of st) (event_of p q (length body) (seen a out)) (place_of z.stage)
+-- A plan that is kept and was carried out led the device on by a row of the standard's table.
+done_plan_leads_on : (pl : Plan) (c : Profile) (p : Setup) (q : Asked) (body : List ℕ) (st : Stage) (w : DeviceView) (a : Answer) (out :
+    List ℕ)
+    (w' : DeviceView) → PlanOutcomesLead c p q body st pl → Done pl (asked_length q) w a out w'
+    → EventLeadsOn (attributes_of c) (place_of st) (event_of p q (length body) (seen a out)) (place_of w'.stage) × StageInvariant c w'.stage
+done_plan_leads_on (Sure reply next) c p q body st w a out w' (leads, stands) (says, is) =
+    subst (λ (z : DeviceView). EventLeadsOn (attributes_of c) (place_of st) (event_of p q (length body) (seen a out)) (place_of z.stage)
     × StageInvariant c z.stage)
     (sym is) (leads a out says, stands)
-done_led (Writes before block reply next bad) c p q body st w a out w' ((leads, stands), fails) (inl (says, h)) =
-    subst (λ (z : Stage). LedOn (attributes_of c) (place_of st) (event_of p q (length body) (seen a out)) (place_of z) × StageInvariant c z)
+done_plan_leads_on (Writes before block reply next bad) c p q body st w a out w' ((leads, stands), fails) (inl (says, h)) =
+    subst (λ (z : Stage). EventLeadsOn (attributes_of c) (place_of st) (event_of p q (length body) (seen a out)) (place_of z)
+    × StageInvariant c z)
     (sym h.stage_is) (leads a out says, stands)
-done_led (Writes before block reply next bad) c p q body st w a out w' ((leads, stands), fails) (inr (fault, says, h)) =
-    subst (λ (z : Stage). LedOn (attributes_of c) (place_of st) (event_of p q (length body) (seen a out)) (place_of z) × StageInvariant c z)
-    (sym h.stage_is) (fails fault a out says, write_stands c fault)
-done_led (Commits taken reply next bad) c p q body st w a out w' ((leads, stands), fails) (inl (says, h)) =
-    subst (λ (z : Stage). LedOn (attributes_of c) (place_of st) (event_of p q (length body) (seen a out)) (place_of z) × StageInvariant c z)
+done_plan_leads_on (Writes before block reply next bad) c p q body st w a out w' ((leads, stands), fails) (inr (fault, says, h)) =
+    subst (λ (z : Stage). EventLeadsOn (attributes_of c) (place_of st) (event_of p q (length body) (seen a out)) (place_of z)
+    × StageInvariant c z)
+    (sym h.stage_is) (fails fault a out says, write_code_allowed_in_error c fault)
+done_plan_leads_on (Commits taken reply next bad) c p q body st w a out w' ((leads, stands), fails) (inl (says, h)) =
+    subst (λ (z : Stage). EventLeadsOn (attributes_of c) (place_of st) (event_of p q (length body) (seen a out)) (place_of z)
+    × StageInvariant c z)
     (sym h.stage_is) (leads a out says, stands)
-done_led (Commits taken reply next bad) c p q body st w a out w' ((leads, stands), fails) (inr (fault, says, h)) =
-    subst (λ (z : Stage). LedOn (attributes_of c) (place_of st) (event_of p q (length body) (seen a out)) (place_of z) × StageInvariant c z)
-    (sym h.stage_is) (fails fault a out says, commit_stands c fault)
+done_plan_leads_on (Commits taken reply next bad) c p q body st w a out w' ((leads, stands), fails) (inr (fault, says, h)) =
+    subst (λ (z : Stage). EventLeadsOn (attributes_of c) (place_of st) (event_of p q (length body) (seen a out)) (place_of z)
+    × StageInvariant c z)
+    (sym h.stage_is) (fails fault a out says, commit_code_allowed_in_error c fault)
 
--- A plan that was carried out keeps what the device is set up with.
-done_config : (pl : Plan) (len : ℕ) (w : DeviceView) (a : Answer) (out : List ℕ) (w' : DeviceView) → Done pl len w a out w' → w'.config ≡ w.config
-done_config (Sure reply next) len w a out w' (says, is) = ap (λ (z : DeviceView). z.config) is
-done_config (Writes before block reply next bad) len w a out w' (inl (says, h)) = h.config_is
-done_config (Writes before block reply next bad) len w a out w' (inr (fault, says, h)) = h.config_is
-done_config (Commits taken reply next bad) len w a out w' (inl (says, h)) = h.config_is
-done_config (Commits taken reply next bad) len w a out w' (inr (fault, says, h)) = h.config_is
+-- A plan that was carried out keeps the setting of the device.
+done_plan_keeps_config : (pl : Plan) (len : ℕ) (w : DeviceView) (a : Answer) (out : List ℕ) (w' : DeviceView) → Done pl len w a out w' →
+    w'.config ≡ w.config
+done_plan_keeps_config (Sure reply next) len w a out w' (says, is) = ap (λ (z : DeviceView). z.config) is
+done_plan_keeps_config (Writes before block reply next bad) len w a out w' (inl (says, h)) = h.config_is
+done_plan_keeps_config (Writes before block reply next bad) len w a out w' (inr (fault, says, h)) = h.config_is
+done_plan_keeps_config (Commits taken reply next bad) len w a out w' (inl (says, h)) = h.config_is
+done_plan_keeps_config (Commits taken reply next bad) len w a out w' (inr (fault, says, h)) = h.config_is
 
--- The request is of the class and for interface 0.
-abbrev pub IsOurs : Asked → Type 0
-IsOurs asked.NotDfu = ⊥
-IsOurs q = Unit {0}
+-- The request is a class request for interface 0.
+abbrev pub IsClassForInterface0 : Asked → Type 0
+IsClassForInterface0 asked.NotDfu = ⊥
+IsClassForInterface0 q = Unit {0}
 
--- A body of another length than its setup says is not as section 3 has it.
-unserved : (p : Setup) (q : Asked) (body : List ℕ) → IsOurs q → is_served p q body ≡ false → is_plain p q (length body) ≡ false
-unserved p asked.NotDfu body ours off = absurd ours
-unserved p q body ours off = and_left _ _ off
+-- A transfer whose body has another length than its setup says is no request as section 3 has it.
+unserved_request_is_not_plain : (p : Setup) (q : Asked) (body : List ℕ) → IsClassForInterface0 q → is_served p q body ≡ false →
+    is_plain p q (length body) ≡ false
+unserved_request_is_not_plain p asked.NotDfu body ours off = absurd ours
+unserved_request_is_not_plain p q body ours off = and_left _ _ off
 
--- A transfer that goes by the table led the device on, and so did one that does not, which was stalled and changed nothing.
-transfer_kept : (w : DeviceView) (setup body : List ℕ) (a : Answer) (out : List ℕ) (w' : DeviceView) (p : Setup) (q : Asked) (b : Bool)
-    → NeedsManifestTime (profile w) → StageInvariant (profile w) w.stage → IsSetup p setup → SetupRequest p q → IsOurs q
+-- A transfer led the device on: by its row, or, if its body or setup is not as section 3 has it, by a stall that changed nothing.
+transfer_leads_on : (w : DeviceView) (setup body : List ℕ) (a : Answer) (out : List ℕ) (w' : DeviceView) (p : Setup) (q : Asked) (b : Bool)
+    → NeedsManifestTime (profile w) → StageInvariant (profile w) w.stage → IsSetup p setup → SetupRequest p q → IsClassForInterface0 q
     → is_served p q body ≡ b → Handles setup body w a out w'
-    → LedOn (attributes_of (profile w)) (place_of w.stage) (event_of p q (length body) (seen a out)) (place_of w'.stage)
+    → EventLeadsOn (attributes_of (profile w)) (place_of w.stage) (event_of p q (length body) (seen a out)) (place_of w'.stage)
     × StageInvariant (profile w) w'.stage × (w'.config ≡ w.config)
-transfer_kept w setup body a out w' p q true takes stands reads asks ours on h =
+transfer_leads_on w setup body a out w' p q true takes stands reads asks ours on h =
     let done = row_of p q setup body w a out w' reads asks h in
-    let led = done_led (plan (profile w) (image_of w.slots) w.stage (meant q body)) (profile w) p q body w.stage w a out w'
-    (plan_kept (profile w) (image_of w.slots) w.stage p q body takes stands asks on) (rw on at done) in
-    (led.0, led.1, done_config _ (asked_length q) w a out w' done)
-transfer_kept w setup body a out w' p q false takes stands reads asks ours off h =
+    let led = done_plan_leads_on (plan (profile w) (image_of w.slots) w.stage (request_for_table q body)) (profile w) p q body w.stage w a
+    out w'
+    (all_plans_lead (profile w) (image_of w.slots) w.stage p q body takes stands asks on) (rw on at done) in
+    (led.0, led.1, done_plan_keeps_config _ (asked_length q) w a out w' done)
+transfer_leads_on w setup body a out w' p q false takes stands reads asks ours off h =
     let (stall, same) = not_served p q setup body w a out w' reads asks off h in
-    subst (λ (z : DeviceView). LedOn (attributes_of (profile w)) (place_of w.stage) (event_of p q (length body) (seen a out)) (place_of z.stage)
+    subst (λ (z : DeviceView). EventLeadsOn (attributes_of (profile w)) (place_of w.stage) (event_of p q (length body) (seen a out))
+    (place_of z.stage)
     × StageInvariant (profile w) z.stage × (z.config ≡ w.config)) (sym same) (
-      (place_of w.stage, inl refl, inr (inr (inr (refl, (λ k. stays_at (unserved p q body ours off k) (seen (stall k) out)))))),
+      (
+        place_of w.stage,
+        inl refl,
+        inr (inr (inr (
+          refl,
+          (λ k. device_stays_at (unserved_request_is_not_plain p q body ours off k) (seen
+              (stall k) out)),
+        ))),
+      ),
       stands,
       refl,
     )
 
--- A step is kept: a run from its end is one from its beginning, with the events that were seen of it.
-abbrev pub StepKept : DeviceView → DeviceView → (rest events : List LogEvent) → Type 0
-StepKept w w' rest events =
+-- A run of the standard's table from the end of a step is one from its beginning, with the events of the step before it.
+abbrev pub StepExtendsRun : DeviceView → DeviceView → (rest events : List LogEvent) → Type 0
+StepExtendsRun w w' rest events =
     ((last : StandardState) → Run (attributes_of (profile w)) 0 (place_of w'.stage) rest last
     → Run (attributes_of (profile w)) 0 (place_of w.stage) events last)
     × StageInvariant (profile w) w'.stage × (w'.config ≡ w.config)
 
 -- An event that led a device on, and is seen, is the head of a run.
-led_step : (w w' : DeviceView) (e : LogEvent) (rest events : List LogEvent) → events ≡ e ∷ rest
-    → LedOn (attributes_of (profile w)) (place_of w.stage) e (place_of w'.stage) × StageInvariant (profile w) w'.stage
-    × (w'.config ≡ w.config) → StepKept w w' rest events
-led_step w w' e rest events adds ((here, moved, may), stands, config) = (
+led_event_extends_run : (w w' : DeviceView) (e : LogEvent) (rest events : List LogEvent) → events ≡ e ∷ rest
+    → EventLeadsOn (attributes_of (profile w)) (place_of w.stage) e (place_of w'.stage) × StageInvariant (profile w) w'.stage
+    × (w'.config ≡ w.config) → StepExtendsRun w w' rest events
+led_event_extends_run w w' e rest events adds ((here, moved, may), stands, config) = (
   λ last run. subst (λ (es : List LogEvent). Run (attributes_of (profile w)) 0 (place_of w.stage) es last) (sym adds)
       (here, place_of w'.stage, moved, may, run),
   stands,
   config,
 )
 
-by_request : (w : DeviceView) (setup body : List ℕ) (a : Answer) (out : List ℕ) (w' : DeviceView) (rest events : List LogEvent) (p : Setup)
+request_extends_run : (w : DeviceView) (setup body : List ℕ) (a : Answer) (out : List ℕ) (w' : DeviceView) (rest events : List LogEvent) (p
+    : Setup)
     (q : Asked)
     → NeedsManifestTime (profile w) → StageInvariant (profile w) w.stage → IsSetup p setup → SetupRequest p q
-    → Handles setup body w a out w' → AddsEvent p q body (seen a out) rest events → StepKept w w' rest events
-by_request w setup body a out w' rest events p asked.NotDfu takes stands reads asks h adds =
+    → Handles setup body w a out w' → TransferAddsEvent p q body (seen a out) rest events → StepExtendsRun w w' rest events
+request_extends_run w setup body a out w' rest events p asked.NotDfu takes stands reads asks h adds =
     let (stall, same) = not_served p asked.NotDfu setup body w a out w' reads asks refl h in
-    subst (λ (z : DeviceView). StepKept w z rest events) (sym same)
+    subst (λ (z : DeviceView). StepExtendsRun w z rest events) (sym same)
     (λ last run. subst (λ (es : List LogEvent). Run (attributes_of (profile w)) 0 (place_of w.stage) es last) (sym adds) run, stands, refl)
-by_request w setup body a out w' rest events p q takes stands reads asks h adds =
-    led_step w w' _ rest events adds (transfer_kept w setup body a out w' p q _ takes stands reads asks tt refl h)
+request_extends_run w setup body a out w' rest events p q takes stands reads asks h adds =
+    led_event_extends_run w w' _ rest events adds (transfer_leads_on w setup body a out w' p q _ takes stands reads asks tt refl h)
 
 -- A request that closes a download is a DNLOAD with wLength 0, read as any other setup.
-close_read : (setup : List ℕ) (p : Setup) (q : Asked) → IsSetup p setup → SetupRequest p q → IsCloseSetup setup → is_close q ≡ true
-close_read setup p q reads asks (p2, q2, reads2, asks2, close) =
-    let same : p2 ≡ p = IsSetup-one p2 p setup reads2 reads in
-    subst (λ (r : Asked). is_close r ≡ true) (SetupRequest-one p q2 q (subst (λ (x : Setup). SetupRequest x q2) same asks2) asks) close
+close_setup_reads_as_close : (setup : List ℕ) (p : Setup) (q : Asked) → IsSetup p setup → SetupRequest p q → IsCloseSetup setup →
+    is_close q ≡ true
+close_setup_reads_as_close setup p q reads asks (p2, q2, reads2, asks2, close) =
+    let same : p2 ≡ p = setup_bytes_one_value p2 p setup reads2 reads in
+    subst (λ (r : Asked). is_close r ≡ true) (setup_asks_once p q2 q (subst (λ (x : Setup). SetupRequest x q2) same asks2) asks) close
 
--- A close that the program refuses.
-close_kept : (w : DeviceView) (a : Answer) (out : List ℕ) (w' : DeviceView) (rest events : List LogEvent) (p : Setup) (q : Asked)
+-- A close that the program refuses is a stall in the standard's table.
+refused_close_extends_run : (w : DeviceView) (a : Answer) (out : List ℕ) (w' : DeviceView) (rest events : List LogEvent) (p : Setup) (q :
+    Asked)
     (why : Objection) (st : Stage) → is_close q ≡ true → SetupRequest p q → may_close w.config.least st ≡ true → w.stage ≡ st
     → (a ≡ answer.Stall) × (out ≡ [])
-    → w' ≡ record w { stage = InError (objection_code why) } → AddsEvent p q [] (seen a out) rest events → StepKept w w' rest events
-close_kept w a out w' rest events p (asked.Dnload number len) why (InDownloadIdle taken next) close asks may at says same adds =
+    → w' ≡ record w { stage = InError (objection_code why) } → TransferAddsEvent p q [] (seen a out) rest events →
+    StepExtendsRun w w' rest events
+refused_close_extends_run w a out w' rest events p (asked.Dnload number len) why (InDownloadIdle taken next) close asks may at says same
+    adds =
     let empty : len ≡ 0 = eqb-true len 0 close in
     let served : is_served p (asked.Dnload number len) [] ≡ true =
     eq-eqb 0 (body_length p) (sym (cond-true (p.kind == 0x21) p.length 0 (eq-eqb _ _ asks.0.kind) ∙ sym asks.2 ∙ empty)) in
-    let led = stalls (profile w) p (asked.Dnload number len) [] (InDownloadIdle taken next) (InError (objection_code why)) asks served refl
+    let led = stall_row_leads (profile w) p (asked.Dnload number len) [] (InDownloadIdle taken next) (InError (objection_code why)) asks
+    served refl
     a out says in
-    led_step w w' _ rest events adds (
-      subst (λ (z : DeviceView). LedOn (attributes_of (profile w)) (place_of w.stage) (event_of p (asked.Dnload number len) 0 (seen a out))
+    led_event_extends_run w w' _ rest events adds (
+      subst (λ (z : DeviceView). EventLeadsOn (attributes_of (profile w)) (place_of w.stage) (event_of p (asked.Dnload number len) 0 (seen
+          a out))
           (place_of z.stage)) (sym same)
-          (subst (λ (x : Stage). LedOn (attributes_of (profile w)) (place_of x) (event_of p (asked.Dnload number len) 0 (seen a out))
+          (subst (λ (x : Stage). EventLeadsOn (attributes_of (profile w)) (place_of x) (event_of p (asked.Dnload number len) 0 (seen a out))
           place.Error) (sym at) led),
-      subst (λ (z : DeviceView). StageInvariant (profile w) z.stage) (sym same) (objection_stands (profile w) why),
+      subst (λ (z : DeviceView). StageInvariant (profile w) z.stage) (sym same) (objection_code_allowed_in_error (profile w) why),
       ap (λ (z : DeviceView). z.config) same,
     )
-close_kept w a out w' rest events p (asked.Dnload number len) why st close asks may at says same adds = absurd (false≢true may)
-close_kept w a out w' rest events p q why st close asks may at says same adds = absurd (false≢true close)
+refused_close_extends_run w a out w' rest events p (asked.Dnload number len) why st close asks may at says same adds = absurd (false≢true
+    may)
+refused_close_extends_run w a out w' rest events p q why st close asks may at says same adds = absurd (false≢true close)
 
--- A step of a history.
-step_kept : (w : DeviceView) (cause : Cause) (a : Answer) (out : List ℕ) (w' : DeviceView) (rest events : List LogEvent)
+-- Each step of a history extends a run of the standard's table.
+history_step_extends_run : (w : DeviceView) (cause : Cause) (a : Answer) (out : List ℕ) (w' : DeviceView) (rest events : List LogEvent)
     → NeedsManifestTime (profile w) → StageInvariant (profile w) w.stage → Row w cause a out w' → EventsOfStep cause a out rest events
-    → StepKept w w' rest events
-step_kept w (Transfer setup body) a out w' rest events takes stands row (p, q, reads, asks, adds) =
-    by_request w setup body a out w' rest events p q takes stands reads asks row adds
-step_kept w (Passing ms) a out w' rest events takes stands row same =
-    let kept = time_kept (profile w) w.stage ms stands in
-    let moved = time_moved (time_plan (profile w) w.stage ms) (profile w) w.stage w answer.Ack [] w' kept row.2 in (
+    → StepExtendsRun w w' rest events
+history_step_extends_run w (Transfer setup body) a out w' rest events takes stands row (p, q, reads, asks, adds) =
+    request_extends_run w setup body a out w' rest events p q takes stands reads asks row adds
+history_step_extends_run w (Passing ms) a out w' rest events takes stands row same =
+    let kept = time_plan_moves (profile w) w.stage ms stands in
+    let moved = passed_time_moves_device (time_plan (profile w) w.stage ms) (profile w) w.stage w answer.Ack [] w' kept row.2 in (
       λ last run. subst (λ (es : List LogEvent). Run (attributes_of (profile w)) 0 (place_of w.stage) es last) (sym same)
-          (moves_first (attributes_of (profile w)) 0 (place_of w.stage) (place_of w'.stage) rest last moved.0 run),
+          (run_from_move (attributes_of (profile w)) 0 (place_of w.stage) (place_of w'.stage) rest last moved.0 run),
       moved.1,
-      done_config _ 0 w answer.Ack [] w' row.2,
+      done_plan_keeps_config _ 0 w answer.Ack [] w' row.2,
     )
-step_kept w BusReset a out w' rest events takes stands row adds =
-    subst (λ (z : DeviceView). StepKept w z rest events) (sym row.2) (
+history_step_extends_run w BusReset a out w' rest events takes stands row adds =
+    subst (λ (z : DeviceView). StepExtendsRun w z rest events) (sym row.2) (
       λ last run. subst (λ (es : List LogEvent). Run (attributes_of (profile w)) 0 (place_of w.stage) es last) (sym adds)
-          (reset_led (attributes_of (profile w)) w.stage rest last run),
-      reset_stands (profile w) w.stage,
+          (reset_leads_run_on (attributes_of (profile w)) w.stage rest last run),
+      reset_stage_keeps_invariant (profile w) w.stage,
       refl,
     )
-step_kept w (RefusingClose setup why) a out w' rest events takes stands (stall, none, closes, same) (p, q, reads, asks, adds) =
-    close_kept w a out w' rest events p q why w.stage (close_read setup p q reads asks closes.0) asks closes.1 refl (stall, none) same adds
-step_kept w (Refusing why) a out w' rest events takes stands row same =
-    let moved = refusal_moved (profile w) why w.stage stands in
-    subst (λ (z : DeviceView). StepKept w z rest events) (sym row.2) (
+history_step_extends_run w (RefusingClose setup why) a out w' rest events takes stands (stall, none, closes, same) (
+  p,
+  q,
+  reads,
+  asks,
+  adds,
+) =
+    refused_close_extends_run w a out w' rest events p q why w.stage (close_setup_reads_as_close setup p q reads asks closes.0) asks
+    closes.1 refl (stall, none) same adds
+history_step_extends_run w (Refusing why) a out w' rest events takes stands row same =
+    let moved = late_refusal_moves_device (profile w) why w.stage stands in
+    subst (λ (z : DeviceView). StepExtendsRun w z rest events) (sym row.2) (
       λ last run. subst (λ (es : List LogEvent). Run (attributes_of (profile w)) 0 (place_of w.stage) es last) (sym same)
-          (moves_first (attributes_of (profile w)) 0 (place_of w.stage) _ rest last moved.0 run),
+          (run_from_move (attributes_of (profile w)) 0 (place_of w.stage) _ rest last moved.0 run),
       moved.1,
       refl,
     )
-step_kept w PowerOn a out w' rest events takes stands row adds =
-    subst (λ (z : DeviceView). StepKept w z rest events) (sym row.2) (
+history_step_extends_run w PowerOn a out w' rest events takes stands row adds =
+    subst (λ (z : DeviceView). StepExtendsRun w z rest events) (sym row.2) (
       λ last run. subst (λ (es : List LogEvent). Run (attributes_of (profile w)) 0 (place_of w.stage) es last) (sym adds)
-          (power_led (attributes_of (profile w)) w.stage rest last run),
+          (power_leads_run_on (attributes_of (profile w)) w.stage rest last run),
       tt,
       refl,
     )
 
--- Whatever history a device has, it is kept.
-pub history_kept : HistoriesConform
-history_kept [] events w w' takes stands is none_seen =
+-- The events of each history are a run of the standard's table.
+pub histories_conform : HistoriesConform
+histories_conform [] events w w' takes stands is none_seen =
     subst (λ (z : DeviceView). Run (attributes_of (profile w)) 0 (place_of w.stage) events (place_of z.stage)
     × StageInvariant (profile z) z.stage) (sym is) (
       subst (λ (es : List LogEvent). Run (attributes_of (profile w)) 0 (place_of w.stage) es (place_of w.stage)) (sym none_seen)
           (inl refl),
       stands,
     )
-history_kept (s ∷ h) events w w' takes stands (begins, row, after) (rest, tells, are_seen) =
+histories_conform (s ∷ h) events w w' takes stands (begins, row, after) (rest, tells, are_seen) =
     let takes_before : NeedsManifestTime (profile s.before) = subst (λ (z : DeviceView). NeedsManifestTime (profile z)) (sym begins) takes in
     let stands_before : StageInvariant (profile s.before) s.before.stage = subst (λ (z : DeviceView). StageInvariant (profile z) z.stage) (sym begins) stands in
     let (runs, stands_after, config) =
-    step_kept s.before s.cause s.answer s.out s.after rest events takes_before stands_before row tells in
+    history_step_extends_run s.before s.cause s.answer s.out s.after rest events takes_before stands_before row tells in
     let takes_after : NeedsManifestTime (profile s.after) =
     subst (λ (x : Setting). NeedsManifestTime (profile_of x (room_of s.after.slots))) (sym config) takes_before in
     let stands_there : StageInvariant (profile s.after) s.after.stage =
-    stands_with s.before s.after s.after.stage config stands_after in
-    let (run, at_last) = history_kept h rest s.after w' takes_after stands_there after are_seen in
+    stage_invariant_of_same_config s.before s.after s.after.stage config stands_after in
+    let (run, at_last) = histories_conform h rest s.after w' takes_after stands_there after are_seen in
     let run_before : Run (attributes_of (profile s.before)) 0 (place_of s.after.stage) rest (place_of w'.stage) =
     subst (λ (x : Setting). Run (attributes_of (profile_of x (room_of s.before.slots))) 0 (place_of s.after.stage) rest
     (place_of w'.stage)) config run in (
@@ -215,36 +247,47 @@ history_kept (s ∷ h) events w w' takes stands (begins, row, after) (rest, tell
       at_last,
     )
   where
-    stands_with : (w z : DeviceView) (st : Stage) → z.config ≡ w.config → StageInvariant (profile w) st → StageInvariant (profile z) st
-    stands_with w z InManifestSyncComplete config on = ap (λ (x : Setting). x.functional.tolerant) config ∙ on
-    stands_with w z (InUploadIdle at number) config on = ap (λ (x : Setting). x.functional.can_upload) config ∙ on
-    stands_with w z (InError NoFault) config h = absurd h
-    stands_with w z st config h = tt
+    stage_invariant_of_same_config : (w z : DeviceView) (st : Stage) → z.config ≡ w.config → StageInvariant (profile w) st →
+        StageInvariant (profile z) st
+    stage_invariant_of_same_config w z InManifestSyncComplete config on = ap (λ (x : Setting). x.functional.tolerant) config ∙ on
+    stage_invariant_of_same_config w z (InUploadIdle at number) config on = ap (λ (x : Setting). x.functional.can_upload) config ∙ on
+    stage_invariant_of_same_config w z (InError NoFault) config h = absurd h
+    stage_invariant_of_same_config w z st config h = tt
 
 -- bmAttributes are below 16.
-attributes_below : (d u t w : Bool) → attributes d u t w < 16
-attributes_below false false false false = lit< tt
-attributes_below true false false false = lit< tt
-attributes_below false true false false = lit< tt
-attributes_below true true false false = lit< tt
-attributes_below false false true false = lit< tt
-attributes_below true false true false = lit< tt
-attributes_below false true true false = lit< tt
-attributes_below true true true false = lit< tt
-attributes_below false false false true = lit< tt
-attributes_below true false false true = lit< tt
-attributes_below false true false true = lit< tt
-attributes_below true true false true = lit< tt
-attributes_below false false true true = lit< tt
-attributes_below true false true true = lit< tt
-attributes_below false true true true = lit< tt
-attributes_below true true true true = lit< tt
+attributes_below_16 : (d u t w : Bool) → attributes d u t w < 16
+attributes_below_16 false false false false = lit< tt
+attributes_below_16 true false false false = lit< tt
+attributes_below_16 false true false false = lit< tt
+attributes_below_16 true true false false = lit< tt
+attributes_below_16 false false true false = lit< tt
+attributes_below_16 true false true false = lit< tt
+attributes_below_16 false true true false = lit< tt
+attributes_below_16 true true true false = lit< tt
+attributes_below_16 false false false true = lit< tt
+attributes_below_16 true false false true = lit< tt
+attributes_below_16 false true false true = lit< tt
+attributes_below_16 true true false true = lit< tt
+attributes_below_16 false false true true = lit< tt
+attributes_below_16 true false true true = lit< tt
+attributes_below_16 false true true true = lit< tt
+attributes_below_16 true true true true = lit< tt
 
--- So the answers of each device that begins in appIDLE are kept.
-pub start_kept : StartsConform
-start_kept h events w w' allowed starts is are_seen =
+-- The answers of each device that begins in appIDLE keep the standard.
+pub devices_from_start_conform : DevicesFromStartConform
+devices_from_start_conform h events w w' allowed starts is are_seen =
     let c = profile w in
     let idle : StageInvariant c w.stage = subst (λ (st : Stage). StageInvariant c st) (sym starts) tt in
     let run = subst (λ (st : Stage). Run (attributes_of c) 0 (place_of st) events (place_of w'.stage)) starts
-    ((history_kept h events w w' allowed.poll.takes_time idle is are_seen).0) in
-    (run, (attributes_of c, attributes_below c.can_download c.can_upload c.tolerant c.will_detach, place_of w'.stage, (place.AppIdle, run)))
+    ((histories_conform h events w w' allowed.poll.manifest_takes_time idle is are_seen).0) in (
+      run,
+      (
+        attributes_of c,
+        attributes_below_16 c.can_download c.can_upload c.tolerant c.will_detach,
+        place_of w'.stage,
+        (
+          place.AppIdle,
+          run,
+        ),
+      ),
+    )

@@ -1,4 +1,4 @@
--- The answer of a device leads it on as a device of the standard.
+-- Answers of a device that lead it on by a row of the standard's table.
 use Rattle.std.specs.Prelude.{◌≡◌, ℕ, ◌+◌, ◌==◌, nat_lt, not, Bool, true, false, List, [], ◌∷◌, length, take, drop, slice_index, if◌then◌else◌}
 use Rattle.std.specs.List.{list_any}
 use Rattle.std.proofs.Common.{refl, sym, ap, ◌∙◌, arith}
@@ -13,10 +13,10 @@ use Rattle.dfu_wire.specs.declared.requests.Request.{Request as Asked}
 use Rattle.dfu_wire.specs.declared.requests.Request.TheVariants as asked
 use Rattle.dfu_wire.specs.Request.{SetupRequest}
 use Rattle.dfu_device.specs.declared.answer.Answer.{Answer}
-use Rattle.dfu_device.specs.Stage.{Reply, Ack, StateOf, Data, Stall, Profile, Stage, InDfuIdle, InDownloadSync, InUploadIdle, InError, state_of, code_of, poll_of, status_of}
+use Rattle.dfu_device.specs.Stage.{Reply, Ack, StateOf, Data, Stall, Profile, Stage, InDfuIdle, InDownloadSync, InUploadIdle, InError, state_of, code_of, poll_of_stage, status_of}
 use Rattle.dfu_device.specs.Table.{Plan, Sure, Writes, Commits, write_code, commit_code, block_plan, upload_plan, next_number}
 use Rattle.dfu_device.specs.Cases.{either_way}
-use Rattle.dfu_device.specs.Rows.{Answers, asked_length, is_served}
+use Rattle.dfu_device.specs.Rows.{ReplyAnswer, asked_length, is_served}
 use Rattle.dfu_conformance.specs.declared.row.StandardState.TheVariants as place
 use Rattle.dfu_conformance.specs.declared.row.EventKind.{EventKind as Came}
 use Rattle.dfu_conformance.specs.declared.row.EventKind.TheVariants as came
@@ -28,44 +28,45 @@ use Rattle.dfu_conformance.specs.declared.event.Response.{Response as Shows}
 use Rattle.dfu_conformance.specs.declared.standard.TheConstants.{STANDARD}
 use Rattle.dfu_conformance.specs.declared.drifts.TheConstants.{DRIFTS}
 use Rattle.dfu_conformance.specs.RowMatches.{asks, request_number, bytes_match}
-use Rattle.dfu_conformance.specs.Candidates.{meets}
+use Rattle.dfu_conformance.specs.Candidates.{is_row_for}
 use Rattle.dfu_conformance.specs.Setups.{event_of}
 use Rattle.dfu_conformance.proofs.ForCallers.{is_row, is_move}
 use Rattle.dfu_laws.specs.judge.Conformity.{attributes_of, place_of, seen, StageInvariant}
-use Rattle.dfu_laws.proofs.judge.Bits.{flags}
-use Rattle.dfu_laws.proofs.judge.Seen.{LedOn, standing, moving, acked, stalled, told, reported, parted, state_is, code_is}
+use Rattle.dfu_laws.proofs.judge.Bits.{attribute_bits_select_rows}
+use Rattle.dfu_laws.proofs.judge.Seen.{EventLeadsOn, row_leads_on_in_place, row_after_own_move_leads_on, ack_answer_matches_row, stall_answer_matches_row, state_answer_matches_row, status_answer_matches_row, image_part_matches_row, state_number_of_place, stage_code_allowed_at_place}
 
--- An answer leads a device from one stage to another, as one that keeps the standard.
-abbrev pub Leads : Profile → Setup → Asked → List ℕ → Stage → Reply → Stage → Type 0
-Leads c p q body st reply next = (a : Answer) (out : List ℕ) → Answers (asked_length q) reply a out
-    → LedOn (attributes_of c) (place_of st) (event_of p q (length body) (seen a out)) (place_of next)
+-- The answer to a request leads a device from one stage to another by a row of the standard's table.
+abbrev pub AnswerLeadsOn : Profile → Setup → Asked → List ℕ → Stage → Reply → Stage → Type 0
+AnswerLeadsOn c p q body st reply next = (a : Answer) (out : List ℕ) → ReplyAnswer (asked_length q) reply a out
+    → EventLeadsOn (attributes_of c) (place_of st) (event_of p q (length body) (seen a out)) (place_of next)
 
--- So does each outcome of a plan.
-abbrev pub PlanKept : Profile → Setup → Asked → List ℕ → Stage → Plan → Type 0
-PlanKept c p q body st (Sure reply next) = Leads c p q body st reply next × StageInvariant c next
-PlanKept c p q body st (Writes before block reply next bad) =
-    (Leads c p q body st reply next × StageInvariant c next) × ((fault : WriteFault)
-    → Leads c p q body st (bad fault) (InError (write_code fault)))
-PlanKept c p q body st (Commits taken reply next bad) =
-    (Leads c p q body st reply next × StageInvariant c next) × ((fault : WriteFault)
-    → Leads c p q body st (bad fault) (InError (commit_code fault)))
+-- Each outcome of a plan leads the device on by a row of the standard's table.
+abbrev pub PlanOutcomesLead : Profile → Setup → Asked → List ℕ → Stage → Plan → Type 0
+PlanOutcomesLead c p q body st (Sure reply next) = AnswerLeadsOn c p q body st reply next × StageInvariant c next
+PlanOutcomesLead c p q body st (Writes before block reply next bad) =
+    (AnswerLeadsOn c p q body st reply next × StageInvariant c next) × ((fault : WriteFault)
+    → AnswerLeadsOn c p q body st (bad fault) (InError (write_code fault)))
+PlanOutcomesLead c p q body st (Commits taken reply next bad) =
+    (AnswerLeadsOn c p q body st reply next × StageInvariant c next) × ((fault : WriteFault)
+    → AnswerLeadsOn c p q body st (bad fault) (InError (commit_code fault)))
 
 -- A DNLOAD has as many bytes as its setup says.
-pub whole : (p : Setup) (number len : ℕ) (body : List ℕ) → SetupRequest p (asked.Dnload number len)
+pub dnload_has_length : (p : Setup) (number len : ℕ) (body : List ℕ) → SetupRequest p (asked.Dnload number len)
     → is_served p (asked.Dnload number len) body ≡ true
     → len ≡ length body
-whole p number len body asks served =
+dnload_has_length p number len body asks served =
     asks.2 ∙ sym (eqb-true _ _ served ∙ cond-true (p.kind == 0x21) p.length 0 (eq-eqb _ _ asks.0.kind))
 
 -- A DNLOAD of no bytes closes the download.
-pub asks_close : (p : Setup) (number len n : ℕ) (a : Shows) → len ≡ 0 → asks came.Close (event_of p (asked.Dnload number len) n a) ≡ true
-asks_close p number len n a is =
+pub empty_dnload_asks_close : (p : Setup) (number len n : ℕ) (a : Shows) → len ≡ 0 →
+    asks came.Close (event_of p (asked.Dnload number len) n a) ≡ true
+empty_dnload_asks_close p number len n a is =
     or_left _ _ (eq-eqb _ _ (ap request_number (sym (cond-true (len == 0) came.Close came.Block (eq-eqb len 0 is)))))
 
 -- A DNLOAD with bytes is a block.
-pub asks_block : (p : Setup) (number len n : ℕ) (a : Shows) (x : ℕ) (xs : List ℕ) → len ≡ length (x ∷ xs)
+pub dnload_with_bytes_asks_block : (p : Setup) (number len n : ℕ) (a : Shows) (x : ℕ) (xs : List ℕ) → len ≡ length (x ∷ xs)
     → asks came.Block (event_of p (asked.Dnload number len) n a) ≡ true
-asks_block p number len n a x xs is =
+dnload_with_bytes_asks_block p number len n a x xs is =
     or_left _ _ (eq-eqb _ _ (ap request_number (sym (cond-false (len == 0) came.Close came.Block (ne_eqb len 0 (λ z. omega (
       arith,
       z,
@@ -73,136 +74,150 @@ asks_block p number len n a x xs is =
     )))))))
 
 -- Request by the table of the judge, if its body has as many bytes as it says.
-abbrev pub came_by : Asked → List ℕ → Came
-came_by (asked.Detach timeout) body = came.Detach
-came_by (asked.Dnload k len) [] = came.Close
-came_by (asked.Dnload k len) (x ∷ xs) = came.Block
-came_by (asked.Upload k len) body = came.Upload
-came_by (asked.GetStatus len) body = came.GetStatus
-came_by asked.ClrStatus body = came.ClrStatus
-came_by (asked.GetState len) body = came.GetState
-came_by asked.Abort body = came.Abort
-came_by q body = came.Other
+abbrev pub came_of_request : Asked → List ℕ → Came
+came_of_request (asked.Detach timeout) body = came.Detach
+came_of_request (asked.Dnload k len) [] = came.Close
+came_of_request (asked.Dnload k len) (x ∷ xs) = came.Block
+came_of_request (asked.Upload k len) body = came.Upload
+came_of_request (asked.GetStatus len) body = came.GetStatus
+came_of_request asked.ClrStatus body = came.ClrStatus
+came_of_request (asked.GetState len) body = came.GetState
+came_of_request asked.Abort body = came.Abort
+came_of_request q body = came.Other
 
--- A row about that is about what was asked.
-pub about : (p : Setup) (q : Asked) (body : List ℕ) (a : Shows) → SetupRequest p q → is_served p q body ≡ true
-    → asks (came_by q body) (event_of p q (length body) a) ≡ true
-about p (asked.Dnload k len) [] a asks v = asks_close p k len 0 a (whole p k len [] asks v)
-about p (asked.Dnload k len) (x ∷ xs) a asks v = asks_block p k len (length (x ∷ xs)) a x xs (whole p k len (x ∷ xs) asks v)
-about p q body a asks v = refl
+-- A row about what came is about the request of the setup.
+pub row_is_about_request : (p : Setup) (q : Asked) (body : List ℕ) (a : Shows) → SetupRequest p q → is_served p q body ≡ true
+    → asks (came_of_request q body) (event_of p q (length body) a) ≡ true
+row_is_about_request p (asked.Dnload k len) [] a asks v = empty_dnload_asks_close p k len 0 a (dnload_has_length p k len [] asks v)
+row_is_about_request p (asked.Dnload k len) (x ∷ xs) a asks v = dnload_with_bytes_asks_block p k len (length (x ∷ xs)) a x xs
+    (dnload_has_length p k len (x ∷ xs) asks v)
+row_is_about_request p q body a asks v = refl
 
--- A request that is stalled.
-pub stalls : (c : Profile) (p : Setup) (q : Asked) (body : List ℕ) (st next : Stage) → SetupRequest p q → is_served p q body ≡ true
-    → list_any (is_row (place_of st) (came_by q body) Always gives.Stall (place_of next)) STANDARD ≡ true → Leads c p q body st Stall next
-stalls c p q body st next asks v some = λ a out h.
-    standing (attributes_of c) (place_of st) (came_by q body) Always gives.Stall (place_of next) (event_of p q (length body)
+-- A request that is stalled leads the device on, if the table has a row for it.
+pub stall_row_leads : (c : Profile) (p : Setup) (q : Asked) (body : List ℕ) (st next : Stage) → SetupRequest p q → is_served p q body ≡ true
+    → list_any (is_row (place_of st) (came_of_request q body) Always gives.Stall (place_of next)) STANDARD ≡ true →
+    AnswerLeadsOn c p q body st Stall next
+stall_row_leads c p q body st next asks v some = λ a out h.
+    row_leads_on_in_place (attributes_of c) (place_of st) (came_of_request q body) Always gives.Stall (place_of next) (event_of p q (length
+    body)
     (seen a out)) some
-    refl (about p q body (seen a out) asks v) (stalled (place_of st) (place_of next) p.length (asked_length q) a out h)
+    refl (row_is_about_request p q body (seen a out) asks v) (stall_answer_matches_row (place_of st) (place_of next) p.length (asked_length
+    q) a out h)
 
--- A request that is acknowledged.
-pub acks : (c : Profile) (p : Setup) (q : Asked) (body : List ℕ) (st next : Stage) (when : When) → SetupRequest p q
+-- A request that is acknowledged leads the device on, if the table has a row for it.
+pub ack_row_leads : (c : Profile) (p : Setup) (q : Asked) (body : List ℕ) (st next : Stage) (when : When) → SetupRequest p q
     → is_served p q body ≡ true
-    → list_any (is_row (place_of st) (came_by q body) when gives.Ack (place_of next)) STANDARD ≡ true
-    → meets when (attributes_of c) 0 ≡ true → Leads c p q body st Ack next
-acks c p q body st next when asks v some of_it = λ a out h.
-    standing (attributes_of c) (place_of st) (came_by q body) when gives.Ack (place_of next) (event_of p q (length body) (seen a out)) some
-    of_it (about p q body (seen a out) asks v) (acked (place_of st) (place_of next) p.length (asked_length q) a out h)
+    → list_any (is_row (place_of st) (came_of_request q body) when gives.Ack (place_of next)) STANDARD ≡ true
+    → is_row_for when (attributes_of c) 0 ≡ true → AnswerLeadsOn c p q body st Ack next
+ack_row_leads c p q body st next when asks v some row_is_for_device = λ a out h.
+    row_leads_on_in_place (attributes_of c) (place_of st) (came_of_request q body) when gives.Ack (place_of next) (event_of p q (length
+    body) (seen a out)) some
+    row_is_for_device (row_is_about_request p q body (seen a out) asks v) (ack_answer_matches_row (place_of st) (place_of next) p.length
+    (asked_length q) a out h)
 
 -- GETSTATUS is answered with the status of the stage that is entered.
-pub reports : (c : Profile) (p : Setup) (len : ℕ) (body : List ℕ) (st next : Stage) (when : When) → StageInvariant c next → len ≡ p.length
+pub getstatus_row_leads : (c : Profile) (p : Setup) (len : ℕ) (body : List ℕ) (st next : Stage) (when : When) → StageInvariant c next →
+    len ≡ p.length
     → list_any (is_row (place_of st) came.GetStatus when gives.Status (place_of next)) STANDARD ≡ true
-    → meets when (attributes_of c) 0 ≡ true
-    → Leads c p (asked.GetStatus len) body st (status_of c next) next
-reports c p len body st next when stands is some of_it = λ a out h.
-    standing (attributes_of c) (place_of st) came.GetStatus when gives.Status (place_of next)
-    (event_of p (asked.GetStatus len) (length body) (seen a out)) some of_it refl
-    (reported (place_of st) (place_of next) (code_of next) (poll_of c next) (state_of next) p.length len a out (code_is c next stands)
-    (state_is next) is h)
+    → is_row_for when (attributes_of c) 0 ≡ true
+    → AnswerLeadsOn c p (asked.GetStatus len) body st (status_of c next) next
+getstatus_row_leads c p len body st next when stands is some row_is_for_device = λ a out h.
+    row_leads_on_in_place (attributes_of c) (place_of st) came.GetStatus when gives.Status (place_of next)
+    (event_of p (asked.GetStatus len) (length body) (seen a out)) some row_is_for_device refl
+    (status_answer_matches_row (place_of st) (place_of next) (code_of next) (poll_of_stage c next) (state_of next) p.length len a out
+    (stage_code_allowed_at_place c next stands)
+    (state_number_of_place next) is h)
 
 -- GETSTATUS is answered with the code of a fault: the device came to dfuERROR by itself.
-pub fails : (c : Profile) (p : Setup) (len : ℕ) (body : List ℕ) (st : Stage) (code : Code) → StageInvariant c (InError code)
+pub getstatus_of_fault_leads : (c : Profile) (p : Setup) (len : ℕ) (body : List ℕ) (st : Stage) (code : Code) →
+    StageInvariant c (InError code)
     → len ≡ p.length
     → list_any (is_move (place_of st) Always place.Error) DRIFTS ≡ true
-    → Leads c p (asked.GetStatus len) body st (status_of c (InError code)) (InError code)
-fails c p len body st code stands is move = λ a out h.
-    moving (attributes_of c) (place_of st) place.Error came.GetStatus Always gives.Status place.Error
+    → AnswerLeadsOn c p (asked.GetStatus len) body st (status_of c (InError code)) (InError code)
+getstatus_of_fault_leads c p len body st code stands is move = λ a out h.
+    row_after_own_move_leads_on (attributes_of c) (place_of st) place.Error came.GetStatus Always gives.Status place.Error
     (event_of p (asked.GetStatus len) (length body) (seen a out)) move refl refl refl
-    (reported place.Error place.Error code 0 (state_of (InError code)) p.length len a out (code_is c (InError code) stands) refl is h)
+    (status_answer_matches_row place.Error place.Error code 0 (state_of (InError code)) p.length len a out (stage_code_allowed_at_place c
+    (InError code) stands) refl is h)
 
 -- The code of a block that could not be written is not OK.
-pub write_stands : (c : Profile) (fault : WriteFault) → StageInvariant c (InError (write_code fault))
-write_stands c Failed = tt
-write_stands c NotVerified = tt
+pub write_code_allowed_in_error : (c : Profile) (fault : WriteFault) → StageInvariant c (InError (write_code fault))
+write_code_allowed_in_error c Failed = tt
+write_code_allowed_in_error c NotVerified = tt
 
 -- The code of an image that could not be put in place is not OK.
-pub commit_stands : (c : Profile) (fault : WriteFault) → StageInvariant c (InError (commit_code fault))
-commit_stands c Failed = tt
-commit_stands c NotVerified = tt
+pub commit_code_allowed_in_error : (c : Profile) (fault : WriteFault) → StageInvariant c (InError (commit_code fault))
+commit_code_allowed_in_error c Failed = tt
+commit_code_allowed_in_error c NotVerified = tt
 
 -- GETSTATE is answered with the current state.
-pub tells : (c : Profile) (p : Setup) (len : ℕ) (body : List ℕ) (st : Stage) → len ≡ p.length
+pub getstate_row_leads : (c : Profile) (p : Setup) (len : ℕ) (body : List ℕ) (st : Stage) → len ≡ p.length
     → list_any (is_row (place_of st) came.GetState Always gives.State (place_of st)) STANDARD ≡ true
-    → Leads c p (asked.GetState len) body st (StateOf (state_of st)) st
-tells c p len body st is some = λ a out h.
-    standing (attributes_of c) (place_of st) came.GetState Always gives.State (place_of st)
+    → AnswerLeadsOn c p (asked.GetState len) body st (StateOf (state_of st)) st
+getstate_row_leads c p len body st is some = λ a out h.
+    row_leads_on_in_place (attributes_of c) (place_of st) came.GetState Always gives.State (place_of st)
     (event_of p (asked.GetState len) (length body) (seen a out)) some refl refl
-    (told (place_of st) (state_of st) p.length len a out (state_is st) is h)
+    (state_answer_matches_row (place_of st) (state_of st) p.length len a out (state_number_of_place st) is h)
 
 -- An UPLOAD is answered with a part of the image.
-pub gives_part : (c : Profile) (p : Setup) (number len : ℕ) (body part : List ℕ) (st next : Stage) (g : Gives)
+pub upload_gives_part : (c : Profile) (p : Setup) (number len : ℕ) (body part : List ℕ) (st next : Stage) (g : Gives)
     → list_any (is_row (place_of st) came.Upload CanUpload g (place_of next)) STANDARD ≡ true → c.can_upload ≡ true
     → bytes_match g (place_of st) (place_of next) p.length (length part) (slice_index part 0) (slice_index part 4) ≡ true
-    → Leads c p (asked.Upload number len) body st (Data part) next
-gives_part c p number len body part st next g some can fits = λ a out h.
-    standing (attributes_of c) (place_of st) came.Upload CanUpload g (place_of next)
+    → AnswerLeadsOn c p (asked.Upload number len) body st (Data part) next
+upload_gives_part c p number len body part st next g some can fits = λ a out h.
+    row_leads_on_in_place (attributes_of c) (place_of st) came.Upload CanUpload g (place_of next)
     (event_of p (asked.Upload number len) (length body) (seen a out)) some
-    ((flags c.can_download c.can_upload c.tolerant c.will_detach).1 ∙ can) refl
-    (parted (place_of st) (place_of next) part p.length 0 a out g fits h)
+    ((attribute_bits_select_rows c.can_download c.can_upload c.tolerant c.will_detach).1 ∙ can) refl
+    (image_part_matches_row (place_of st) (place_of next) part p.length 0 a out g fits h)
 
--- A fact of each branch of an `if`, when it is taken, holds of the one that is taken.
-pub which : {A : Type 0} (P : A → Type 0) (b : Bool) (x y : A) → (b ≡ true → P x) → (b ≡ false → P y) → P (if b then x else y)
-which P true x y f g = f refl
-which P false x y f g = g refl
+-- If P holds of each branch of an `if` in the case in which the branch is taken, P holds of the `if`.
+pub fact_of_branch : {A : Type 0} (P : A → Type 0) (b : Bool) (x y : A) → (b ≡ true → P x) → (b ≡ false → P y) → P (if b then x else y)
+fact_of_branch P true x y f g = f refl
+fact_of_branch P false x y f g = g refl
 
--- An UPLOAD that may be served, at a place of the image.
-pub uploads : (c : Profile) (image : List ℕ) (at expected : ℕ) (st : Stage) (p : Setup) (k len : ℕ) (body : List ℕ) → c.can_upload ≡ true
+-- The plan of an UPLOAD from a place of the image leads the device on.
+pub upload_plan_leads : (c : Profile) (image : List ℕ) (at expected : ℕ) (st : Stage) (p : Setup) (k len : ℕ) (body : List ℕ) →
+    c.can_upload ≡ true
     → SetupRequest p (asked.Upload k len) → is_served p (asked.Upload k len) body ≡ true
     → list_any (is_row (place_of st) came.Upload Always gives.Stall place.Error) STANDARD ≡ true
     → list_any (is_row (place_of st) came.Upload CanUpload gives.Short place.DfuIdle) STANDARD ≡ true
     → list_any (is_row (place_of st) came.Upload CanUpload gives.Full place.UploadIdle) STANDARD ≡ true
-    → PlanKept c p (asked.Upload k len) body st (upload_plan c image at expected k len)
-uploads c image at expected st p k len body can asks v stall_row short_row full_row =
-    let P : Plan → Type 0 = PlanKept c p (asked.Upload k len) body st in
+    → PlanOutcomesLead c p (asked.Upload k len) body st (upload_plan c image at expected k len)
+upload_plan_leads c image at expected st p k len body can asks v stall_row short_row full_row =
+    let P : Plan → Type 0 = PlanOutcomesLead c p (asked.Upload k len) body st in
     let bad : (code : Code) → StageInvariant c (InError code) → P (Sure Stall (InError code)) = λ code stands.
-    (stalls c p (asked.Upload k len) body st (InError code) asks v stall_row, stands) in
+    (stall_row_leads c p (asked.Upload k len) body st (InError code) asks v stall_row, stands) in
     let part = take len (drop at image) in
     let next = InUploadIdle (at + len) (next_number expected) in
     either_way P (len == 0) _ _ (bad ErrStalledPkt tt) (either_way P (nat_lt c.transfer len) _ _ (bad ErrStalledPkt tt)
     (either_way P (not (k == expected)) _ _ (bad ErrAddress tt)
-    (which P (nat_lt (length part) len) (Sure (Data part) InDfuIdle) (Sure (Data part) next)
+    (fact_of_branch P (nat_lt (length part) len) (Sure (Data part) InDfuIdle) (Sure (Data part) next)
     (λ is_short. (
-      gives_part c p k len body part st InDfuIdle gives.Short short_row can
+      upload_gives_part c p k len body part st InDfuIdle gives.Short short_row can
           (or_left _ _ (ap (λ (n : ℕ). nat_lt (length part) n) (sym asks.2) ∙ is_short)),
       tt,
     ))
     (λ is_full. (
-      gives_part c p k len body part st next gives.Full full_row can
+      upload_gives_part c p k len body part st next gives.Full full_row can
           (eq-eqb _ _ (omega (arith, length-take len (drop at image), ltb-false _ _ is_full, asks.2))),
       can,
     )))))
 
--- A block that may be taken.
-pub blocks : (c : Profile) (taken : List ℕ) (expected : ℕ) (st : Stage) (p : Setup) (k len x : ℕ) (xs : List ℕ) (when : When)
+-- The plan of a block leads the device on, whether it is taken or stalled.
+pub block_plan_leads : (c : Profile) (taken : List ℕ) (expected : ℕ) (st : Stage) (p : Setup) (k len x : ℕ) (xs : List ℕ) (when : When)
     → SetupRequest p (asked.Dnload k len) → is_served p (asked.Dnload k len) (x ∷ xs) ≡ true
     → list_any (is_row (place_of st) came.Block Always gives.Stall place.Error) STANDARD ≡ true
     → list_any (is_row (place_of st) came.Block when gives.Ack place.DownloadSync) STANDARD ≡ true
-    → meets when (attributes_of c) 0 ≡ true
-    → PlanKept c p (asked.Dnload k len) (x ∷ xs) st (block_plan c taken expected k (x ∷ xs))
-blocks c taken expected st p k len x xs when asks v stall_row ack_row of_it =
-    let P : Plan → Type 0 = PlanKept c p (asked.Dnload k len) (x ∷ xs) st in
+    → is_row_for when (attributes_of c) 0 ≡ true
+    → PlanOutcomesLead c p (asked.Dnload k len) (x ∷ xs) st (block_plan c taken expected k (x ∷ xs))
+block_plan_leads c taken expected st p k len x xs when asks v stall_row ack_row row_is_for_device =
+    let P : Plan → Type 0 = PlanOutcomesLead c p (asked.Dnload k len) (x ∷ xs) st in
     let bad : (code : Code) → StageInvariant c (InError code) → P (Sure Stall (InError code)) = λ code stands.
-    (stalls c p (asked.Dnload k len) (x ∷ xs) st (InError code) asks v stall_row, stands) in
+    (stall_row_leads c p (asked.Dnload k len) (x ∷ xs) st (InError code) asks v stall_row, stands) in
     either_way P (nat_lt c.transfer (length (x ∷ xs))) _ _ (bad ErrStalledPkt tt) (either_way P (not (k == expected)) _ _
     (bad ErrAddress tt)
-    (either_way P (nat_lt c.capacity (length taken + length (x ∷ xs))) _ _ (bad ErrAddress tt)
-    (acks c p (asked.Dnload k len) (x ∷ xs) st (InDownloadSync taken (x ∷ xs) (next_number expected)) when asks v ack_row of_it, tt)))
+    (either_way P (nat_lt c.capacity (length taken + length (x ∷ xs))) _ _ (bad ErrAddress tt) (
+      ack_row_leads c p (asked.Dnload k len) (x ∷ xs) st (InDownloadSync taken (x ∷ xs) (next_number expected)) when asks v ack_row
+          row_is_for_device,
+      tt,
+    )))

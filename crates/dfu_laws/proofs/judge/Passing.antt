@@ -1,4 +1,4 @@
--- Time, resets of the bus and power lead a device on as a device of the standard.
+-- Time, resets of the bus and power, which lead a device on by rows of the standard's table.
 use Rattle.std.specs.Prelude.{◌≡◌, ℕ, ◌+◌, ◌==◌, nat_le, max, not, true, List, ◌∷◌, length}
 use Rattle.std.specs.List.{list_any}
 use Rattle.std.proofs.Common.{refl, sym, ap, subst, ◌∙◌, inl, inr}
@@ -20,136 +20,146 @@ use Rattle.dfu_conformance.specs.declared.event.LogEvent.{LogEvent}
 use Rattle.dfu_conformance.specs.declared.marks.TheConstants.{MARKS}
 use Rattle.dfu_conformance.specs.declared.drifts.TheConstants.{DRIFTS}
 use Rattle.dfu_conformance.specs.RowMatches.{asks, answer_matches}
-use Rattle.dfu_conformance.specs.Candidates.{meets}
-use Rattle.dfu_conformance.specs.Setups.{reset, power}
+use Rattle.dfu_conformance.specs.Candidates.{is_row_for}
+use Rattle.dfu_conformance.specs.Setups.{reset_event, power_event}
 use Rattle.dfu_conformance.specs.MayAnswer.{MayAnswer, MayMove, Run}
-use Rattle.dfu_conformance.proofs.ForCallers.{is_row, by_row, is_move, by_move, moves_first}
+use Rattle.dfu_conformance.proofs.ForCallers.{is_row, device_goes_by_listed_row, is_move, device_moves_by_listed_drift, run_from_move}
 use Rattle.dfu_laws.specs.judge.Conformity.{attributes_of, place_of, StageInvariant}
-use Rattle.dfu_laws.proofs.judge.Bits.{flags}
-use Rattle.dfu_laws.proofs.judge.Leads.{write_stands, commit_stands, which}
+use Rattle.dfu_laws.proofs.judge.Bits.{attribute_bits_select_rows}
+use Rattle.dfu_laws.proofs.judge.Leads.{write_code_allowed_in_error, commit_code_allowed_in_error, fact_of_branch}
 
--- The result of a time that passes is a move, or none.
-abbrev pub TimeKept : Profile → Stage → Plan → Type 0
-TimeKept c st (Sure reply next) = MayMove (attributes_of c) 0 (place_of st) (place_of next) × StageInvariant c next
-TimeKept c st (Writes before block reply next bad) =
+-- Time that passes moves the device as the standard's table lets it, or not at all.
+abbrev pub TimePlanMoves : Profile → Stage → Plan → Type 0
+TimePlanMoves c st (Sure reply next) = MayMove (attributes_of c) 0 (place_of st) (place_of next) × StageInvariant c next
+TimePlanMoves c st (Writes before block reply next bad) =
     (MayMove (attributes_of c) 0 (place_of st) (place_of next) × StageInvariant c next)
     × MayMove (attributes_of c) 0 (place_of st) place.Error
-TimeKept c st (Commits taken reply next bad) =
+TimePlanMoves c st (Commits taken reply next bad) =
     (MayMove (attributes_of c) 0 (place_of st) (place_of next) × StageInvariant c next)
     × MayMove (attributes_of c) 0 (place_of st) place.Error
 
--- It moves by itself.
-pub moves : (c : Profile) (from : StandardState) (when : When) (next : StandardState) → list_any (is_move from when next) DRIFTS ≡ true
-    → meets when (attributes_of c) 0 ≡ true → MayMove (attributes_of c) 0 from next
-moves c from when next some of_it = inr (by_move DRIFTS from when next (attributes_of c) 0 some of_it)
+-- A move of the standard's table that needs no event is one that the device may make.
+pub device_moves_itself : (c : Profile) (from : StandardState) (when : When) (next : StandardState)
+    → list_any (is_move from when next) DRIFTS ≡ true
+    → is_row_for when (attributes_of c) 0 ≡ true → MayMove (attributes_of c) 0 from next
+device_moves_itself c from when next some row_is_for_device = inr (device_moves_by_listed_drift DRIFTS from when next (attributes_of c) 0
+    some row_is_for_device)
 
--- Each time that passes is a move, or none.
-pub time_kept : (c : Profile) (st : Stage) (ms : ℕ) → StageInvariant c st → TimeKept c st (time_plan c st ms)
-time_kept c (InAppDetach timer passed) ms stands =
-    let P : Plan → Type 0 = TimeKept c (InAppDetach timer passed) in
-    either_way P (ms == 0) _ _ (inl refl, tt) (which P c.will_detach _ _
+-- The plan of time that passes moves the device as the table lets it, or not at all.
+pub time_plan_moves : (c : Profile) (st : Stage) (ms : ℕ) → StageInvariant c st → TimePlanMoves c st (time_plan c st ms)
+time_plan_moves c (InAppDetach timer passed) ms stands =
+    let P : Plan → Type 0 = TimePlanMoves c (InAppDetach timer passed) in
+    either_way P (ms == 0) _ _ (inl refl, tt) (fact_of_branch P c.will_detach _ _
     (λ detaches. (
-      moves c place.AppDetach WillDetach place.DfuIdle refl
-          ((flags c.can_download c.can_upload c.tolerant c.will_detach).4 ∙ detaches),
+      device_moves_itself c place.AppDetach WillDetach place.DfuIdle refl
+          ((attribute_bits_select_rows c.can_download c.can_upload c.tolerant c.will_detach).4 ∙ detaches),
       tt,
     ))
     (λ stays. either_way P (nat_le (max 1 timer) (passed + ms)) _ _ (
-      moves c place.AppDetach Always place.AppIdle refl refl,
+      device_moves_itself c place.AppDetach Always place.AppIdle refl refl,
       tt,
     ) (inl refl, tt)))
-time_kept c (InDownloadBusy before block number passed) ms stands =
-    let P : Plan → Type 0 = TimeKept c (InDownloadBusy before block number passed) in
+time_plan_moves c (InDownloadBusy before block number passed) ms stands =
+    let P : Plan → Type 0 = TimePlanMoves c (InDownloadBusy before block number passed) in
     either_way P (ms == 0) _ _ (inl refl, tt)
     (either_way P (nat_le (block_ms c.pace c.busy (length before) (length block)) (passed + ms)) _ _ (
-      (moves c place.DownloadBusy Always place.DownloadSync refl refl, tt),
-      moves c place.DownloadBusy Always place.Error refl refl,
+      (device_moves_itself c place.DownloadBusy Always place.DownloadSync refl refl, tt),
+      device_moves_itself c place.DownloadBusy Always place.Error refl refl,
     ) (inl refl, tt))
-time_kept c (InManifest taken passed) ms stands =
-    let P : Plan → Type 0 = TimeKept c (InManifest taken passed) in
+time_plan_moves c (InManifest taken passed) ms stands =
+    let P : Plan → Type 0 = TimePlanMoves c (InManifest taken passed) in
     let Q : Stage → Type 0 = λ next. (MayMove (attributes_of c) 0 place.Manifest (place_of next) × StageInvariant c next)
     × MayMove (attributes_of c) 0 place.Manifest place.Error in
-    let fault : MayMove (attributes_of c) 0 place.Manifest place.Error = moves c place.Manifest Always place.Error refl refl in
+    let fault : MayMove (attributes_of c) 0 place.Manifest place.Error =
+    device_moves_itself c place.Manifest Always place.Error refl refl in
     either_way P (ms == 0) _ _ (inl refl, tt) (either_way P (nat_le (image_ms c.pace c.manifest (length taken)) (passed + ms)) _ _
-    (which Q c.tolerant InManifestSyncComplete InManifestWaitReset
+    (fact_of_branch Q c.tolerant InManifestSyncComplete InManifestWaitReset
     (λ on. (
       (
-        moves c place.Manifest Tolerant place.ManifestSync refl
-            ((flags c.can_download c.can_upload c.tolerant c.will_detach).2 ∙ on),
+        device_moves_itself c place.Manifest Tolerant place.ManifestSync refl
+            ((attribute_bits_select_rows c.can_download c.can_upload c.tolerant c.will_detach).2 ∙ on),
         on,
       ),
       fault,
     ))
     (λ off. (
       (
-        moves c place.Manifest NotTolerant place.ManifestWaitReset refl
-            ((flags c.can_download c.can_upload c.tolerant c.will_detach).3 ∙ ap not off),
+        device_moves_itself c place.Manifest NotTolerant place.ManifestWaitReset refl
+            ((attribute_bits_select_rows c.can_download c.can_upload c.tolerant c.will_detach).3 ∙ ap not off),
         tt,
       ),
       fault,
     )))
     (inl refl, tt))
-time_kept c st ms stands = (inl refl, stands)
+time_plan_moves c st ms stands = (inl refl, stands)
 
--- A time that passed moved the device, or not.
-pub time_moved : (pl : Plan) (c : Profile) (st : Stage) (w : DeviceView) (a : Answer) (out : List ℕ) (w' : DeviceView) → TimeKept c st pl
+-- Time that passed moved the device as the table lets it, or not at all.
+pub passed_time_moves_device : (pl : Plan) (c : Profile) (st : Stage) (w : DeviceView) (a : Answer) (out : List ℕ) (w' : DeviceView) →
+    TimePlanMoves c st pl
     → Done pl 0 w a out w'
     → MayMove (attributes_of c) 0 (place_of st) (place_of w'.stage) × StageInvariant c w'.stage
-time_moved (Sure reply next) c st w a out w' kept (says, is) =
+passed_time_moves_device (Sure reply next) c st w a out w' kept (says, is) =
     subst (λ (z : DeviceView). MayMove (attributes_of c) 0 (place_of st) (place_of z.stage) × StageInvariant c z.stage) (sym is) kept
-time_moved (Writes before block reply next bad) c st w a out w' kept (inl (says, h)) =
+passed_time_moves_device (Writes before block reply next bad) c st w a out w' kept (inl (says, h)) =
     subst (λ (z : Stage). MayMove (attributes_of c) 0 (place_of st) (place_of z) × StageInvariant c z) (sym h.stage_is) kept.0
-time_moved (Writes before block reply next bad) c st w a out w' kept (inr (fault, says, h)) =
+passed_time_moves_device (Writes before block reply next bad) c st w a out w' kept (inr (fault, says, h)) =
     subst (λ (z : Stage). MayMove (attributes_of c) 0 (place_of st) (place_of z) × StageInvariant c z) (sym h.stage_is) (
       kept.1,
-      write_stands c fault,
+      write_code_allowed_in_error c fault,
     )
-time_moved (Commits taken reply next bad) c st w a out w' kept (inl (says, h)) =
+passed_time_moves_device (Commits taken reply next bad) c st w a out w' kept (inl (says, h)) =
     subst (λ (z : Stage). MayMove (attributes_of c) 0 (place_of st) (place_of z) × StageInvariant c z) (sym h.stage_is) kept.0
-time_moved (Commits taken reply next bad) c st w a out w' kept (inr (fault, says, h)) =
+passed_time_moves_device (Commits taken reply next bad) c st w a out w' kept (inr (fault, says, h)) =
     subst (λ (z : Stage). MayMove (attributes_of c) 0 (place_of st) (place_of z) × StageInvariant c z) (sym h.stage_is) (
       kept.1,
-      commit_stands c fault,
+      commit_code_allowed_in_error c fault,
     )
 
 -- The objection of a program is no code that a device may not have in dfuERROR.
-pub objection_stands : (c : Profile) (why : Objection) → StageInvariant c (InError (objection_code why))
-objection_stands c Target = tt
-objection_stands c File = tt
+pub objection_code_allowed_in_error : (c : Profile) (why : Objection) → StageInvariant c (InError (objection_code why))
+objection_code_allowed_in_error c Target = tt
+objection_code_allowed_in_error c File = tt
 
 -- An image that is refused after the close moves the device to dfuERROR, or leaves its state.
-pub refusal_moved : (c : Profile) (why : Objection) (st : Stage) → StageInvariant c st
+pub late_refusal_moves_device : (c : Profile) (why : Objection) (st : Stage) → StageInvariant c st
     → MayMove (attributes_of c) 0 (place_of st) (place_of (refuse_stage why st)) × StageInvariant c (refuse_stage why st)
-refusal_moved c why (InManifestSync taken) stands = (moves c place.ManifestSync Always place.Error refl refl, objection_stands c why)
-refusal_moved c why (InManifest taken passed) stands = (moves c place.Manifest Always place.Error refl refl, objection_stands c why)
-refusal_moved c why st stands = (inl refl, stands)
+late_refusal_moves_device c why (InManifestSync taken) stands =
+    (device_moves_itself c place.ManifestSync Always place.Error refl refl, objection_code_allowed_in_error c why)
+late_refusal_moves_device c why (InManifest taken passed) stands =
+    (device_moves_itself c place.Manifest Always place.Error refl refl, objection_code_allowed_in_error c why)
+late_refusal_moves_device c why st stands = (inl refl, stands)
 
--- A mark goes by a row of the table of marks.
-pub marked : (att : ℕ) (from : StandardState) (next : StandardState) (e : LogEvent)
+-- An event that a row of the table of marks allows is one that the device may answer.
+pub mark_row_allows_event : (att : ℕ) (from : StandardState) (next : StandardState) (e : LogEvent)
     → list_any (is_row from e.asked Always gives.Silent next) MARKS ≡ true
     → answer_matches gives.Silent from next e.length e.answer ≡ true → asks e.asked e ≡ true → MayAnswer att 0 from e next
-marked att from next e some is_shown is_asked =
-    inr (inl (by_row MARKS from e.asked Always gives.Silent next att 0 e some refl is_asked is_shown))
+mark_row_allows_event att from next e some is_shown is_asked =
+    inr (inl (device_goes_by_listed_row MARKS from e.asked Always gives.Silent next att 0 e some refl is_asked is_shown))
 
 -- A reset leads a device on: in appDETACH to dfuIDLE, by way of dfuIDLE just entered.
-pub reset_led : (att : ℕ) (st : Stage) (rest : List LogEvent) (last : StandardState) → Run att 0 (place_of (reset_stage st)) rest last
-    → Run att 0 (place_of st) (reset ∷ rest) last
-reset_led att (InAppDetach timer passed) rest last run = (
+pub reset_leads_run_on : (att : ℕ) (st : Stage) (rest : List LogEvent) (last : StandardState) →
+    Run att 0 (place_of (reset_stage st)) rest last
+    → Run att 0 (place_of st) (reset_event ∷ rest) last
+reset_leads_run_on att (InAppDetach timer passed) rest last run = (
   place.AppDetach,
   place.Fresh,
   inl refl,
-  marked att place.AppDetach place.Fresh reset refl refl refl,
-  moves_first att 0 place.Fresh place.DfuIdle rest last (inr (by_move DRIFTS place.Fresh Always place.DfuIdle att 0 refl refl)) run,
+  mark_row_allows_event att place.AppDetach place.Fresh reset_event refl refl refl,
+  run_from_move att 0 place.Fresh place.DfuIdle rest last (inr (device_moves_by_listed_drift DRIFTS place.Fresh Always place.DfuIdle att 0
+      refl refl)) run,
 )
-reset_led att st rest last run = (place_of st, place.AppIdle, inl refl, marked att (place_of st) place.AppIdle reset refl refl refl, run)
+reset_leads_run_on att st rest last run =
+    (place_of st, place.AppIdle, inl refl, mark_row_allows_event att (place_of st) place.AppIdle reset_event refl refl refl, run)
 
 -- After a reset a device is in a stage that it can come to.
-pub reset_stands : (c : Profile) (st : Stage) → StageInvariant c (reset_stage st)
-reset_stands c (InAppDetach timer passed) = tt
-reset_stands c st = tt
+pub reset_stage_keeps_invariant : (c : Profile) (st : Stage) → StageInvariant c (reset_stage st)
+reset_stage_keeps_invariant c (InAppDetach timer passed) = tt
+reset_stage_keeps_invariant c st = tt
 
 -- Power that comes back leads a device to appIDLE.
-pub power_led : (att : ℕ) (st : Stage) (rest : List LogEvent) (last : StandardState) → Run att 0 place.AppIdle rest last
-    → Run att 0 (place_of st) (power ∷ rest) last
-power_led att InAppIdle rest last run =
-    (place.AppIdle, place.AppIdle, inl refl, marked att place.AppIdle place.AppIdle power refl refl refl, run)
-power_led att st rest last run = (place_of st, place.AppIdle, inl refl, marked att (place_of st) place.AppIdle power refl refl refl, run)
+pub power_leads_run_on : (att : ℕ) (st : Stage) (rest : List LogEvent) (last : StandardState) → Run att 0 place.AppIdle rest last
+    → Run att 0 (place_of st) (power_event ∷ rest) last
+power_leads_run_on att InAppIdle rest last run =
+    (place.AppIdle, place.AppIdle, inl refl, mark_row_allows_event att place.AppIdle place.AppIdle power_event refl refl refl, run)
+power_leads_run_on att st rest last run =
+    (place_of st, place.AppIdle, inl refl, mark_row_allows_event att (place_of st) place.AppIdle power_event refl refl refl, run)

@@ -1,4 +1,4 @@
--- Each row of the device table is one that a device may answer which keeps the standard.
+-- Rows of the device table in each stage, each of which the standard's table has too.
 use Rattle.std.specs.Prelude.{◌≡◌, ℕ, ◌==◌, nat_le, not, min, true, List, [], ◌∷◌, ◌++◌, length}
 use Rattle.std.proofs.Common.{refl, ◌∙◌, arith}
 use Rattle.std.proofs.lemmas.Bool.{true_from_ne_false, false≢true, eqb-true, not-false}
@@ -11,204 +11,258 @@ use Rattle.dfu_wire.specs.Request.{SetupRequest}
 use Rattle.dfu_device.specs.Stage.{Profile, Stage, InAppIdle, InAppDetach, InDfuIdle, InDownloadSync, InDownloadSyncWritten, InDownloadBusy, InDownloadIdle, InManifestSync, InManifestSyncComplete, InManifest, InManifestWaitReset, InUploadIdle, InError}
 use Rattle.dfu_device.specs.Table.{plan, write_code, commit_code}
 use Rattle.dfu_device.specs.Cases.{either_way}
-use Rattle.dfu_device.specs.Rows.{meant, is_served}
+use Rattle.dfu_device.specs.Rows.{request_for_table, is_served}
 use Rattle.dfu_conformance.specs.declared.row.When.TheVariants.{Always, CanDownload, Tolerant}
 use Rattle.dfu_conformance.specs.RowMatches.{asks}
 use Rattle.dfu_laws.specs.judge.Conformity.{StageInvariant, NeedsManifestTime}
-use Rattle.dfu_laws.proofs.judge.Bits.{flags}
-use Rattle.dfu_laws.proofs.judge.Leads.{PlanKept, stalls, acks, reports, fails, write_stands, commit_stands, tells, which, uploads, blocks}
+use Rattle.dfu_laws.proofs.judge.Bits.{attribute_bits_select_rows}
+use Rattle.dfu_laws.proofs.judge.Leads.{PlanOutcomesLead, stall_row_leads, ack_row_leads, getstatus_row_leads, getstatus_of_fault_leads, write_code_allowed_in_error, commit_code_allowed_in_error, getstate_row_leads, fact_of_branch, upload_plan_leads, block_plan_leads}
 
--- Whatever is asked of a device in this stage, what comes of it is kept.
-abbrev pub KeepsAll : Profile → (image : List ℕ) → Stage → Type 0
-KeepsAll c i st = (p : Setup) (q : Asked) (body : List ℕ) → NeedsManifestTime c → StageInvariant c st → SetupRequest p q
+-- The plan of each request in the stage leads the device on by a row of the standard's table.
+abbrev pub AllPlansLead : Profile → (image : List ℕ) → Stage → Type 0
+AllPlansLead c i st = (p : Setup) (q : Asked) (body : List ℕ) → NeedsManifestTime c → StageInvariant c st → SetupRequest p q
     → is_served p q body ≡ true
-    → PlanKept c p q body st (plan c i st (meant q body))
+    → PlanOutcomesLead c p q body st (plan c i st (request_for_table q body))
 
 -- In appIDLE.
-in_app_idle : (c : Profile) (i : List ℕ) → KeepsAll c i InAppIdle
-in_app_idle c i p asked.NotDfu body takes s asks v = absurd (false≢true v)
-in_app_idle c i p (asked.Detach timeout) body takes s asks v =
-    (acks c p (asked.Detach timeout) body InAppIdle (InAppDetach (min c.detach_ms timeout) 0) Always asks v refl refl, tt)
-in_app_idle c i p (asked.GetStatus len) body takes s asks v = (reports c p len body InAppIdle InAppIdle Always tt asks.1 refl refl, tt)
-in_app_idle c i p (asked.GetState len) body takes s asks v = (tells c p len body InAppIdle asks.1 refl, tt)
-in_app_idle c i p (asked.Dnload k len) [] takes s asks v =
-    (stalls c p (asked.Dnload k len) [] InAppIdle InAppIdle asks v refl, tt)
-in_app_idle c i p q body takes s asks v = (stalls c p q body InAppIdle InAppIdle asks v refl, tt)
+app_idle_plans_lead : (c : Profile) (i : List ℕ) → AllPlansLead c i InAppIdle
+app_idle_plans_lead c i p asked.NotDfu body takes s asks v = absurd (false≢true v)
+app_idle_plans_lead c i p (asked.Detach timeout) body takes s asks v =
+    (ack_row_leads c p (asked.Detach timeout) body InAppIdle (InAppDetach (min c.detach_ms timeout) 0) Always asks v refl refl, tt)
+app_idle_plans_lead c i p (asked.GetStatus len) body takes s asks v = (
+  getstatus_row_leads c p len body InAppIdle InAppIdle Always tt
+      asks.1 refl refl,
+  tt,
+)
+app_idle_plans_lead c i p (asked.GetState len) body takes s asks v = (getstate_row_leads c p len body InAppIdle asks.1 refl, tt)
+app_idle_plans_lead c i p (asked.Dnload k len) [] takes s asks v =
+    (stall_row_leads c p (asked.Dnload k len) [] InAppIdle InAppIdle asks v refl, tt)
+app_idle_plans_lead c i p q body takes s asks v = (stall_row_leads c p q body InAppIdle InAppIdle asks v refl, tt)
 
 -- In appDETACH.
-in_app_detach : (c : Profile) (i : List ℕ) (timer passed : ℕ) → KeepsAll c i (InAppDetach timer passed)
-in_app_detach c i timer passed p asked.NotDfu body takes s asks v = absurd (false≢true v)
-in_app_detach c i timer passed p (asked.GetStatus len) body takes s asks v =
-    (reports c p len body (InAppDetach timer passed) (InAppDetach timer passed) Always tt asks.1 refl refl, tt)
-in_app_detach c i timer passed p (asked.GetState len) body takes s asks v =
-    (tells c p len body (InAppDetach timer passed) asks.1 refl, tt)
-in_app_detach c i timer passed p (asked.Dnload k len) [] takes s asks v =
-    (stalls c p (asked.Dnload k len) [] (InAppDetach timer passed) InAppIdle asks v refl, tt)
-in_app_detach c i timer passed p q body takes s asks v = (stalls c p q body (InAppDetach timer passed) InAppIdle asks v refl, tt)
+app_detach_plans_lead : (c : Profile) (i : List ℕ) (timer passed : ℕ) → AllPlansLead c i (InAppDetach timer passed)
+app_detach_plans_lead c i timer passed p asked.NotDfu body takes s asks v = absurd (false≢true v)
+app_detach_plans_lead c i timer passed p (asked.GetStatus len) body takes s asks v =
+    (getstatus_row_leads c p len body (InAppDetach timer passed) (InAppDetach timer passed) Always tt asks.1 refl refl, tt)
+app_detach_plans_lead c i timer passed p (asked.GetState len) body takes s asks v =
+    (getstate_row_leads c p len body (InAppDetach timer passed) asks.1 refl, tt)
+app_detach_plans_lead c i timer passed p (asked.Dnload k len) [] takes s asks v =
+    (stall_row_leads c p (asked.Dnload k len) [] (InAppDetach timer passed) InAppIdle asks v refl, tt)
+app_detach_plans_lead c i timer passed p q body takes s asks v = (
+  stall_row_leads c p q body (InAppDetach timer passed) InAppIdle asks v
+      refl,
+  tt,
+)
 
 -- In dfuIDLE.
-in_dfu_idle : (c : Profile) (i : List ℕ) → KeepsAll c i InDfuIdle
-in_dfu_idle c i p asked.NotDfu body takes s asks v = absurd (false≢true v)
-in_dfu_idle c i p (asked.Dnload k len) [] takes s asks v =
-    either_way (PlanKept c p (asked.Dnload k len) [] InDfuIdle) (not c.can_download) _ _
-    (stalls c p (asked.Dnload k len) [] InDfuIdle (InError ErrStalledPkt) asks v refl, tt)
-    (stalls c p (asked.Dnload k len) [] InDfuIdle (InError ErrStalledPkt) asks v refl, tt)
-in_dfu_idle c i p (asked.Dnload k len) (x ∷ xs) takes s asks v =
-    which (PlanKept c p (asked.Dnload k len) (x ∷ xs) InDfuIdle) (not c.can_download) _ _
-    (λ off. (stalls c p (asked.Dnload k len) (x ∷ xs) InDfuIdle (InError ErrStalledPkt) asks v refl, tt))
-    (λ on. blocks c [] 0 InDfuIdle p k len x xs CanDownload asks v refl refl
-    ((flags c.can_download c.can_upload c.tolerant c.will_detach).0 ∙ not-false _ on))
-in_dfu_idle c i p (asked.Upload k len) body takes s asks v =
-    which (PlanKept c p (asked.Upload k len) body InDfuIdle) c.can_upload _ _
-    (λ can. uploads c i 0 0 InDfuIdle p k len body can asks v refl refl refl)
-    (λ off. (stalls c p (asked.Upload k len) body InDfuIdle (InError ErrStalledPkt) asks v refl, tt))
-in_dfu_idle c i p asked.Abort body takes s asks v = (acks c p asked.Abort body InDfuIdle InDfuIdle Always asks v refl refl, tt)
-in_dfu_idle c i p (asked.GetStatus len) body takes s asks v = (reports c p len body InDfuIdle InDfuIdle Always tt asks.1 refl refl, tt)
-in_dfu_idle c i p (asked.GetState len) body takes s asks v = (tells c p len body InDfuIdle asks.1 refl, tt)
-in_dfu_idle c i p q body takes s asks v = (stalls c p q body InDfuIdle (InError ErrStalledPkt) asks v refl, tt)
+dfu_idle_plans_lead : (c : Profile) (i : List ℕ) → AllPlansLead c i InDfuIdle
+dfu_idle_plans_lead c i p asked.NotDfu body takes s asks v = absurd (false≢true v)
+dfu_idle_plans_lead c i p (asked.Dnload k len) [] takes s asks v =
+    either_way (PlanOutcomesLead c p (asked.Dnload k len) [] InDfuIdle) (not c.can_download) _ _
+    (stall_row_leads c p (asked.Dnload k len) [] InDfuIdle (InError ErrStalledPkt) asks v refl, tt)
+    (stall_row_leads c p (asked.Dnload k len) [] InDfuIdle (InError ErrStalledPkt) asks v refl, tt)
+dfu_idle_plans_lead c i p (asked.Dnload k len) (x ∷ xs) takes s asks v =
+    fact_of_branch (PlanOutcomesLead c p (asked.Dnload k len) (x ∷ xs) InDfuIdle) (not c.can_download) _ _
+    (λ off. (stall_row_leads c p (asked.Dnload k len) (x ∷ xs) InDfuIdle (InError ErrStalledPkt) asks v refl, tt))
+    (λ on. block_plan_leads c [] 0 InDfuIdle p k len x xs CanDownload asks v refl refl
+    ((attribute_bits_select_rows c.can_download c.can_upload c.tolerant c.will_detach).0 ∙ not-false _ on))
+dfu_idle_plans_lead c i p (asked.Upload k len) body takes s asks v =
+    fact_of_branch (PlanOutcomesLead c p (asked.Upload k len) body InDfuIdle) c.can_upload _ _
+    (λ can. upload_plan_leads c i 0 0 InDfuIdle p k len body can asks v refl refl refl)
+    (λ off. (stall_row_leads c p (asked.Upload k len) body InDfuIdle (InError ErrStalledPkt) asks v refl, tt))
+dfu_idle_plans_lead c i p asked.Abort body takes s asks v = (
+  ack_row_leads c p asked.Abort body InDfuIdle InDfuIdle Always asks v refl
+      refl,
+  tt,
+)
+dfu_idle_plans_lead c i p (asked.GetStatus len) body takes s asks v = (
+  getstatus_row_leads c p len body InDfuIdle InDfuIdle Always tt
+      asks.1 refl refl,
+  tt,
+)
+dfu_idle_plans_lead c i p (asked.GetState len) body takes s asks v = (getstate_row_leads c p len body InDfuIdle asks.1 refl, tt)
+dfu_idle_plans_lead c i p q body takes s asks v = (stall_row_leads c p q body InDfuIdle (InError ErrStalledPkt) asks v refl, tt)
 
 -- In dfuDNLOAD-SYNC, with a block that is not written.
-in_download_sync : (c : Profile) (i : List ℕ) (before block : List ℕ) (number : ℕ)
-    → KeepsAll c i (InDownloadSync before block number)
-in_download_sync c i before block number p asked.NotDfu body takes s asks v = absurd (false≢true v)
-in_download_sync c i before block number p (asked.GetStatus len) body takes s asks v =
-    either_way (PlanKept c p (asked.GetStatus len) body (InDownloadSync before block number)) (c.busy == 0) _ _ (
-      (reports c p len body (InDownloadSync before block number) (InDownloadIdle (before ++ block) number) Always tt asks.1 refl refl, tt),
-      λ fault. fails c p len body (InDownloadSync before block number) (write_code fault) (write_stands c fault) asks.1 refl,
+download_sync_plans_lead : (c : Profile) (i : List ℕ) (before block : List ℕ) (number : ℕ)
+    → AllPlansLead c i (InDownloadSync before block number)
+download_sync_plans_lead c i before block number p asked.NotDfu body takes s asks v = absurd (false≢true v)
+download_sync_plans_lead c i before block number p (asked.GetStatus len) body takes s asks v =
+    either_way (PlanOutcomesLead c p (asked.GetStatus len) body (InDownloadSync before block number)) (c.busy == 0) _ _ (
+      (
+        getstatus_row_leads c p len body (InDownloadSync before block number) (InDownloadIdle (before
+            ++ block) number) Always tt asks.1 refl refl,
+        tt,
+      ),
+      λ fault. getstatus_of_fault_leads c p len body (InDownloadSync before block number) (write_code fault) (write_code_allowed_in_error c
+          fault) asks.1 refl,
+    ) (
+      getstatus_row_leads c p len body (InDownloadSync before block number) (InDownloadBusy before block number 0) Always tt asks.1 refl
+          refl,
+      tt,
     )
-    (reports c p len body (InDownloadSync before block number) (InDownloadBusy before block number 0) Always tt asks.1 refl refl, tt)
-in_download_sync c i before block number p (asked.GetState len) body takes s asks v =
-    (tells c p len body (InDownloadSync before block number) asks.1 refl, tt)
-in_download_sync c i before block number p (asked.Dnload k len) [] takes s asks v =
-    (stalls c p (asked.Dnload k len) [] (InDownloadSync before block number) (InError ErrStalledPkt) asks v refl, tt)
-in_download_sync c i before block number p q body takes s asks v =
-    (stalls c p q body (InDownloadSync before block number) (InError ErrStalledPkt) asks v refl, tt)
+download_sync_plans_lead c i before block number p (asked.GetState len) body takes s asks v =
+    (getstate_row_leads c p len body (InDownloadSync before block number) asks.1 refl, tt)
+download_sync_plans_lead c i before block number p (asked.Dnload k len) [] takes s asks v =
+    (stall_row_leads c p (asked.Dnload k len) [] (InDownloadSync before block number) (InError ErrStalledPkt) asks v refl, tt)
+download_sync_plans_lead c i before block number p q body takes s asks v =
+    (stall_row_leads c p q body (InDownloadSync before block number) (InError ErrStalledPkt) asks v refl, tt)
 
 -- In dfuDNLOAD-SYNC, with all written.
-in_download_sync_written : (c : Profile) (i : List ℕ) (taken : List ℕ) (number : ℕ)
-    → KeepsAll c i (InDownloadSyncWritten taken number)
-in_download_sync_written c i taken number p asked.NotDfu body takes s asks v = absurd (false≢true v)
-in_download_sync_written c i taken number p (asked.GetStatus len) body takes s asks v =
-    (reports c p len body (InDownloadSyncWritten taken number) (InDownloadIdle taken number) Always tt asks.1 refl refl, tt)
-in_download_sync_written c i taken number p (asked.GetState len) body takes s asks v =
-    (tells c p len body (InDownloadSyncWritten taken number) asks.1 refl, tt)
-in_download_sync_written c i taken number p (asked.Dnload k len) [] takes s asks v =
-    (stalls c p (asked.Dnload k len) [] (InDownloadSyncWritten taken number) (InError ErrStalledPkt) asks v refl, tt)
-in_download_sync_written c i taken number p q body takes s asks v =
-    (stalls c p q body (InDownloadSyncWritten taken number) (InError ErrStalledPkt) asks v refl, tt)
+written_sync_plans_lead : (c : Profile) (i : List ℕ) (taken : List ℕ) (number : ℕ)
+    → AllPlansLead c i (InDownloadSyncWritten taken number)
+written_sync_plans_lead c i taken number p asked.NotDfu body takes s asks v = absurd (false≢true v)
+written_sync_plans_lead c i taken number p (asked.GetStatus len) body takes s asks v =
+    (getstatus_row_leads c p len body (InDownloadSyncWritten taken number) (InDownloadIdle taken number) Always tt asks.1 refl refl, tt)
+written_sync_plans_lead c i taken number p (asked.GetState len) body takes s asks v =
+    (getstate_row_leads c p len body (InDownloadSyncWritten taken number) asks.1 refl, tt)
+written_sync_plans_lead c i taken number p (asked.Dnload k len) [] takes s asks v =
+    (stall_row_leads c p (asked.Dnload k len) [] (InDownloadSyncWritten taken number) (InError ErrStalledPkt) asks v refl, tt)
+written_sync_plans_lead c i taken number p q body takes s asks v =
+    (stall_row_leads c p q body (InDownloadSyncWritten taken number) (InError ErrStalledPkt) asks v refl, tt)
 
 -- In dfuDNBUSY.
-in_download_busy : (c : Profile) (i : List ℕ) (before block : List ℕ) (number passed : ℕ)
-    → KeepsAll c i (InDownloadBusy before block number passed)
-in_download_busy c i before block number passed p asked.NotDfu body takes s asks v = absurd (false≢true v)
-in_download_busy c i before block number passed p (asked.Dnload k len) [] takes s asks v =
-    (stalls c p (asked.Dnload k len) [] (InDownloadBusy before block number passed) (InError ErrStalledPkt) asks v refl, tt)
-in_download_busy c i before block number passed p q body takes s asks v =
-    (stalls c p q body (InDownloadBusy before block number passed) (InError ErrStalledPkt) asks v refl, tt)
+download_busy_plans_lead : (c : Profile) (i : List ℕ) (before block : List ℕ) (number passed : ℕ)
+    → AllPlansLead c i (InDownloadBusy before block number passed)
+download_busy_plans_lead c i before block number passed p asked.NotDfu body takes s asks v = absurd (false≢true v)
+download_busy_plans_lead c i before block number passed p (asked.Dnload k len) [] takes s asks v =
+    (stall_row_leads c p (asked.Dnload k len) [] (InDownloadBusy before block number passed) (InError ErrStalledPkt) asks v refl, tt)
+download_busy_plans_lead c i before block number passed p q body takes s asks v =
+    (stall_row_leads c p q body (InDownloadBusy before block number passed) (InError ErrStalledPkt) asks v refl, tt)
 
 -- In dfuDNLOAD-IDLE.
-in_download_idle : (c : Profile) (i : List ℕ) (taken : List ℕ) (number : ℕ) → KeepsAll c i (InDownloadIdle taken number)
-in_download_idle c i taken number p asked.NotDfu body takes s asks v = absurd (false≢true v)
-in_download_idle c i taken number p (asked.Dnload k len) [] takes s asks v =
-    either_way (PlanKept c p (asked.Dnload k len) [] (InDownloadIdle taken number)) (nat_le c.least (length taken)) _ _
-    (acks c p (asked.Dnload k len) [] (InDownloadIdle taken number) (InManifestSync taken) Always asks v refl refl, tt)
-    (stalls c p (asked.Dnload k len) [] (InDownloadIdle taken number) (InError ErrNotDone) asks v refl, tt)
-in_download_idle c i taken number p (asked.Dnload k len) (x ∷ xs) takes s asks v =
-    blocks c taken number (InDownloadIdle taken number) p k len x xs Always asks v refl refl refl
-in_download_idle c i taken number p asked.Abort body takes s asks v =
-    (acks c p asked.Abort body (InDownloadIdle taken number) InDfuIdle Always asks v refl refl, tt)
-in_download_idle c i taken number p (asked.GetStatus len) body takes s asks v =
-    (reports c p len body (InDownloadIdle taken number) (InDownloadIdle taken number) Always tt asks.1 refl refl, tt)
-in_download_idle c i taken number p (asked.GetState len) body takes s asks v =
-    (tells c p len body (InDownloadIdle taken number) asks.1 refl, tt)
-in_download_idle c i taken number p q body takes s asks v =
-    (stalls c p q body (InDownloadIdle taken number) (InError ErrStalledPkt) asks v refl, tt)
+download_idle_plans_lead : (c : Profile) (i : List ℕ) (taken : List ℕ) (number : ℕ) → AllPlansLead c i (InDownloadIdle taken number)
+download_idle_plans_lead c i taken number p asked.NotDfu body takes s asks v = absurd (false≢true v)
+download_idle_plans_lead c i taken number p (asked.Dnload k len) [] takes s asks v =
+    either_way (PlanOutcomesLead c p (asked.Dnload k len) [] (InDownloadIdle taken number)) (nat_le c.least (length taken)) _ _
+    (ack_row_leads c p (asked.Dnload k len) [] (InDownloadIdle taken number) (InManifestSync taken) Always asks v refl refl, tt)
+    (stall_row_leads c p (asked.Dnload k len) [] (InDownloadIdle taken number) (InError ErrNotDone) asks v refl, tt)
+download_idle_plans_lead c i taken number p (asked.Dnload k len) (x ∷ xs) takes s asks v =
+    block_plan_leads c taken number (InDownloadIdle taken number) p k len x xs Always asks v refl refl refl
+download_idle_plans_lead c i taken number p asked.Abort body takes s asks v =
+    (ack_row_leads c p asked.Abort body (InDownloadIdle taken number) InDfuIdle Always asks v refl refl, tt)
+download_idle_plans_lead c i taken number p (asked.GetStatus len) body takes s asks v =
+    (getstatus_row_leads c p len body (InDownloadIdle taken number) (InDownloadIdle taken number) Always tt asks.1 refl refl, tt)
+download_idle_plans_lead c i taken number p (asked.GetState len) body takes s asks v =
+    (getstate_row_leads c p len body (InDownloadIdle taken number) asks.1 refl, tt)
+download_idle_plans_lead c i taken number p q body takes s asks v =
+    (stall_row_leads c p q body (InDownloadIdle taken number) (InError ErrStalledPkt) asks v refl, tt)
 
 -- In dfuMANIFEST-SYNC, not complete.
-in_manifest_sync : (c : Profile) (i : List ℕ) (taken : List ℕ) → KeepsAll c i (InManifestSync taken)
-in_manifest_sync c i taken p asked.NotDfu body takes s asks v = absurd (false≢true v)
-in_manifest_sync c i taken p (asked.GetStatus len) body takes s asks v =
-    which (PlanKept c p (asked.GetStatus len) body (InManifestSync taken)) (c.manifest == 0) _ _
+manifest_sync_plans_lead : (c : Profile) (i : List ℕ) (taken : List ℕ) → AllPlansLead c i (InManifestSync taken)
+manifest_sync_plans_lead c i taken p asked.NotDfu body takes s asks v = absurd (false≢true v)
+manifest_sync_plans_lead c i taken p (asked.GetStatus len) body takes s asks v =
+    fact_of_branch (PlanOutcomesLead c p (asked.GetStatus len) body (InManifestSync taken)) (c.manifest == 0) _ _
     (λ at_once. let is_tolerant : c.tolerant ≡ true =
     true_from_ne_false c.tolerant (λ off. absurd (omega (arith, takes off, eqb-true _ _ at_once))) in (
       (
-        reports c p len body (InManifestSync taken) InDfuIdle Tolerant tt asks.1 refl
-            ((flags c.can_download c.can_upload c.tolerant c.will_detach).2 ∙ is_tolerant),
+        getstatus_row_leads c p len body (InManifestSync taken) InDfuIdle Tolerant tt asks.1 refl
+            ((attribute_bits_select_rows c.can_download c.can_upload c.tolerant c.will_detach).2 ∙ is_tolerant),
         tt,
       ),
-      λ fault. fails c p len body (InManifestSync taken) (commit_code fault) (commit_stands c fault) asks.1 refl,
+      λ fault. getstatus_of_fault_leads c p len body (InManifestSync taken) (commit_code fault) (commit_code_allowed_in_error c fault)
+          asks.1 refl,
     ))
-    (λ later. (reports c p len body (InManifestSync taken) (InManifest taken 0) Always tt asks.1 refl refl, tt))
-in_manifest_sync c i taken p (asked.GetState len) body takes s asks v = (tells c p len body (InManifestSync taken) asks.1 refl, tt)
-in_manifest_sync c i taken p (asked.Dnload k len) [] takes s asks v =
-    (stalls c p (asked.Dnload k len) [] (InManifestSync taken) (InError ErrStalledPkt) asks v refl, tt)
-in_manifest_sync c i taken p q body takes s asks v = (stalls c p q body (InManifestSync taken) (InError ErrStalledPkt) asks v refl, tt)
-
--- In dfuMANIFEST-SYNC, complete.
-in_manifest_complete : (c : Profile) (i : List ℕ) → KeepsAll c i InManifestSyncComplete
-in_manifest_complete c i p asked.NotDfu body takes s asks v = absurd (false≢true v)
-in_manifest_complete c i p (asked.GetStatus len) body takes s asks v = (
-  reports c p len body InManifestSyncComplete InDfuIdle Tolerant tt asks.1 refl
-      ((flags c.can_download c.can_upload c.tolerant c.will_detach).2 ∙ s),
+    (λ later. (getstatus_row_leads c p len body (InManifestSync taken) (InManifest taken 0) Always tt asks.1 refl refl, tt))
+manifest_sync_plans_lead c i taken p (asked.GetState len) body takes s asks v = (
+  getstate_row_leads c p len body (InManifestSync taken)
+      asks.1 refl,
   tt,
 )
-in_manifest_complete c i p (asked.GetState len) body takes s asks v = (tells c p len body InManifestSyncComplete asks.1 refl, s)
-in_manifest_complete c i p (asked.Dnload k len) [] takes s asks v =
-    (stalls c p (asked.Dnload k len) [] InManifestSyncComplete (InError ErrStalledPkt) asks v refl, tt)
-in_manifest_complete c i p q body takes s asks v = (stalls c p q body InManifestSyncComplete (InError ErrStalledPkt) asks v refl, tt)
+manifest_sync_plans_lead c i taken p (asked.Dnload k len) [] takes s asks v =
+    (stall_row_leads c p (asked.Dnload k len) [] (InManifestSync taken) (InError ErrStalledPkt) asks v refl, tt)
+manifest_sync_plans_lead c i taken p q body takes s asks v = (
+  stall_row_leads c p q body (InManifestSync taken) (InError ErrStalledPkt)
+      asks v refl,
+  tt,
+)
+
+-- In dfuMANIFEST-SYNC, complete.
+manifest_complete_plans_lead : (c : Profile) (i : List ℕ) → AllPlansLead c i InManifestSyncComplete
+manifest_complete_plans_lead c i p asked.NotDfu body takes s asks v = absurd (false≢true v)
+manifest_complete_plans_lead c i p (asked.GetStatus len) body takes s asks v = (
+  getstatus_row_leads c p len body InManifestSyncComplete InDfuIdle Tolerant tt asks.1 refl
+      ((attribute_bits_select_rows c.can_download c.can_upload c.tolerant c.will_detach).2 ∙ s),
+  tt,
+)
+manifest_complete_plans_lead c i p (asked.GetState len) body takes s asks v = (
+  getstate_row_leads c p len body InManifestSyncComplete
+      asks.1 refl,
+  s,
+)
+manifest_complete_plans_lead c i p (asked.Dnload k len) [] takes s asks v =
+    (stall_row_leads c p (asked.Dnload k len) [] InManifestSyncComplete (InError ErrStalledPkt) asks v refl, tt)
+manifest_complete_plans_lead c i p q body takes s asks v = (
+  stall_row_leads c p q body InManifestSyncComplete (InError ErrStalledPkt) asks
+      v refl,
+  tt,
+)
 
 -- In dfuMANIFEST.
-in_manifest : (c : Profile) (i : List ℕ) (taken : List ℕ) (passed : ℕ) → KeepsAll c i (InManifest taken passed)
-in_manifest c i taken passed p asked.NotDfu body takes s asks v = absurd (false≢true v)
-in_manifest c i taken passed p (asked.Dnload k len) [] takes s asks v =
-    (stalls c p (asked.Dnload k len) [] (InManifest taken passed) (InError ErrStalledPkt) asks v refl, tt)
-in_manifest c i taken passed p q body takes s asks v = (stalls c p q body (InManifest taken passed) (InError ErrStalledPkt) asks v refl, tt)
+manifest_plans_lead : (c : Profile) (i : List ℕ) (taken : List ℕ) (passed : ℕ) → AllPlansLead c i (InManifest taken passed)
+manifest_plans_lead c i taken passed p asked.NotDfu body takes s asks v = absurd (false≢true v)
+manifest_plans_lead c i taken passed p (asked.Dnload k len) [] takes s asks v =
+    (stall_row_leads c p (asked.Dnload k len) [] (InManifest taken passed) (InError ErrStalledPkt) asks v refl, tt)
+manifest_plans_lead c i taken passed p q body takes s asks v = (
+  stall_row_leads c p q body (InManifest taken passed) (InError
+      ErrStalledPkt) asks v refl,
+  tt,
+)
 
 -- In dfuMANIFEST-WAIT-RESET.
-in_manifest_wait_reset : (c : Profile) (i : List ℕ) → KeepsAll c i InManifestWaitReset
-in_manifest_wait_reset c i p asked.NotDfu body takes s asks v = absurd (false≢true v)
-in_manifest_wait_reset c i p (asked.Dnload k len) [] takes s asks v =
-    (stalls c p (asked.Dnload k len) [] InManifestWaitReset InManifestWaitReset asks v refl, tt)
-in_manifest_wait_reset c i p q body takes s asks v = (stalls c p q body InManifestWaitReset InManifestWaitReset asks v refl, tt)
+manifest_wait_reset_plans_lead : (c : Profile) (i : List ℕ) → AllPlansLead c i InManifestWaitReset
+manifest_wait_reset_plans_lead c i p asked.NotDfu body takes s asks v = absurd (false≢true v)
+manifest_wait_reset_plans_lead c i p (asked.Dnload k len) [] takes s asks v =
+    (stall_row_leads c p (asked.Dnload k len) [] InManifestWaitReset InManifestWaitReset asks v refl, tt)
+manifest_wait_reset_plans_lead c i p q body takes s asks v = (
+  stall_row_leads c p q body InManifestWaitReset InManifestWaitReset asks v
+      refl,
+  tt,
+)
 
 -- In dfuUPLOAD-IDLE.
-in_upload_idle : (c : Profile) (i : List ℕ) (at number : ℕ) → KeepsAll c i (InUploadIdle at number)
-in_upload_idle c i at number p asked.NotDfu body takes s asks v = absurd (false≢true v)
-in_upload_idle c i at number p (asked.Upload k len) body takes s asks v =
-    uploads c i at number (InUploadIdle at number) p k len body s asks v refl refl refl
-in_upload_idle c i at number p asked.Abort body takes s asks v =
-    (acks c p asked.Abort body (InUploadIdle at number) InDfuIdle Always asks v refl refl, tt)
-in_upload_idle c i at number p (asked.GetStatus len) body takes s asks v =
-    (reports c p len body (InUploadIdle at number) (InUploadIdle at number) Always s asks.1 refl refl, s)
-in_upload_idle c i at number p (asked.GetState len) body takes s asks v = (tells c p len body (InUploadIdle at number) asks.1 refl, s)
-in_upload_idle c i at number p (asked.Dnload k len) [] takes s asks v =
-    (stalls c p (asked.Dnload k len) [] (InUploadIdle at number) (InError ErrStalledPkt) asks v refl, tt)
-in_upload_idle c i at number p q body takes s asks v = (stalls c p q body (InUploadIdle at number) (InError ErrStalledPkt) asks v refl, tt)
+upload_idle_plans_lead : (c : Profile) (i : List ℕ) (at number : ℕ) → AllPlansLead c i (InUploadIdle at number)
+upload_idle_plans_lead c i at number p asked.NotDfu body takes s asks v = absurd (false≢true v)
+upload_idle_plans_lead c i at number p (asked.Upload k len) body takes s asks v =
+    upload_plan_leads c i at number (InUploadIdle at number) p k len body s asks v refl refl refl
+upload_idle_plans_lead c i at number p asked.Abort body takes s asks v =
+    (ack_row_leads c p asked.Abort body (InUploadIdle at number) InDfuIdle Always asks v refl refl, tt)
+upload_idle_plans_lead c i at number p (asked.GetStatus len) body takes s asks v =
+    (getstatus_row_leads c p len body (InUploadIdle at number) (InUploadIdle at number) Always s asks.1 refl refl, s)
+upload_idle_plans_lead c i at number p (asked.GetState len) body takes s asks v =
+    (getstate_row_leads c p len body (InUploadIdle at number) asks.1 refl, s)
+upload_idle_plans_lead c i at number p (asked.Dnload k len) [] takes s asks v =
+    (stall_row_leads c p (asked.Dnload k len) [] (InUploadIdle at number) (InError ErrStalledPkt) asks v refl, tt)
+upload_idle_plans_lead c i at number p q body takes s asks v = (
+  stall_row_leads c p q body (InUploadIdle at number) (InError ErrStalledPkt)
+      asks v refl,
+  tt,
+)
 
 -- In dfuERROR.
-in_error : (c : Profile) (i : List ℕ) (code : Code) → KeepsAll c i (InError code)
-in_error c i code p asked.NotDfu body takes s asks v = absurd (false≢true v)
-in_error c i code p asked.ClrStatus body takes s asks v =
-    (acks c p asked.ClrStatus body (InError code) InDfuIdle Always asks v refl refl, tt)
-in_error c i code p (asked.GetStatus len) body takes s asks v =
-    (reports c p len body (InError code) (InError code) Always s asks.1 refl refl, s)
-in_error c i code p (asked.GetState len) body takes s asks v = (tells c p len body (InError code) asks.1 refl, s)
-in_error c i code p (asked.Dnload k len) [] takes s asks v =
-    (stalls c p (asked.Dnload k len) [] (InError code) (InError code) asks v refl, s)
-in_error c i code p q body takes s asks v = (stalls c p q body (InError code) (InError code) asks v refl, s)
+error_plans_lead : (c : Profile) (i : List ℕ) (code : Code) → AllPlansLead c i (InError code)
+error_plans_lead c i code p asked.NotDfu body takes s asks v = absurd (false≢true v)
+error_plans_lead c i code p asked.ClrStatus body takes s asks v =
+    (ack_row_leads c p asked.ClrStatus body (InError code) InDfuIdle Always asks v refl refl, tt)
+error_plans_lead c i code p (asked.GetStatus len) body takes s asks v =
+    (getstatus_row_leads c p len body (InError code) (InError code) Always s asks.1 refl refl, s)
+error_plans_lead c i code p (asked.GetState len) body takes s asks v = (getstate_row_leads c p len body (InError code) asks.1 refl, s)
+error_plans_lead c i code p (asked.Dnload k len) [] takes s asks v =
+    (stall_row_leads c p (asked.Dnload k len) [] (InError code) (InError code) asks v refl, s)
+error_plans_lead c i code p q body takes s asks v = (stall_row_leads c p q body (InError code) (InError code) asks v refl, s)
 
--- Whatever is asked of a device, what comes of it is kept.
-pub plan_kept : (c : Profile) (i : List ℕ) (st : Stage) → KeepsAll c i st
-plan_kept c i InAppIdle = in_app_idle c i
-plan_kept c i (InAppDetach timer passed) = in_app_detach c i timer passed
-plan_kept c i InDfuIdle = in_dfu_idle c i
-plan_kept c i (InDownloadSync before block number) = in_download_sync c i before block number
-plan_kept c i (InDownloadSyncWritten taken number) = in_download_sync_written c i taken number
-plan_kept c i (InDownloadBusy before block number passed) = in_download_busy c i before block number passed
-plan_kept c i (InDownloadIdle taken number) = in_download_idle c i taken number
-plan_kept c i (InManifestSync taken) = in_manifest_sync c i taken
-plan_kept c i InManifestSyncComplete = in_manifest_complete c i
-plan_kept c i (InManifest taken passed) = in_manifest c i taken passed
-plan_kept c i InManifestWaitReset = in_manifest_wait_reset c i
-plan_kept c i (InUploadIdle at number) = in_upload_idle c i at number
-plan_kept c i (InError code) = in_error c i code
+-- The plan of each request in any stage leads the device on by a row of the standard's table.
+pub all_plans_lead : (c : Profile) (i : List ℕ) (st : Stage) → AllPlansLead c i st
+all_plans_lead c i InAppIdle = app_idle_plans_lead c i
+all_plans_lead c i (InAppDetach timer passed) = app_detach_plans_lead c i timer passed
+all_plans_lead c i InDfuIdle = dfu_idle_plans_lead c i
+all_plans_lead c i (InDownloadSync before block number) = download_sync_plans_lead c i before block number
+all_plans_lead c i (InDownloadSyncWritten taken number) = written_sync_plans_lead c i taken number
+all_plans_lead c i (InDownloadBusy before block number passed) = download_busy_plans_lead c i before block number passed
+all_plans_lead c i (InDownloadIdle taken number) = download_idle_plans_lead c i taken number
+all_plans_lead c i (InManifestSync taken) = manifest_sync_plans_lead c i taken
+all_plans_lead c i InManifestSyncComplete = manifest_complete_plans_lead c i
+all_plans_lead c i (InManifest taken passed) = manifest_plans_lead c i taken passed
+all_plans_lead c i InManifestWaitReset = manifest_wait_reset_plans_lead c i
+all_plans_lead c i (InUploadIdle at number) = upload_idle_plans_lead c i at number
+all_plans_lead c i (InError code) = error_plans_lead c i code

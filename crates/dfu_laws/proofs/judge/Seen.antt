@@ -1,4 +1,4 @@
--- The view of an answer is what a row of the judge's table gives.
+-- Answers as the judge sees them, matched with what a row of its table gives.
 use Rattle.std.specs.Prelude.{◌≡◌, ℕ, zero, suc, ◌<◌, ◌==◌, ◌||◌, min, true, List, [], ◌∷◌, length, take, slice_index}
 use Rattle.std.specs.List.{list_any}
 use Rattle.std.proofs.Common.{refl, ap, ◌∙◌, inl, inr, arith}
@@ -11,7 +11,7 @@ use Rattle.dfu_wire.specs.Code.{code_byte}
 use Rattle.dfu_wire.specs.State.{state_byte}
 use Rattle.dfu_device.specs.declared.answer.Answer.{Answer}
 use Rattle.dfu_device.specs.Stage.{Ack, StatusOf, StateOf, Data, Stall, Profile, Stage, InError, state_of, code_of}
-use Rattle.dfu_device.specs.Rows.{Answers}
+use Rattle.dfu_device.specs.Rows.{ReplyAnswer}
 use Rattle.dfu_conformance.specs.declared.row.StandardState.{StandardState}
 use Rattle.dfu_conformance.specs.declared.row.EventKind.{EventKind as Came}
 use Rattle.dfu_conformance.specs.declared.row.When.{When}
@@ -22,53 +22,59 @@ use Rattle.dfu_conformance.specs.declared.event.LogEvent.{LogEvent}
 use Rattle.dfu_conformance.specs.declared.standard.TheConstants.{STANDARD}
 use Rattle.dfu_conformance.specs.declared.drifts.TheConstants.{DRIFTS}
 use Rattle.dfu_conformance.specs.RowMatches.{asks, answer_matches, bytes_match, has_code, number_of_state}
-use Rattle.dfu_conformance.specs.Candidates.{meets}
+use Rattle.dfu_conformance.specs.Candidates.{is_row_for}
 use Rattle.dfu_conformance.specs.MayAnswer.{MayAnswer, MayMove}
-use Rattle.dfu_conformance.proofs.ForCallers.{is_row, by_row, is_move, by_move}
+use Rattle.dfu_conformance.proofs.ForCallers.{is_row, device_goes_by_listed_row, is_move, device_moves_by_listed_drift}
 use Rattle.dfu_laws.specs.judge.Conformity.{place_of, seen, StageInvariant}
 
 -- A device moves by itself, then an event leads it on.
-abbrev pub LedOn : (attributes : ℕ) → StandardState → LogEvent → StandardState → Type 0
-LedOn a from e next = (here : StandardState) × MayMove a 0 from here × MayAnswer a 0 here e next
+abbrev pub EventLeadsOn : (attributes : ℕ) → StandardState → LogEvent → StandardState → Type 0
+EventLeadsOn a from e next = (here : StandardState) × MayMove a 0 from here × MayAnswer a 0 here e next
 
--- It goes by a row of the standard's table.
-pub standing : (a : ℕ) (from : StandardState) (q : Came) (when : When) (g : Gives) (next : StandardState) (e : LogEvent)
-    → list_any (is_row from q when g next) STANDARD ≡ true → meets when a 0 ≡ true → asks q e ≡ true
-    → answer_matches g from next e.length e.answer ≡ true → LedOn a from e next
-standing a from q when g next e some of_it is_asked is_shown =
-    (from, inl refl, inl (by_row STANDARD from q when g next a 0 e some of_it is_asked is_shown))
+-- An event that a row of the standard's table allows leads the device on.
+pub row_leads_on_in_place : (a : ℕ) (from : StandardState) (q : Came) (when : When) (g : Gives) (next : StandardState) (e : LogEvent)
+    → list_any (is_row from q when g next) STANDARD ≡ true → is_row_for when a 0 ≡ true → asks q e ≡ true
+    → answer_matches g from next e.length e.answer ≡ true → EventLeadsOn a from e next
+row_leads_on_in_place a from q when g next e some row_is_for_device is_asked is_shown =
+    (from, inl refl, inl (device_goes_by_listed_row STANDARD from q when g next a 0 e some row_is_for_device is_asked is_shown))
 
--- It moves by itself first.
-pub moving : (a : ℕ) (from here : StandardState) (q : Came) (when : When) (g : Gives) (next : StandardState) (e : LogEvent)
+-- If the device first moves by itself, an event that a row allows in its new state leads it on.
+pub row_after_own_move_leads_on : (a : ℕ) (from here : StandardState) (q : Came) (when : When) (g : Gives) (next : StandardState) (e :
+    LogEvent)
     → list_any (is_move from Always here) DRIFTS ≡ true
-    → list_any (is_row here q when g next) STANDARD ≡ true → meets when a 0 ≡ true → asks q e ≡ true
-    → answer_matches g here next e.length e.answer ≡ true → LedOn a from e next
-moving a from here q when g next e move some of_it is_asked is_shown =
-    (here, inr (by_move DRIFTS from Always here a 0 move refl), inl (by_row STANDARD here q when g next a 0 e some of_it is_asked is_shown))
+    → list_any (is_row here q when g next) STANDARD ≡ true → is_row_for when a 0 ≡ true → asks q e ≡ true
+    → answer_matches g here next e.length e.answer ≡ true → EventLeadsOn a from e next
+row_after_own_move_leads_on a from here q when g next e move some row_is_for_device is_asked is_shown = (
+  here,
+  inr (device_moves_by_listed_drift DRIFTS from Always here a 0 move refl),
+  inl (device_goes_by_listed_row STANDARD here q when g
+      next a 0 e some row_is_for_device is_asked is_shown),
+)
 
--- An acknowledgement is one.
-pub acked : (from next : StandardState) (len n : ℕ) (a : Answer) (out : List ℕ) → Answers n Ack a out
+-- An acknowledgement is what a row that gives Ack gives.
+pub ack_answer_matches_row : (from next : StandardState) (len n : ℕ) (a : Answer) (out : List ℕ) → ReplyAnswer n Ack a out
     → answer_matches gives.Ack from next len (seen a out) ≡ true
-acked from next len n a out h = ap (λ (x : Answer). answer_matches gives.Ack from next len (seen x out)) h.0
+ack_answer_matches_row from next len n a out h = ap (λ (x : Answer). answer_matches gives.Ack from next len (seen x out)) h.0
 
--- A stall is one.
-pub stalled : (from next : StandardState) (len n : ℕ) (a : Answer) (out : List ℕ) → Answers n Stall a out
+-- A stall is what a row that gives Stall gives.
+pub stall_answer_matches_row : (from next : StandardState) (len n : ℕ) (a : Answer) (out : List ℕ) → ReplyAnswer n Stall a out
     → answer_matches gives.Stall from next len (seen a out) ≡ true
-stalled from next len n a out h = ap (λ (x : Answer). answer_matches gives.Stall from next len (seen x out)) h.0
+stall_answer_matches_row from next len n a out h = ap (λ (x : Answer). answer_matches gives.Stall from next len (seen x out)) h.0
 
--- The front of some bytes: how many they are, and one of them.
-pub front_count : (bytes : List ℕ) (len n : ℕ) → length bytes ≡ n → (length (take len bytes) == min len n) ≡ true
-front_count bytes len n size = eq-eqb _ _ (length-take len bytes ∙ ap (λ (k : ℕ). min len k) size)
+-- The first len of n bytes are min len n bytes.
+pub front_length_is_least : (bytes : List ℕ) (len n : ℕ) → length bytes ≡ n → (length (take len bytes) == min len n) ≡ true
+front_length_is_least bytes len n size = eq-eqb _ _ (length-take len bytes ∙ ap (λ (k : ℕ). min len k) size)
 
 -- A state that was answered is what a row of GETSTATE gives.
-pub told : (from : StandardState) (state : State) (len n : ℕ) (a : Answer) (out : List ℕ) → state_byte state ≡ number_of_state from
+pub state_answer_matches_row : (from : StandardState) (state : State) (len n : ℕ) (a : Answer) (out : List ℕ)
+    → state_byte state ≡ number_of_state from
     → n ≡ len
-    → Answers n (StateOf state) a out → answer_matches gives.State from from len (seen a out) ≡ true
-told from state len n a out same is h =
+    → ReplyAnswer n (StateOf state) a out → answer_matches gives.State from from len (seen a out) ≡ true
+state_answer_matches_row from state len n a out same is h =
     ap (λ (x : Answer). answer_matches gives.State from from len (seen x out)) h.0
     ∙ ap (λ (l : List ℕ). bytes_match gives.State from from len (length l) (slice_index l 0) (slice_index l 4))
     (h.1 ∙ ap (λ (k : ℕ). take k (state_byte state ∷ [])) is)
-    ∙ and_from _ _ (front_count (state_byte state ∷ []) len 1 refl) (first len)
+    ∙ and_from _ _ (front_length_is_least (state_byte state ∷ []) len 1 refl) (first len)
   where
     first : (len : ℕ) → ((length (take len (state_byte state ∷ [])) == 0) || (slice_index (take len
         (state_byte state ∷ [])) 0 == number_of_state from)) ≡ true
@@ -76,12 +82,13 @@ told from state len n a out same is h =
     first (suc k) = or_right _ _ (eq-eqb _ _ same)
 
 -- The front of a status is what a row of GETSTATUS gives.
-pub front_of_status : (next : StandardState) (bytes : List ℕ) (len : ℕ) → length bytes ≡ 6 → has_code next (slice_index bytes 0) ≡ true
+pub status_front_matches_row : (next : StandardState) (bytes : List ℕ) (len : ℕ) → length bytes ≡ 6 →
+    has_code next (slice_index bytes 0) ≡ true
     → slice_index bytes 4 ≡ number_of_state next
     → bytes_match gives.Status next next len (length (take len bytes)) (slice_index (take len bytes) 0) (slice_index
     (take len bytes) 4) ≡ true
-front_of_status next bytes len size coded same =
-    and_from _ _ (front_count bytes len 6 size) (and_from _ _ (first len) (elim (cases_lt 4 len) [
+status_front_matches_row next bytes len size coded same =
+    and_from _ _ (front_length_is_least bytes len 6 size) (and_from _ _ (first len) (elim (cases_lt 4 len) [
       | inl long ↦ or_right _ _ (eq-eqb _ _ (get_or-take len bytes 4 0 long ∙ same))
       | inr short ↦
           let few : length (take len bytes) < 5 =
@@ -93,30 +100,30 @@ front_of_status next bytes len size coded same =
     first (suc k) = or_right _ _ (ap (λ (x : ℕ). has_code next x) (get_or-take (suc k) bytes 0 0 (omega arith)) ∙ coded)
 
 -- A status that was answered is what a row of GETSTATUS gives.
-pub reported : (from next : StandardState) (code : Code) (poll : ℕ) (state : State) (len n : ℕ) (a : Answer) (out : List ℕ)
+pub status_answer_matches_row : (from next : StandardState) (code : Code) (poll : ℕ) (state : State) (len n : ℕ) (a : Answer) (out : List ℕ)
     → has_code next (code_byte code) ≡ true → state_byte state ≡ number_of_state next → n ≡ len
-    → Answers n (StatusOf code poll state) a out → answer_matches gives.Status from next len (seen a out) ≡ true
-reported from next code poll state len n a out coded same is (bytes_are, bytes, status, string, front) =
+    → ReplyAnswer n (StatusOf code poll state) a out → answer_matches gives.Status from next len (seen a out) ≡ true
+status_answer_matches_row from next code poll state len n a out coded same is (bytes_are, bytes, status, string, front) =
     ap (λ (x : Answer). answer_matches gives.Status from next len (seen x out)) bytes_are
     ∙ ap (λ (l : List ℕ). bytes_match gives.Status from next len (length l) (slice_index l 0) (slice_index l 4))
     (front ∙ ap (λ (k : ℕ). take k bytes) is)
-    ∙ front_of_status next bytes len status.length (ap (λ (x : ℕ). has_code next x) status.code ∙ coded) (status.state ∙ same)
+    ∙ status_front_matches_row next bytes len status.length (ap (λ (x : ℕ). has_code next x) status.code ∙ coded) (status.state ∙ same)
 
 -- A part of an image is what a row of UPLOAD gives, a short one or a full one.
-pub parted : (from next : StandardState) (part : List ℕ) (len n : ℕ) (a : Answer) (out : List ℕ) (g : Gives)
+pub image_part_matches_row : (from next : StandardState) (part : List ℕ) (len n : ℕ) (a : Answer) (out : List ℕ) (g : Gives)
     → bytes_match g from next len (length part) (slice_index part 0) (slice_index part 4) ≡ true
-    → Answers n (Data part) a out → answer_matches g from next len (seen a out) ≡ true
-parted from next part len n a out g fits h =
+    → ReplyAnswer n (Data part) a out → answer_matches g from next len (seen a out) ≡ true
+image_part_matches_row from next part len n a out g fits h =
     ap (λ (x : Answer). answer_matches g from next len (seen x out)) h.0
     ∙ ap (λ (l : List ℕ). bytes_match g from next len (length l) (slice_index l 0) (slice_index l 4)) h.1 ∙ fits
 
--- The number of the state of a stage is that of its place.
-pub state_is : (st : Stage) → state_byte (state_of st) ≡ number_of_state (place_of st)
-state_is (InError code) = refl
-state_is st = refl
+-- The number of the state of a stage is the number of its place.
+pub state_number_of_place : (st : Stage) → state_byte (state_of st) ≡ number_of_state (place_of st)
+state_number_of_place (InError code) = refl
+state_number_of_place st = refl
 
 -- The code of a stage is one that a status of its place may have.
-pub code_is : (c : Profile) (st : Stage) → StageInvariant c st → has_code (place_of st) (code_byte (code_of st)) ≡ true
-code_is c (InError NoFault) h = absurd h
-code_is c (InError code) h = refl
-code_is c st h = refl
+pub stage_code_allowed_at_place : (c : Profile) (st : Stage) → StageInvariant c st → has_code (place_of st) (code_byte (code_of st)) ≡ true
+stage_code_allowed_at_place c (InError NoFault) h = absurd h
+stage_code_allowed_at_place c (InError code) h = refl
+stage_code_allowed_at_place c st h = refl

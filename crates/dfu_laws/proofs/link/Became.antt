@@ -1,92 +1,100 @@
--- Board after time that passes, and after a reset of the bus.
+-- Boards after time that passes, and after a reset of the bus.
 use Rattle.std.specs.Prelude.{◌≡◌, ℕ, List}
 use Rattle.std.proofs.Common.{inl, refl, sym, ap, ◌∙◌, subst}
 use Rattle.dfu_slots.specs.StoreView.{image_of}
 use Rattle.dfu_device.specs.declared.answer.Answer.{Answer}
 use Rattle.dfu_device.specs.Stage.{Profile, Stage, InAppDetach}
 use Rattle.dfu_device.specs.Table.{reset_stage}
-use Rattle.dfu_device.specs.Outcome.{Situation, Outcome, elapsed}
+use Rattle.dfu_device.specs.Outcome.{Situation, Outcome, situation_after_ms}
 use Rattle.dfu_device.specs.DeviceView.{DeviceView, profile, situation}
 use Rattle.dfu_device.specs.Rows.{Passing, BusReset, Elapses}
 use Rattle.dfu_device.specs.PlanOutcomes.{times_have_outcomes}
-use Rattle.dfu_sim.specs.LinkAgreement.{IsSound}
+use Rattle.dfu_sim.specs.LinkAgreement.{ClosedWasOffered}
 use Rattle.dfu_laws.specs.board.Board.{Board, Elapse, UsbReset, BoardReply, BoardStep}
-use Rattle.dfu_laws.specs.board.Refines.{IsIdle, IdleRefines}
-use Rattle.dfu_laws.specs.link.Calls.{Serves, Reaches, lost, once, twice}
+use Rattle.dfu_laws.specs.board.Refines.{IsIdleBoard, IdleRunsRefineTable}
+use Rattle.dfu_laws.specs.link.Calls.{CallServed, CallReaches, lost, once, twice}
 use Rattle.dfu_laws.proofs.link.Served.{served}
-use Rattle.dfu_laws.proofs.link.Fixed.{row_profile}
-use Rattle.dfu_laws.proofs.link.Timed.{DeviceWell, well_on, time_device}
+use Rattle.dfu_laws.proofs.link.Fixed.{row_keeps_profile}
+use Rattle.dfu_laws.proofs.link.Timed.{ImageKeptOrOffered, image_kept_or_offered_then, passed_time_keeps_or_offers}
 
--- A board that became this device, whose image and closed bytes are well.
-pub record Became (c : Profile) (past : List (List ℕ)) (s : Situation) (b' : Board) : Type 0 where
+-- No writes are due on a board. Its device has the profile c, and an image that is the one of s or was offered; closed bytes were offered.
+pub record BoardImageKeptOrOffered (c : Profile) (past : List (List ℕ)) (s : Situation) (b' : Board) : Type 0 where
   pub device : DeviceView
-  pub idle : IsIdle b' device
+  pub idle : IsIdleBoard b' device
   pub profile_is : profile device ≡ c
-  pub well : DeviceWell past s (situation device)
+  pub well : ImageKeptOrOffered past s (situation device)
 
--- A reset of the bus closes no bytes.
-reset_sound : (past : List (List ℕ)) (stage : Stage) → IsSound past (reset_stage stage)
-reset_sound past (InAppDetach timer passed) = tt
-reset_sound past stage = tt
+-- After a reset of the bus no closed bytes wait.
+reset_leaves_no_closed_bytes : (past : List (List ℕ)) (stage : Stage) → ClosedWasOffered past (reset_stage stage)
+reset_leaves_no_closed_bytes past (InAppDetach timer passed) = tt
+reset_leaves_no_closed_bytes past stage = tt
 
--- It leaves the image.
-pub reset_well : (past : List (List ℕ)) (d d' : DeviceView) → d' ≡ record d { stage = reset_stage d.stage }
-    → DeviceWell past (situation d) (situation d')
-reset_well past d d' e = record {
+-- A reset of the bus leaves the image.
+pub reset_keeps_image : (past : List (List ℕ)) (d d' : DeviceView) → d' ≡ record d { stage = reset_stage d.stage }
+    → ImageKeptOrOffered past (situation d) (situation d')
+reset_keeps_image past d d' e = record {
   image = inl (ap (λ (x : DeviceView). image_of x.slots) e);
-  sound = subst (λ (x : DeviceView). IsSound past x.stage) (sym e) (reset_sound past d.stage);
+  sound = subst (λ (x : DeviceView). ClosedWasOffered past x.stage) (sym e) (reset_leaves_no_closed_bytes past d.stage);
 }
 
-module _ (refines : IdleRefines) (c : Profile) (past : List (List ℕ)) where
-  -- One thing after the other.
-  pub then_well : (s : Situation) (b b' : Board) (x : Became c past s b) → Became c past (situation x.device) b' → Became c past s b'
-  then_well s b b' x y = record {
+module _ (refines : IdleRunsRefineTable) (c : Profile) (past : List (List ℕ)) where
+  -- Two changes, one after the other, keep the image or put an offered one in place.
+  pub board_kept_or_offered_then : (s : Situation) (b b' : Board) (x : BoardImageKeptOrOffered c past s b) →
+      BoardImageKeptOrOffered c past (situation x.device) b' → BoardImageKeptOrOffered c past s b'
+  board_kept_or_offered_then s b b' x y = record {
     device = y.device;
     idle = y.idle;
     profile_is = y.profile_is;
-    well = well_on past s (situation x.device) (situation y.device) x.well y.well;
+    well = image_kept_or_offered_then past s (situation x.device) (situation y.device) x.well y.well;
   }
 
-  -- Time that passes.
-  pub elapses_well : (ms : ℕ) (d d' : DeviceView) → profile d ≡ c → IsSound past d.stage → Elapses ms d d'
-      → DeviceWell past (situation d) (situation d')
-  elapses_well ms d d' e sound row =
+  -- Time that passes keeps the image, or puts an offered one in place.
+  pub elapsed_time_keeps_or_offers : (ms : ℕ) (d d' : DeviceView) → profile d ≡ c → ClosedWasOffered past d.stage → Elapses ms d d'
+      → ImageKeptOrOffered past (situation d) (situation d')
+  elapsed_time_keeps_or_offers ms d d' e sound row =
       let y = times_have_outcomes ms d d' row in
-      subst (λ (z : Situation). DeviceWell past (situation d) z)
-      (ap (λ (p : Profile). elapsed p (situation d) ms y.luck) (sym e) ∙ ap (λ (o : Outcome). o.after) y.same)
-      (time_device c past (image_of d.slots) ms d.stage sound y.luck)
+      subst (λ (z : Situation). ImageKeptOrOffered past (situation d) z)
+      (ap (λ (p : Profile). situation_after_ms p (situation d) ms y.luck) (sym e) ∙ ap (λ (o : Outcome). o.after) y.same)
+      (passed_time_keeps_or_offers c past (image_of d.slots) ms d.stage sound y.luck)
 
-  -- A call that tells of it.
-  passes_well : (ms : ℕ) (b b' : Board) (d : DeviceView) (steps : List BoardStep) (a : Answer) (out : List ℕ) → IsIdle b d → profile d ≡ c
-      → IsSound past d.stage → Serves b (Elapse ms) steps a out b' → Became c past (situation d) b'
-  passes_well ms b b' d steps a out k e sound serves =
+  -- A call that tells of time keeps the image, or puts an offered one in place.
+  elapse_call_keeps_or_offers : (ms : ℕ) (b b' : Board) (d : DeviceView) (steps : List BoardStep) (a : Answer) (out : List ℕ) →
+      IsIdleBoard b d
+      → profile d ≡ c
+      → ClosedWasOffered past d.stage → CallServed b (Elapse ms) steps a out b' → BoardImageKeptOrOffered c past (situation d) b'
+  elapse_call_keeps_or_offers ms b b' d steps a out k e sound serves =
       let x = served refines b b' d (Elapse ms) (Passing ms) steps a out refl k serves in
       record {
         device = x.device;
         idle = x.idle;
-        profile_is = row_profile d x.device (Passing ms) a out x.row ∙ e;
-        well = elapses_well ms d x.device e sound x.row.2;
+        profile_is = row_keeps_profile d x.device (Passing ms) a out x.row ∙ e;
+        well = elapsed_time_keeps_or_offers ms d x.device e sound x.row.2;
       }
 
-  -- One that is lost, or comes once or twice.
-  pub reaches_well : (ms : ℕ) (b b' : Board) (d : DeviceView) (steps : List BoardStep) (says : BoardReply) → IsIdle b d → profile d ≡ c
-      → IsSound past d.stage → Reaches (Elapse ms) b steps says b' → Became c past (situation d) b'
-  reaches_well ms b _ d _ _ k e sound lost =
+  -- A call that tells of time and is lost, or is handed in once or twice, keeps the image, or puts an offered one in place.
+  pub reached_elapse_keeps_or_offers : (ms : ℕ) (b b' : Board) (d : DeviceView) (steps : List BoardStep) (says : BoardReply) →
+      IsIdleBoard b d → profile d ≡ c
+      → ClosedWasOffered past d.stage → CallReaches (Elapse ms) b steps says b' → BoardImageKeptOrOffered c past (situation d) b'
+  reached_elapse_keeps_or_offers ms b _ d _ _ k e sound lost =
       record { device = d; idle = k; profile_is = e; well = record { image = inl refl; sound = sound } }
-  reaches_well ms b b' d steps _ k e sound (once {a = a} {out = out} serves) = passes_well ms b b' d steps a out k e sound serves
-  reaches_well ms b b' d _ _ k e sound (twice {first = first} {second = second} {a = a} {x = a0} {out = out} {said = out0} {mid = mid}
+  reached_elapse_keeps_or_offers ms b b' d steps _ k e sound (once {a = a} {out = out} serves) = elapse_call_keeps_or_offers ms b b' d
+      steps a out k e sound serves
+  reached_elapse_keeps_or_offers ms b b' d _ _ k e sound (twice {first = first} {second = second} {a = a} {x = a0} {out = out} {said =
+      out0} {mid = mid}
       serves more) =
-      let x = passes_well ms b mid d first a0 out0 k e sound serves in
-      then_well (situation d) mid b' x (passes_well ms mid b' x.device second a out x.idle x.profile_is x.well.sound more)
+      let x = elapse_call_keeps_or_offers ms b mid d first a0 out0 k e sound serves in
+      board_kept_or_offered_then (situation d) mid b' x (elapse_call_keeps_or_offers ms mid b' x.device second a out x.idle x.profile_is
+      x.well.sound more)
 
-  -- A call of a reset of the bus.
-  pub resets_well : (b b' : Board) (d : DeviceView) (steps : List BoardStep) (a : Answer) (out : List ℕ) → IsIdle b d → profile d ≡ c
-      → Serves b UsbReset steps a out b' → Became c past (situation d) b'
-  resets_well b b' d steps a out k e serves =
+  -- A call that tells of a reset of the bus keeps the image.
+  pub reset_call_keeps_image : (b b' : Board) (d : DeviceView) (steps : List BoardStep) (a : Answer) (out : List ℕ) → IsIdleBoard b d →
+      profile d ≡ c
+      → CallServed b UsbReset steps a out b' → BoardImageKeptOrOffered c past (situation d) b'
+  reset_call_keeps_image b b' d steps a out k e serves =
       let x = served refines b b' d UsbReset BusReset steps a out refl k serves in
       record {
         device = x.device;
         idle = x.idle;
-        profile_is = row_profile d x.device BusReset a out x.row ∙ e;
-        well = reset_well past d x.device x.row.2;
+        profile_is = row_keeps_profile d x.device BusReset a out x.row ∙ e;
+        well = reset_keeps_image past d x.device x.row.2;
       }

@@ -1,144 +1,150 @@
--- All that comes to a board are runs of it, between marks of a trial.
+-- Steps that come to a board over a link, which are runs between marks and ends of trials.
 use Rattle.std.specs.Prelude.{◌≡◌, ◌⊎◌, ℕ, Bool, Option, List, [], ◌∷◌, ◌++◌}
 use Rattle.std.proofs.Common.{inl, inr, refl, sym, ◌∙◌, subst}
 use Rattle.dfu_device.specs.declared.objection.Objection.{Objection}
 use Rattle.dfu_sim.specs.Play.{Answered}
-use Rattle.dfu_asks.specs.Lent.{IsSetUpAs}
+use Rattle.dfu_asks.specs.Lent.{SameSetup}
 use Rattle.dfu_laws.specs.board.Board.{Board, Event, Handle, BoardReply, BoardStep}
-use Rattle.dfu_laws.specs.board.Happens.{Happens, IsRun}
-use Rattle.dfu_laws.specs.link.Calls.{Reaches, lost, once, twice, Objects, refused_once, refused_twice, Stops, behind, within, within_second}
-use Rattle.dfu_laws.specs.link.Marks.{IsMarkedBoard, TrialEnd, AreMarked, none_is, one_more, one_end, IsMarkedRun, AreJoined}
-use Rattle.dfu_laws.specs.link.LinkSteps.{BoardLink, BoardLinkStep, passes, sends, refuses, waits, resets, is_reset, restarts, leaves, restarts_at_reset, marks}
-use Rattle.dfu_laws.specs.link.Plays.{Plays, starts, offers, uploads, aborts as gives_up, goes_on, ends, PlaysRun}
+use Rattle.dfu_laws.specs.board.Happens.{EventOutcome, IsRun}
+use Rattle.dfu_laws.specs.link.Calls.{CallReaches, lost, once, twice, ImageRefusedAtClose, close_refused_once, close_refused_then_repeated, CallCutOff, behind, within, power_lost_in_second_call}
+use Rattle.dfu_laws.specs.link.Marks.{IsMarkedBoard, TrialEnd, MarksOrTrialEnds, no_mark_or_end, one_more, then_trial_end, IsRunWithMarks, AreStepsJoined}
+use Rattle.dfu_laws.specs.link.LinkSteps.{BoardLink, BoardLinkStep, passes, sends, refuses, waits, resets, is_reset_by_other_cause, restarts, leaves, restarts_at_reset, marks}
+use Rattle.dfu_laws.specs.link.Plays.{BoardPlays, starts, offers, uploads, aborts as gives_up, goes_on, ends, PlaysAreRuns}
 
 run_append : (b mid b' : Board) (xs ys : List BoardStep) → IsRun b xs mid → IsRun mid ys b' → IsRun b (xs ++ ys) b'
 run_append b mid b' [] ys run more = subst (λ (x : Board). IsRun x ys b') run more
 run_append b mid b' (x ∷ xs) ys run more = (run.0, run.1, run.2, run_append x.after mid b' xs ys run.3 more)
 
--- A run in two parts.
+-- A run in two parts, with the board between them.
 pub record RunParts (b : Board) (xs ys : List BoardStep) (b' : Board) : Type 0 where
   pub mid : Board
   pub first : IsRun b xs mid
   pub second : IsRun mid ys b'
 
--- A run of two lists is such a run.
+-- A run over two lists of steps, one after the other, has two parts.
 pub run_parts : (b : Board) (xs ys : List BoardStep) (b' : Board) → IsRun b (xs ++ ys) b' → RunParts b xs ys b'
 run_parts b [] ys b' run = record { mid = b; first = refl; second = run }
 run_parts b (x ∷ xs) ys b' run =
     let more = run_parts x.after xs ys b' run.3 in
     record { mid = more.mid; first = (run.0, run.1, run.2, more.first); second = more.second }
 
--- Equal steps lead to the same board.
-pub one_run : (b : Board) (steps : List BoardStep) (x y : Board) → IsRun b steps x → IsRun b steps y → x ≡ y
-one_run b [] x y h k = h ∙ sym k
-one_run b (s ∷ rest) x y h k = one_run s.after rest x y h.3 k.3
+-- Equal steps from a board lead to one board.
+pub run_leads_to_one_board : (b : Board) (steps : List BoardStep) (x y : Board) → IsRun b steps x → IsRun b steps y → x ≡ y
+run_leads_to_one_board b [] x y h k = h ∙ sym k
+run_leads_to_one_board b (s ∷ rest) x y h k = run_leads_to_one_board s.after rest x y h.3 k.3
 
--- A call that reaches a board is a run of it.
-pub reaches_run : (call : Event) (b b' : Board) (steps : List BoardStep) (says : BoardReply) → Reaches call b steps says b'
+-- The steps of a call that reaches a board are a run of it.
+pub reached_call_is_run : (call : Event) (b b' : Board) (steps : List BoardStep) (says : BoardReply) → CallReaches call b steps says b'
     → IsRun b steps b'
-reaches_run call b _ _ _ lost = refl
-reaches_run call b _ steps _ (once serves) = serves.run
-reaches_run call b b' _ _ (twice {first = first} {second = second} {mid = mid} serves more) =
+reached_call_is_run call b _ _ _ lost = refl
+reached_call_is_run call b _ steps _ (once serves) = serves.run
+reached_call_is_run call b b' _ _ (twice {first = first} {second = second} {mid = mid} serves more) =
     run_append b mid b' first second serves.run more.run
 
-objects_run : (setup body : List ℕ) (why : Objection) (b b' : Board) (steps : List BoardStep) (says : BoardReply)
-    → Objects setup body why b steps says b' → IsRun b steps b'
-objects_run setup body why b _ steps _ (refused_once serves) = serves.run
-objects_run setup body why b b' _ _ (refused_twice {first = first} {second = second} {mid = mid} serves more) =
+refused_close_is_run : (setup body : List ℕ) (why : Objection) (b b' : Board) (steps : List BoardStep) (says : BoardReply)
+    → ImageRefusedAtClose setup body why b steps says b' → IsRun b steps b'
+refused_close_is_run setup body why b _ steps _ (close_refused_once serves) = serves.run
+refused_close_is_run setup body why b b' _ _ (close_refused_then_repeated {first = first} {second = second} {mid = mid} serves more) =
     run_append b mid b' first second serves.run more.run
 
-stops_run : (call : Event) (b b' : Board) (steps : List BoardStep) → Stops call b steps b' → IsRun b steps b'
-stops_run call b b' _ (behind {steps = steps} {says = says} {mid = mid} power begins reaches run e) =
-    run_append b mid b' steps (power ∷ []) (reaches_run call b mid steps says reaches) run
-stops_run call b b' steps (within run br) = run
-stops_run call b b' _ (within_second {first = first} {second = second} {mid = mid} serves run br) =
+cut_off_call_is_run : (call : Event) (b b' : Board) (steps : List BoardStep) → CallCutOff call b steps b' → IsRun b steps b'
+cut_off_call_is_run call b b' _ (behind {steps = steps} {says = says} {mid = mid} power begins reaches run e) =
+    run_append b mid b' steps (power ∷ []) (reached_call_is_run call b mid steps says reaches) run
+cut_off_call_is_run call b b' steps (within run br) = run
+cut_off_call_is_run call b b' _ (power_lost_in_second_call {first = first} {second = second} {mid = mid} serves run br) =
     run_append b mid b' first second serves.run run
 
--- The next event over a link is a run, or a mark with no steps.
-abbrev pub WentBy : Board → List BoardStep → Board → Type 0
-WentBy b steps b' = IsRun b steps b' ⊎ ((steps ≡ []) × IsMarkedBoard b b')
+-- The steps lead to the board b' by a run, or are none and a mark leads to it.
+abbrev pub IsRunOrMark : Board → List BoardStep → Board → Type 0
+IsRunOrMark b steps b' = IsRun b steps b' ⊎ ((steps ≡ []) × IsMarkedBoard b b')
 
-pub comes_run : (l l' : BoardLink) (steps : List BoardStep) (answer : Answered) → BoardLinkStep l steps answer l' →
-    WentBy l.board steps l'.board
-comes_run l _ steps _ (passes serves) = inl serves.run
-comes_run l _ steps _ (sends {setup = setup} {body = body} {says = says} {b' = b'} live is asked (inl reaches) hears room) =
-    inl (reaches_run (Handle setup body) l.board b' steps says reaches)
-comes_run l _ steps _ (sends {setup = setup} {body = body} {says = says} {b' = b'} live is asked (inr (why, refused)) hears room) =
-    inl (objects_run setup body why l.board b' steps says refused)
-comes_run l _ steps _ (refuses serves) = inl serves.run
-comes_run l _ _ _ (waits live is) = inl refl
-comes_run l _ steps _ (resets live is serves) = inl serves.run
-comes_run l _ _ _ (is_reset {call = call} {steps = steps} {more = more} {says = says} {mid = mid} {b' = b'} way reaches serves) =
-    inl (run_append l.board mid b' steps more (reaches_run call l.board mid steps says reaches) serves.run)
-comes_run l _ steps _ (restarts {call = call} {b' = b'} way stops) = inl (stops_run call l.board b' steps stops)
-comes_run l _ _ _ (leaves live enters run event) = inl run
-comes_run l _ _ _ (restarts_at_reset live is way run event) = inl run
-comes_run l _ _ _ (marks mark) = inr (refl, mark)
+pub link_step_is_run_or_mark : (l l' : BoardLink) (steps : List BoardStep) (answer : Answered) → BoardLinkStep l steps answer l' →
+    IsRunOrMark l.board steps l'.board
+link_step_is_run_or_mark l _ steps _ (passes serves) = inl serves.run
+link_step_is_run_or_mark l _ steps _ (sends {setup = setup} {body = body} {says = says} {b' = b'} live is asked (inl reaches) hears room) =
+    inl (reached_call_is_run (Handle setup body) l.board b' steps says reaches)
+link_step_is_run_or_mark l _ steps _ (sends {setup = setup} {body = body} {says = says} {b' = b'} live is asked (inr (why, refused)) hears
+    room) =
+    inl (refused_close_is_run setup body why l.board b' steps says refused)
+link_step_is_run_or_mark l _ steps _ (refuses serves) = inl serves.run
+link_step_is_run_or_mark l _ _ _ (waits live is) = inl refl
+link_step_is_run_or_mark l _ steps _ (resets live is serves) = inl serves.run
+link_step_is_run_or_mark l _ _ _ (is_reset_by_other_cause {call = call} {steps = steps} {more = more} {says = says} {mid = mid} {b' = b'}
+    way reaches serves) =
+    inl (run_append l.board mid b' steps more (reached_call_is_run call l.board mid steps says reaches) serves.run)
+link_step_is_run_or_mark l _ steps _ (restarts {call = call} {b' = b'} way stops) = inl (cut_off_call_is_run call l.board b' steps stops)
+link_step_is_run_or_mark l _ _ _ (leaves live enters run event) = inl run
+link_step_is_run_or_mark l _ _ _ (restarts_at_reset live is way run event) = inl run
+link_step_is_run_or_mark l _ _ _ (marks mark) = inr (refl, mark)
 
--- The first of its steps are a run.
-pub record FrontRun (b : Board) (xs : List BoardStep) : Type 0 where
+-- The steps xs are a run to some board.
+pub record RunOfFirstSteps (b : Board) (xs : List BoardStep) : Type 0 where
   pub mid : Board
   pub run : IsRun b xs mid
 
-pub front_run : (b b' : Board) (xs ys : List BoardStep) → WentBy b (xs ++ ys) b' → FrontRun b xs
-front_run b b' xs ys (inl run) = let p = run_parts b xs ys b' run in record { mid = p.mid; run = p.first }
-front_run b b' [] ys (inr (none, mark)) = record { mid = b; run = refl }
-front_run b b' (x ∷ xs) ys (inr (none, mark)) = absurd (cc)
+pub first_steps_are_run : (b b' : Board) (xs ys : List BoardStep) → IsRunOrMark b (xs ++ ys) b' → RunOfFirstSteps b xs
+first_steps_are_run b b' xs ys (inl run) = let p = run_parts b xs ys b' run in record { mid = p.mid; run = p.first }
+first_steps_are_run b b' [] ys (inr (none, mark)) = record { mid = b; run = refl }
+first_steps_are_run b b' (x ∷ xs) ys (inr (none, mark)) = absurd (cc)
 
--- Marks between steps.
+-- Marks and ends of trials between steps.
 
-run_marked : (b b' : Board) (steps : List BoardStep) → IsRun b steps b' → IsMarkedRun b steps b'
-run_marked b b' [] same = subst (λ (x : Board). AreMarked b x) (sym same) none_is
-run_marked b b' (s ∷ rest) (same, happens, alike, more) = (
-  subst (λ (x : Board). AreMarked b x) (sym same) none_is,
-  subst (λ (x : Board). Happens x s.event s.says s.after) (sym same) happens,
-  subst (λ (x : Board). IsSetUpAs x.asking s.after.asking) (sym same) alike,
-  run_marked s.after b' rest more,
+run_is_run_with_marks : (b b' : Board) (steps : List BoardStep) → IsRun b steps b' → IsRunWithMarks b steps b'
+run_is_run_with_marks b b' [] same = subst (λ (x : Board). MarksOrTrialEnds b x) (sym same) no_mark_or_end
+run_is_run_with_marks b b' (s ∷ rest) (same, happens, alike, more) = (
+  subst (λ (x : Board). MarksOrTrialEnds b x) (sym same) no_mark_or_end,
+  subst (λ (x : Board). EventOutcome x s.event s.says s.after) (sym same) happens,
+  subst (λ (x : Board). SameSetup x.asking s.after.asking) (sym same) alike,
+  run_is_run_with_marks s.after b' rest more,
 )
 
-by_marked : (b b' : Board) (steps : List BoardStep) → WentBy b steps b' → IsMarkedRun b steps b'
-by_marked b b' steps (inl run) = run_marked b b' steps run
-by_marked b b' steps (inr (none, mark)) = subst (λ (l : List BoardStep). IsMarkedRun b l b') (sym none) (one_more none_is mark)
+run_or_mark_has_marks : (b b' : Board) (steps : List BoardStep) → IsRunOrMark b steps b' → IsRunWithMarks b steps b'
+run_or_mark_has_marks b b' steps (inl run) = run_is_run_with_marks b b' steps run
+run_or_mark_has_marks b b' steps (inr (none, mark)) = subst (λ (l : List BoardStep). IsRunWithMarks b l b') (sym none) (one_more
+    no_mark_or_end mark)
 
-more_are : (b mid b' : Board) → AreMarked b mid → AreMarked mid b' → AreMarked b b'
-more_are b mid _ marked none_is = marked
-more_are b mid _ marked (one_more {mid = late} {b' = b'} more mark) = one_more (more_are b mid late marked more) mark
-more_are b mid _ marked (one_end {mid = late} {b' = b'} {begins = begins} more end) = one_end (more_are b mid late marked more) end
+marks_append : (b mid b' : Board) → MarksOrTrialEnds b mid → MarksOrTrialEnds mid b' → MarksOrTrialEnds b b'
+marks_append b mid _ marked no_mark_or_end = marked
+marks_append b mid _ marked (one_more {mid = late} {b' = b'} more mark) = one_more (marks_append b mid late marked more) mark
+marks_append b mid _ marked (then_trial_end {mid = late} {b' = b'} {begins = begins} more end) = then_trial_end (marks_append b mid late
+    marked more) end
 
-marked_end : (b mid b' : Board) (begins : Bool) (steps : List BoardStep) → IsMarkedRun b steps mid → TrialEnd mid begins b'
-    → IsMarkedRun b steps b'
-marked_end b mid b' begins [] marked end = one_end marked end
-marked_end b mid b' begins (s ∷ rest) run end = (run.0, run.1, run.2, marked_end s.after mid b' begins rest run.3 end)
+run_then_trial_end : (b mid b' : Board) (begins : Bool) (steps : List BoardStep) → IsRunWithMarks b steps mid → TrialEnd mid begins b'
+    → IsRunWithMarks b steps b'
+run_then_trial_end b mid b' begins [] marked end = then_trial_end marked end
+run_then_trial_end b mid b' begins (s ∷ rest) run end = (run.0, run.1, run.2, run_then_trial_end s.after mid b' begins rest run.3 end)
 
-marked_append : (b mid b' : Board) (xs ys : List BoardStep) → IsMarkedRun b xs mid → IsMarkedRun mid ys b' → IsMarkedRun b (xs ++ ys) b'
-marked_append b mid b' [] [] marked more = more_are b mid b' marked more
-marked_append b mid b' [] (y ∷ ys) marked more = (more_are b mid y.before marked more.0, more.1, more.2, more.3)
-marked_append b mid b' (x ∷ xs) ys run more = (run.0, run.1, run.2, marked_append x.after mid b' xs ys run.3 more)
+run_with_marks_append : (b mid b' : Board) (xs ys : List BoardStep) → IsRunWithMarks b xs mid → IsRunWithMarks mid ys b' →
+    IsRunWithMarks b (xs ++ ys) b'
+run_with_marks_append b mid b' [] [] marked more = marks_append b mid b' marked more
+run_with_marks_append b mid b' [] (y ∷ ys) marked more = (marks_append b mid y.before marked more.0, more.1, more.2, more.3)
+run_with_marks_append b mid b' (x ∷ xs) ys run more = (run.0, run.1, run.2, run_with_marks_append x.after mid b' xs ys run.3 more)
 
-joined_run : (b b' : Board) (steps : List BoardStep) → IsMarkedRun b steps b' → AreJoined b steps b' → IsRun b steps b'
-joined_run b b' [] marked same = same
-joined_run b b' (s ∷ rest) (marked, happens, alike, more) (same, joined) = (
+joined_steps_are_run : (b b' : Board) (steps : List BoardStep) → IsRunWithMarks b steps b' → AreStepsJoined b steps b' → IsRun b steps b'
+joined_steps_are_run b b' [] marked same = same
+joined_steps_are_run b b' (s ∷ rest) (marked, happens, alike, more) (same, joined) = (
   same,
-  subst (λ (x : Board). Happens x s.event s.says s.after) same happens,
-  subst (λ (x : Board). IsSetUpAs x.asking s.after.asking) same alike,
-  joined_run s.after b' rest more joined,
+  subst (λ (x : Board). EventOutcome x s.event s.says s.after) same happens,
+  subst (λ (x : Board). SameSetup x.asking s.after.asking) same alike,
+  joined_steps_are_run s.after b' rest more joined,
 )
 
-plays_marked : (b : Board) (steps : List BoardStep) (past : List (List ℕ)) (last : Option (List ℕ)) (l : BoardLink)
-    → Plays b steps past last l → IsMarkedRun b steps l.board
-plays_marked b _ _ _ _ starts = none_is
-plays_marked b steps _ _ _ (offers {past = past} {last = last} {l = l} purpose payload limits p none some) =
-    plays_marked b steps past last l p
-plays_marked b steps past _ _ (uploads {last = last} {l = l} limits p none) = plays_marked b steps past last l p
-plays_marked b steps past last _ (gives_up {l = l} p live) = plays_marked b steps past last l p
-plays_marked b _ past last _ (goes_on {steps = steps} {more = more} {l = l} {l' = l'} {answer = answer} p comes) =
-    marked_append b l.board l'.board steps more (plays_marked b steps past last l p)
-    (by_marked l.board l'.board more (comes_run l l' more answer comes))
-plays_marked b steps _ last _ (ends {past = past} {l = l} {b' = b'} {begins = begins} image p may end active) =
-    marked_end b l.board b' begins steps (plays_marked b steps past last l p) end
+plays_are_runs_with_marks : (b : Board) (steps : List BoardStep) (past back : List (List ℕ)) (last : Option (List ℕ)) (l : BoardLink)
+    → BoardPlays b steps past back last l → IsRunWithMarks b steps l.board
+plays_are_runs_with_marks b _ _ _ _ _ starts = no_mark_or_end
+plays_are_runs_with_marks b steps _ _ _ _ (offers {past = past} {back = back} {last = last} {l = l} purpose payload limits p none some) =
+    plays_are_runs_with_marks b steps past back last l p
+plays_are_runs_with_marks b steps past back _ _ (uploads {last = last} {l = l} limits p none) = plays_are_runs_with_marks b steps past back
+    last l p
+plays_are_runs_with_marks b steps past back last _ (gives_up {l = l} p live) = plays_are_runs_with_marks b steps past back last l p
+plays_are_runs_with_marks b _ past back last _ (goes_on {steps = steps} {more = more} {l = l} {l' = l'} {answer = answer} p comes) =
+    run_with_marks_append b l.board l'.board steps more (plays_are_runs_with_marks b steps past back last l p)
+    (run_or_mark_has_marks l.board l'.board more (link_step_is_run_or_mark l l' more answer comes))
+plays_are_runs_with_marks b steps _ _ last _ (ends {past = past} {back = back} {l = l} {b' = b'} {begins = begins} image p may end active) =
+    run_then_trial_end b l.board b' begins steps (plays_are_runs_with_marks b steps past back last l p) end
 
--- Each list of plays is runs of the board.
-pub plays_run : PlaysRun
-plays_run b steps past last l p =
-    let marked = plays_marked b steps past last l p in
-    record { marked = marked; joined = joined_run b l.board steps marked }
+-- The steps of sessions with a board are runs between marks and ends of trials.
+pub plays_are_runs : PlaysAreRuns
+plays_are_runs b steps past back last l p =
+    let marked = plays_are_runs_with_marks b steps past back last l p in
+    record { marked = marked; joined = joined_steps_are_run b l.board steps marked }

@@ -1,4 +1,4 @@
--- A call that comes to a board, with its writes, is one row of the device table.
+-- Calls to a board with their writes, each of which is one row of the device table.
 use Rattle.std.specs.Prelude.{◌≡◌, ℕ, List, [], ◌∷◌, ◌++◌, Option, Some, None}
 use Rattle.std.proofs.Common.{sym, ◌∙◌, subst}
 use Rattle.dfu_device.specs.declared.answer.Answer.{Answer}
@@ -6,53 +6,57 @@ use Rattle.dfu_device.specs.DeviceView.{DeviceView}
 use Rattle.dfu_device.specs.Rows.{Cause, Transfer, Passing, BusReset, RefusingClose, Refusing, Row}
 use Rattle.dfu_device.specs.History.{IsHistory, HistoryStep as TableRow}
 use Rattle.dfu_laws.specs.board.Board.{Board, Event, Handle, Elapse, UsbReset, RefuseClose, Refuse, Write, Took, Restart, BoardReply, Nothing, WritesDue, Answers, BoardStep}
-use Rattle.dfu_laws.specs.board.Refines.{IsOne, CallRows, EventRows, StepRows, IsIdle, RepresentsDevice, IdleRefines}
-use Rattle.dfu_laws.specs.link.Calls.{CarriesOn, WorksOff, ends, carries_on, IsCall, at_once, with_writes, Serves}
+use Rattle.dfu_laws.specs.board.Refines.{IsOneRow, CallRows, EventRows, StepRows, IsIdleBoard, RepresentsDevice, IdleRunsRefineTable}
+use Rattle.dfu_laws.specs.link.Calls.{WritesStayDue, WritesEndWithAnswer, ends, writes_still_due_then, AnsweredCall, at_once, answered_after_writes, CallServed}
 
--- The call of this cause.
-abbrev pub IsOf : Event → Cause → Type 0
-IsOf (Handle setup body) cause = cause ≡ Transfer setup body
-IsOf (Elapse ms) cause = cause ≡ Passing ms
-IsOf UsbReset cause = cause ≡ BusReset
-IsOf (RefuseClose setup why) cause = cause ≡ RefusingClose setup why
-IsOf (Refuse why) cause = cause ≡ Refusing why
-IsOf event cause = ⊥
+-- The call is the one of the cause.
+abbrev pub IsCallOfCause : Event → Cause → Type 0
+IsCallOfCause (Handle setup body) cause = cause ≡ Transfer setup body
+IsCallOfCause (Elapse ms) cause = cause ≡ Passing ms
+IsCallOfCause UsbReset cause = cause ≡ BusReset
+IsCallOfCause (RefuseClose setup why) cause = cause ≡ RefusingClose setup why
+IsCallOfCause (Refuse why) cause = cause ≡ Refusing why
+IsCallOfCause event cause = ⊥
 
--- Its event tells of its rows.
-pub tells_of : (call : Event) (cause : Cause) (due due' : Option Cause) (says : BoardReply) (rows : List TableRow) → IsOf call cause
+-- The rows of the event of a call are the rows of its cause.
+pub event_tells_of_rows : (call : Event) (cause : Cause) (due due' : Option Cause) (says : BoardReply) (rows : List TableRow)
+    → IsCallOfCause call cause
     → EventRows due call says rows due' → CallRows cause due says rows due'
-tells_of (Handle setup body) cause due due' says rows is t = subst (λ (x : Cause). CallRows x due says rows due') (sym is) t
-tells_of (Elapse ms) cause due due' says rows is t = subst (λ (x : Cause). CallRows x due says rows due') (sym is) t
-tells_of UsbReset cause due due' says rows is t = subst (λ (x : Cause). CallRows x due says rows due') (sym is) t
-tells_of (RefuseClose setup why) cause due due' says rows is t = subst (λ (x : Cause). CallRows x due says rows due') (sym is) t
-tells_of (Refuse why) cause due due' says rows is t = subst (λ (x : Cause). CallRows x due says rows due') (sym is) t
-tells_of event cause due due' says rows is t = elim is [ ]
+event_tells_of_rows (Handle setup body) cause due due' says rows is t = subst (λ (x : Cause). CallRows x due says rows due') (sym is) t
+event_tells_of_rows (Elapse ms) cause due due' says rows is t = subst (λ (x : Cause). CallRows x due says rows due') (sym is) t
+event_tells_of_rows UsbReset cause due due' says rows is t = subst (λ (x : Cause). CallRows x due says rows due') (sym is) t
+event_tells_of_rows (RefuseClose setup why) cause due due' says rows is t = subst (λ (x : Cause). CallRows x due says rows due') (sym is) t
+event_tells_of_rows (Refuse why) cause due due' says rows is t = subst (λ (x : Cause). CallRows x due says rows due') (sym is) t
+event_tells_of_rows event cause due due' says rows is t = elim is [ ]
 
--- A call that is refused has no row, and what is due stays due.
-refused : (cause due : Cause) (due' : Option Cause) (says : BoardReply) (rows : List TableRow) → says ≡ Nothing
+-- A call that is refused has no row, and the row that is due stays due.
+refused_call_has_no_row : (cause due : Cause) (due' : Option Cause) (says : BoardReply) (rows : List TableRow) → says ≡ Nothing
     → CallRows cause (Some due) says rows due' → (rows ≡ []) × (due' ≡ Some due)
-refused cause due due' says rows e t = subst (λ (x : BoardReply). CallRows cause (Some due) x rows due') e t
+refused_call_has_no_row cause due due' says rows e t = subst (λ (x : BoardReply). CallRows cause (Some due) x rows due') e t
 
--- Nor has what carries on the writes.
-pub carried : (e : Event) (says : BoardReply) (due : Cause) (due' : Option Cause) (rows : List TableRow) → CarriesOn e says
+-- An event that leaves writes due has no row, and the row that is due stays due.
+pub carried_writes_have_no_row : (e : Event) (says : BoardReply) (due : Cause) (due' : Option Cause) (rows : List TableRow)
+    → WritesStayDue e says
     → EventRows (Some due) e says rows due' → (rows ≡ []) × (due' ≡ Some due)
-carried Write says due due' rows c t = t
-carried (Took failed) (Answers a out) due due' rows c t = elim c [ ]
-carried (Took failed) Nothing due due' rows c t = t
-carried (Took failed) WritesDue due due' rows c t = t
-carried (Handle setup body) says due due' rows c t = refused (Transfer setup body) due due' says rows c t
-carried (Elapse ms) says due due' rows c t = refused (Passing ms) due due' says rows c t
-carried UsbReset says due due' rows c t = refused BusReset due due' says rows c t
-carried (RefuseClose setup why) says due due' rows c t = refused (RefusingClose setup why) due due' says rows c t
-carried (Refuse why) says due due' rows c t = refused (Refusing why) due due' says rows c t
-carried (Restart begins) says due due' rows c t = elim c [ ]
+carried_writes_have_no_row Write says due due' rows c t = t
+carried_writes_have_no_row (Took failed) (Answers a out) due due' rows c t = elim c [ ]
+carried_writes_have_no_row (Took failed) Nothing due due' rows c t = t
+carried_writes_have_no_row (Took failed) WritesDue due due' rows c t = t
+carried_writes_have_no_row (Handle setup body) says due due' rows c t = refused_call_has_no_row (Transfer setup body) due due' says rows c t
+carried_writes_have_no_row (Elapse ms) says due due' rows c t = refused_call_has_no_row (Passing ms) due due' says rows c t
+carried_writes_have_no_row UsbReset says due due' rows c t = refused_call_has_no_row BusReset due due' says rows c t
+carried_writes_have_no_row (RefuseClose setup why) says due due' rows c t = refused_call_has_no_row (RefusingClose setup why) due due' says
+    rows c t
+carried_writes_have_no_row (Refuse why) says due due' rows c t = refused_call_has_no_row (Refusing why) due due' says rows c t
+carried_writes_have_no_row (Restart begins) says due due' rows c t = elim c [ ]
 
--- The rows of a call that is answered: one of its cause, with this answer, and nothing is due.
-pub answered : (cause : Cause) (due due' end : Option Cause) (says : BoardReply) (a : Answer) (out : List ℕ) (rows first later : List TableRow)
+-- A call that is answered has one row, of its cause and with its answer, and nothing is due after it.
+pub answered_call_rows : (cause : Cause) (due due' end : Option Cause) (says : BoardReply) (a : Answer) (out : List ℕ)
+    (rows first later : List TableRow)
     → says ≡ Answers a out → CallRows cause due says first due' → rows ≡ first ++ later → later ≡ [] → end ≡ due'
-    → IsOne cause a out rows × (end ≡ None)
-answered cause due due' end says a out rows first later e t are none same =
-    let x : IsOne cause a out first × (due' ≡ None) = subst (λ (y : BoardReply). CallRows cause due y first due') e t in (
+    → IsOneRow cause a out rows × (end ≡ None)
+answered_call_rows cause due due' end says a out rows first later e t are none same =
+    let x : IsOneRow cause a out first × (due' ≡ None) = subst (λ (y : BoardReply). CallRows cause due y first due') e t in (
       record {
         row = x.0.row;
         rows_are = are ∙ (λ i. x.0.rows_are i ++ none i);
@@ -63,34 +67,35 @@ answered cause due due' end says a out rows first later e t are none same =
       same ∙ x.1,
     )
 
-works_off : (cause : Cause) (a : Answer) (out : List ℕ) (steps : List BoardStep) (rows : List TableRow) (due : Option Cause)
-    → WorksOff a out steps → StepRows (Some cause) steps rows due → IsOne cause a out rows × (due ≡ None)
-works_off cause a out _ rows due (ends s failed event says) (first, later, mid, are, t, more) =
-    answered cause (Some cause) mid due s.says a out rows first later says
+ended_writes_make_one_row : (cause : Cause) (a : Answer) (out : List ℕ) (steps : List BoardStep) (rows : List TableRow) (due : Option Cause)
+    → WritesEndWithAnswer a out steps → StepRows (Some cause) steps rows due → IsOneRow cause a out rows × (due ≡ None)
+ended_writes_make_one_row cause a out _ rows due (ends s failed event says) (first, later, mid, are, t, more) =
+    answered_call_rows cause (Some cause) mid due s.says a out rows first later says
     (subst (λ (x : Event). EventRows (Some cause) x s.says first mid) event t) are more.0 more.1
-works_off cause a out _ rows due (carries_on s rest c w) (first, later, mid, are, t, more) =
-    let x = carried s.event s.says cause mid first c t in
+ended_writes_make_one_row cause a out _ rows due (writes_still_due_then s rest c w) (first, later, mid, are, t, more) =
+    let x = carried_writes_have_no_row s.event s.says cause mid first c t in
     let same : rows ≡ later = are ∙ (λ i. x.0 i ++ later) in
-    let y = works_off cause a out rest later due w (subst (λ (z : Option Cause). StepRows z rest later due) x.1 more) in
-    (subst (λ (r : List TableRow). IsOne cause a out r) (sym same) y.0, y.1)
+    let y = ended_writes_make_one_row cause a out rest later due w (subst (λ (z : Option Cause). StepRows z rest later due) x.1 more) in
+    (subst (λ (r : List TableRow). IsOneRow cause a out r) (sym same) y.0, y.1)
 
-call_tells : (call : Event) (cause : Cause) (a : Answer) (out : List ℕ) (steps : List BoardStep) (rows : List TableRow)
-    (due : Option Cause) → IsOf call cause → IsCall call a out steps → StepRows None steps rows due
-    → IsOne cause a out rows × (due ≡ None)
-call_tells call cause a out _ rows due is (at_once s event says) (first, later, mid, are, t, more) =
-    answered cause None mid due s.says a out rows first later says
-    (tells_of call cause None mid s.says first is (subst (λ (x : Event). EventRows None x s.says first mid) event t)) are more.0 more.1
-call_tells call cause a out _ rows due is (with_writes s rest event says w) (first, later, mid, are, t, more) =
-    let told = tells_of call cause None mid s.says first is (subst (λ (x : Event). EventRows None x s.says first mid) event t) in
+answered_call_makes_one_row : (call : Event) (cause : Cause) (a : Answer) (out : List ℕ) (steps : List BoardStep) (rows : List TableRow)
+    (due : Option Cause) → IsCallOfCause call cause → AnsweredCall call a out steps → StepRows None steps rows due
+    → IsOneRow cause a out rows × (due ≡ None)
+answered_call_makes_one_row call cause a out _ rows due is (at_once s event says) (first, later, mid, are, t, more) =
+    answered_call_rows cause None mid due s.says a out rows first later says
+    (event_tells_of_rows call cause None mid s.says first is (subst (λ (x : Event). EventRows None x s.says first mid) event t)) are more.0
+    more.1
+answered_call_makes_one_row call cause a out _ rows due is (answered_after_writes s rest event says w) (first, later, mid, are, t, more) =
+    let told = event_tells_of_rows call cause None mid s.says first is (subst (λ (x : Event). EventRows None x s.says first mid) event t) in
     let x : (first ≡ []) × (mid ≡ Some cause) = subst (λ (y : BoardReply). CallRows cause None y first mid) says told in
     let same : rows ≡ later = are ∙ (λ i. x.0 i ++ later) in
-    let y = works_off cause a out rest later due w (subst (λ (z : Option Cause). StepRows z rest later due) x.1 more) in
-    (subst (λ (r : List TableRow). IsOne cause a out r) (sym same) y.0, y.1)
+    let y = ended_writes_make_one_row cause a out rest later due w (subst (λ (z : Option Cause). StepRows z rest later due) x.1 more) in
+    (subst (λ (r : List TableRow). IsOneRow cause a out r) (sym same) y.0, y.1)
 
 -- A history of one row is that row.
-pub one_row : (d d' : DeviceView) (cause : Cause) (a : Answer) (out : List ℕ) (rows : List TableRow) → IsOne cause a out rows
+pub history_of_one_row : (d d' : DeviceView) (cause : Cause) (a : Answer) (out : List ℕ) (rows : List TableRow) → IsOneRow cause a out rows
     → IsHistory d rows d' → Row d cause a out d'
-one_row d d' cause a out rows one h =
+history_of_one_row d d' cause a out rows one h =
     let x : IsHistory d (one.row ∷ []) d' = subst (λ (r : List TableRow). IsHistory d r d') one.rows_are h in
     let row : Row d one.row.cause one.row.answer one.row.out d' =
     subst (λ (z : DeviceView). Row d one.row.cause one.row.answer one.row.out z) (sym x.2)
@@ -100,20 +105,20 @@ one_row d d' cause a out rows one h =
     (subst (λ (z : List ℕ). Row d one.row.cause one.row.answer z d') one.out_is row))
 
 -- Result of a call: the row of its cause, and no writes are due.
-pub record Served (d : DeviceView) (cause : Cause) (a : Answer) (out : List ℕ) (b' : Board) : Type 0 where
+pub record ServedByRow (d : DeviceView) (cause : Cause) (a : Answer) (out : List ℕ) (b' : Board) : Type 0 where
   pub device : DeviceView
   pub row : Row d cause a out device
-  pub idle : IsIdle b' device
+  pub idle : IsIdleBoard b' device
 
-module _ (refines : IdleRefines) where
+module _ (refines : IdleRunsRefineTable) where
   -- A call of a board on which no writes are due is the row of its cause.
   pub served : (b b' : Board) (d : DeviceView) (call : Event) (cause : Cause) (steps : List BoardStep) (a : Answer) (out : List ℕ)
-      → IsOf call cause → IsIdle b d → Serves b call steps a out b' → Served d cause a out b'
+      → IsCallOfCause call cause → IsIdleBoard b d → CallServed b call steps a out b' → ServedByRow d cause a out b'
   served b b' d call cause steps a out is k s =
       let r = refines b b' d steps k s.run in
-      let t = call_tells call cause a out steps r.rows r.due is s.is r.tells in
+      let t = answered_call_makes_one_row call cause a out steps r.rows r.due is s.is r.tells in
       record {
         device = r.device;
-        row = one_row d r.device cause a out r.rows t.0 r.history;
+        row = history_of_one_row d r.device cause a out r.rows t.0 r.history;
         idle = subst (λ (x : Option Cause). RepresentsDevice b' x r.device) t.1 r.stands;
       }

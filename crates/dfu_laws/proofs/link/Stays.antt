@@ -1,16 +1,16 @@
--- A payload in place stays what runs, while it is on trial.
+-- A payload that was put in place on trial is what runs, as `ReportedTrialStays` says.
 use Rattle.std.specs.Prelude.{ℕ, List}
 use Rattle.dfu_slots.specs.Medium.{MediumState}
 use Rattle.dfu_slots.specs.Image.{Active}
 use Rattle.dfu_boot.specs.trial.Marks.{AreTries}
 use Rattle.dfu_boot.specs.trial.Trial.{image_at}
 use Rattle.dfu_boot.specs.trial.Calls.{IsStanding}
-use Rattle.dfu_boot.specs.trial.Lists.{TrialStep, TrialCourse, Trust, Tried, AreTrusted, AllTrusted}
+use Rattle.dfu_boot.specs.trial.Lists.{TrialStep, TrialCourse, TrustedImages, Tried, AreTrusted, AllTrusted}
 use Rattle.dfu_boot.specs.declared.trial.standing.Trial.{Trial}
 use Rattle.dfu_boot.specs.declared.trial.standing.Standing.TheVariants.{OnTrial}
 use Rattle.dfu_laws.specs.board.Board.{medium_on}
-use Rattle.dfu_laws.specs.link.Plays.{PlaysInstall}
-use Rattle.dfu_laws.specs.link.Stays.{PlaysStay}
+use Rattle.dfu_laws.specs.link.Plays.{ReportMeansPayloadInPlace}
+use Rattle.dfu_laws.specs.link.Stays.{ReportedTrialStays}
 
 -- The clauses `tried` and `list` of the law `what_was_confirmed_runs_or_the_newest_on_trial`.
 abbrev pub TrialIsTrusted : Type 0
@@ -18,12 +18,12 @@ TrialIsTrusted = (m : MediumState) (tries : ℕ) (t : Trial) (image : List ℕ) 
     → AreTrusted m tries (Tried (image_at m t.base) image t.starts)
 
 abbrev pub ListIsTrusted : Type 0
-ListIsTrusted = (m : MediumState) (tries : ℕ) (trust : Trust) (steps : List TrialStep) → AreTries m.grain tries
+ListIsTrusted = (m : MediumState) (tries : ℕ) (trust : TrustedImages) (steps : List TrialStep) → AreTries m.grain tries
     → AreTrusted m tries trust → TrialCourse tries m steps → AllTrusted tries trust m steps
 
-pub plays_stay : TrialIsTrusted → ListIsTrusted → PlaysInstall → PlaysStay
-plays_stay tried list_is installs b steps more past last l l' answer tries t list on sized plays comes says are stands came =
-    let x = installs b steps more past last l l' answer on sized plays comes says in
+pub reported_trial_stays : TrialIsTrusted → ListIsTrusted → ReportMeansPayloadInPlace → ReportedTrialStays
+reported_trial_stays tried list_is installs b steps more past back last l l' answer tries t list on sized plays comes says are stands came =
+    let x = installs b steps more past back last l l' answer on sized plays comes says in
     let m = medium_on l'.board in
     record {
       payload = x.payload;

@@ -1,4 +1,4 @@
--- The image is known at each step of all that may come.
+-- The active image, which is known at each step of an event.
 use Rattle.std.specs.Prelude.{◌≡◌, ◌⊎◌, ℕ, ◌<◌, Bool, List, [], ◌∷◌, Option}
 use Rattle.std.proofs.Common.{inl, inr, refl, sym, subst}
 use Rattle.dfu_slots.specs.StoreView.{image_of}
@@ -7,97 +7,112 @@ use Rattle.dfu_device.specs.Stage.{Profile}
 use Rattle.dfu_device.specs.DeviceView.{DeviceView, situation}
 use Rattle.dfu_device.specs.Rows.{Transfer, Passing, BusReset, RefusingClose, Refusing}
 use Rattle.dfu_sim.specs.Session.{IsOneOf}
-use Rattle.dfu_sim.specs.LinkAgreement.{IsSound}
+use Rattle.dfu_sim.specs.LinkAgreement.{ClosedWasOffered}
 use Rattle.dfu_sim.specs.Play.{Answered}
 use Rattle.dfu_sim.specs.LinkView.{Session}
-use Rattle.dfu_sim.specs.Simulation.{Simulation, OnlyOffered}
+use Rattle.dfu_sim.specs.Simulation.{Simulation, ActiveImageWasOffered}
 use Rattle.dfu_laws.specs.board.Board.{Board, Handle, Elapse, UsbReset, RefuseClose, Refuse, Restart, Event, BoardReply, BoardStep}
 use Rattle.dfu_laws.specs.board.Happens.{IsRun}
-use Rattle.dfu_laws.specs.board.Refines.{IsIdle, IdleRefines}
-use Rattle.dfu_laws.specs.link.Calls.{Reaches, lost, Objects, refused_once, refused_twice, behind}
-use Rattle.dfu_laws.specs.link.LinkSteps.{BoardLink, IsUnderWay, BoardLinkStep, passes, sends, refuses, waits, resets, is_reset, restarts, leaves, restarts_at_reset, marks}
-use Rattle.dfu_laws.specs.link.Plays.{KnownIsActive}
+use Rattle.dfu_laws.specs.board.Refines.{IsIdleBoard, IdleRunsRefineTable}
+use Rattle.dfu_laws.specs.link.Calls.{CallReaches, lost, ImageRefusedAtClose, close_refused_once, close_refused_then_repeated, behind}
+use Rattle.dfu_laws.specs.link.LinkSteps.{BoardLink, CallMayBeUnderWay, BoardLinkStep, passes, sends, refuses, waits, resets, is_reset_by_other_cause, restarts, leaves, restarts_at_reset, marks}
 use Rattle.dfu_laws.proofs.link.Served.{served}
-use Rattle.dfu_laws.proofs.link.Became.{Became}
-use Rattle.dfu_laws.proofs.link.Played.{StageInvariant, way_cause, way_well}
-use Rattle.dfu_laws.proofs.link.Ran.{reaches_run}
-use Rattle.dfu_laws.proofs.link.Within.{KnownOf, Through, became_known, rest_known, through_append, call_known, none_known, reaches_known, stops_known}
+use Rattle.dfu_laws.proofs.link.Became.{BoardImageKeptOrOffered}
+use Rattle.dfu_laws.proofs.link.Played.{BoardAndHostFacts, call_under_way_has_cause, ended_call_keeps_or_offers}
+use Rattle.dfu_laws.proofs.link.Ran.{reached_call_is_run}
+use Rattle.dfu_laws.proofs.link.Within.{DeviceImageIsKnown, BoardImageIsKnown, KnownAfterEachStep, event_keeps_image_known, idle_board_image_is_known, known_through_append, call_known, known_through_no_step, known_through_reached_call, known_through_cut_off_call}
 
-module _ (refines : IdleRefines) (simulation : Simulation) (only : OnlyOffered) (c : Profile) (sized : 0 < c.transfer)
-    (first : List ℕ) (past : List (List ℕ)) (last : Option (List ℕ)) where
-  -- If all this holds of a board, a call under way leads to one whose image and closed bytes are well.
-  leads_on : (l : BoardLink) (d : DeviceView) (call : Event) → StageInvariant c first past last l d → IsUnderWay l.session call
-      → (mid : Board) (more : List BoardStep) (says : BoardReply) → Reaches call l.board more says mid → Became c past (situation d) mid
-  leads_on l d call s way mid more says reaches =
-      way_well refines simulation only c sized past l.session call l.board mid d more says s.idle s.profile_is s.sound s.offered s.fact way
+module _ (refines : IdleRunsRefineTable) (simulation : Simulation) (only : ActiveImageWasOffered) (c : Profile) (sized : 0 < c.transfer)
+    (first : List ℕ → Type 0) (past : List (List ℕ)) (last : Option (List ℕ)) where
+  -- If the invariant holds, a call under way keeps the image, or puts an offered one in place.
+  under_way_call_keeps_or_offers : (l : BoardLink) (d : DeviceView) (call : Event) → BoardAndHostFacts c first past last l d →
+      CallMayBeUnderWay l.session call
+      → (mid : Board) (more : List BoardStep) (says : BoardReply) → CallReaches call l.board more says mid →
+      BoardImageKeptOrOffered c past (situation d) mid
+  under_way_call_keeps_or_offers l d call s way mid more says reaches =
+      ended_call_keeps_or_offers refines simulation only c sized past l.session call l.board mid d more says s.idle s.profile_is s.sound
+      s.offered s.fact way
       reaches
 
-  -- Through a request whose image the program refuses.
-  objects_known : (b b' : Board) (d : DeviceView) (setup body : List ℕ) (why : Objection) (steps : List BoardStep) (says : BoardReply)
-      → IsIdle b d
-      → KnownOf first past d → KnownIsActive first past b' → Objects setup body why b steps says b' → Through refines c first past b steps
-  objects_known b b' d setup body why steps _ k known at (refused_once {a = a} {out = out} serves) =
+  -- The image is known at each step of a request whose image the program refuses.
+  known_through_refused_close : (b b' : Board) (d : DeviceView) (setup body : List ℕ) (why : Objection) (steps : List BoardStep) (says :
+      BoardReply)
+      → IsIdleBoard b d
+      → DeviceImageIsKnown first past d → BoardImageIsKnown first past b' → ImageRefusedAtClose setup body why b steps says b' →
+      KnownAfterEachStep refines c first past b steps
+  known_through_refused_close b b' d setup body why steps _ k known at (close_refused_once {a = a} {out = out} serves) =
       call_known refines c first past b b' d (RefuseClose setup why) (RefusingClose setup why) steps a out k known refl serves at
-  objects_known b b' d setup body why _ _ k known at (refused_twice {first = xs} {second = ys} {a = a} {x = a0} {out = out} {said = out0}
+  known_through_refused_close b b' d setup body why _ _ k known at (close_refused_then_repeated {first = xs} {second = ys} {a = a} {x = a0}
+      {out = out} {said = out0}
       {mid = mid} serves more) =
       let x = served refines b mid d (RefuseClose setup why) (RefusingClose setup why) xs a0 out0 refl k serves in
       let same = x.row.3 in
-      let there : KnownOf first past x.device = record {
-        sound = subst (λ (z : DeviceView). IsSound past z.stage) (sym same) tt;
-        known = subst (λ (z : DeviceView). (image_of z.slots ≡ first) ⊎ IsOneOf (image_of z.slots) past) (sym same) known.known;
+      let there : DeviceImageIsKnown first past x.device = record {
+        sound = subst (λ (z : DeviceView). ClosedWasOffered past z.stage) (sym same) tt;
+        known = subst (λ (z : DeviceView). first (image_of z.slots) ⊎ IsOneOf (image_of z.slots) past) (sym same) known.known;
       } in
-      through_append refines c first past b mid xs ys
+      known_through_append refines c first past b mid xs ys
       (call_known refines c first past b mid d (RefuseClose setup why) (RefusingClose setup why) xs a0 out0 k known refl serves
-      (rest_known refines c first past mid x.device x.idle there))
+      (idle_board_image_is_known refines c first past mid x.device x.idle there))
       serves.run
       (call_known refines c first past mid b' x.device (Handle setup body) (Transfer setup body) ys a out x.idle there refl more at)
 
-  -- Through a restart with no call under way.
-  power_within : (l : BoardLink) (b' : Board) (d : DeviceView) (power : BoardStep) (begins : Bool) → StageInvariant c first past last l d
-      → IsRun l.board (power ∷ []) b' → power.event ≡ Restart begins → KnownIsActive first past b'
-      → Through refines c first past l.board (power ∷ [])
-  power_within l b' d power begins s run event at =
-      stops_known refines c first past l.board b' d (Elapse 0) (Passing 0) (power ∷ []) s.idle (record { sound = s.sound; known = s.known })
-      refl (leads_on l d (Elapse 0) s tt) (behind power begins lost run event) at
+  -- The image is known at each step of a restart with no call under way.
+  known_through_restart : (l : BoardLink) (b' : Board) (d : DeviceView) (power : BoardStep) (begins : Bool) →
+      BoardAndHostFacts c first past last l d
+      → IsRun l.board (power ∷ []) b' → power.event ≡ Restart begins → BoardImageIsKnown first past b'
+      → KnownAfterEachStep refines c first past l.board (power ∷ [])
+  known_through_restart l b' d power begins s run event at =
+      known_through_cut_off_call refines c first past l.board b' d (Elapse 0) (Passing 0) (power ∷ []) s.idle (record {
+        sound = s.sound;
+        known = s.known;
+      })
+      refl (under_way_call_keeps_or_offers l d (Elapse 0) s tt) (behind power begins lost run event) at
 
-  -- The image is known after each of the steps that come next, if it is at their end.
-  pub comes_known : (l l' : BoardLink) (d : DeviceView) (steps : List BoardStep) (answer : Answered) → StageInvariant c first past last l d
-      → KnownIsActive first past l'.board → BoardLinkStep l steps answer l' → Through refines c first past l.board steps
-  comes_known l _ d steps _ s at (passes {ms = ms} {a = a} {out = out} {b' = b'} serves) =
+  -- The image is known after each step of the next event, if it is known at the end of the event.
+  pub known_through_event : (l l' : BoardLink) (d : DeviceView) (steps : List BoardStep) (answer : Answered) →
+      BoardAndHostFacts c first past last l d
+      → BoardImageIsKnown first past l'.board → BoardLinkStep l steps answer l' → KnownAfterEachStep refines c first past l.board steps
+  known_through_event l _ d steps _ s at (passes {ms = ms} {a = a} {out = out} {b' = b'} serves) =
       call_known refines c first past l.board b' d (Elapse ms) (Passing ms) steps a out s.idle
       (record { sound = s.sound; known = s.known }) refl serves at
-  comes_known l _ d steps _ s at (sends {h = h} {q = q} {setup = setup} {body = body} {says = says} {b' = b'} live is asked (inl reaches)
+  known_through_event l _ d steps _ s at (sends {h = h} {q = q} {setup = setup} {body = body} {says = says} {b' = b'} live is asked (inl
+      reaches)
       hears room) =
-      let way = subst (λ (x : Session). IsUnderWay x (Handle setup body)) (sym live) (q, is, asked) in
-      reaches_known refines c first past l.board b' d (Handle setup body) (Transfer setup body) steps says s.idle
-      (record { sound = s.sound; known = s.known }) refl (leads_on l d (Handle setup body) s way) reaches
-  comes_known l _ d steps _ s at (sends {setup = setup} {body = body} {says = says} {b' = b'} live is asked
+      let way = subst (λ (x : Session). CallMayBeUnderWay x (Handle setup body)) (sym live) (q, is, asked) in
+      known_through_reached_call refines c first past l.board b' d (Handle setup body) (Transfer setup body) steps says s.idle
+      (record { sound = s.sound; known = s.known }) refl (under_way_call_keeps_or_offers l d (Handle setup body) s way) reaches
+  known_through_event l _ d steps _ s at (sends {setup = setup} {body = body} {says = says} {b' = b'} live is asked
       (inr (why, refused)) hears room) =
-      objects_known l.board b' d setup body why steps says s.idle (record { sound = s.sound; known = s.known }) at refused
-  comes_known l _ d steps _ s at (refuses {why = why} {a = a} {out = out} {b' = b'} serves) =
+      known_through_refused_close l.board b' d setup body why steps says s.idle (record { sound = s.sound; known = s.known }) at refused
+  known_through_event l _ d steps _ s at (refuses {why = why} {a = a} {out = out} {b' = b'} serves) =
       call_known refines c first past l.board b' d (Refuse why) (Refusing why) steps a out s.idle
       (record { sound = s.sound; known = s.known }) refl serves at
-  comes_known l _ d _ _ s at (waits live is) = none_known refines c first past l.board at
-  comes_known l _ d steps _ s at (resets {a = a} {out = out} {b' = b'} live is serves) =
+  known_through_event l _ d _ _ s at (waits live is) = known_through_no_step refines c first past l.board at
+  known_through_event l _ d steps _ s at (resets {a = a} {out = out} {b' = b'} live is serves) =
       call_known refines c first past l.board b' d UsbReset BusReset steps a out s.idle
       (record { sound = s.sound; known = s.known }) refl serves at
-  comes_known l _ d _ _ s at (is_reset {call = call} {steps = steps} {more = more} {says = says} {a = a} {out = out} {mid = mid} {b' = b'} way
+  known_through_event l _ d _ _ s at (is_reset_by_other_cause {call = call} {steps = steps} {more = more} {says = says} {a = a} {out = out}
+      {mid = mid} {b' = b'} way
       reaches serves) =
-      let cause = way_cause l.session call way in
-      let known : KnownOf first past d = record { sound = s.sound; known = s.known } in
-      let x = leads_on l d call s way mid steps says reaches in
-      through_append refines c first past l.board mid steps more
-      (reaches_known refines c first past l.board mid d call cause.0 steps says s.idle known cause.1 (leads_on l d call s way) reaches)
-      (reaches_run call l.board mid steps says reaches)
-      (call_known refines c first past mid b' x.device UsbReset BusReset more a out x.idle (became_known refines c first past d mid known x) refl serves at)
-  comes_known l _ d steps _ s at (restarts {call = call} {b' = b'} way stops) =
-      let cause = way_cause l.session call way in
-      stops_known refines c first past l.board b' d call cause.0 steps s.idle (record { sound = s.sound; known = s.known }) cause.1
-      (leads_on l d call s way) stops at
-  comes_known l _ d _ _ s at (leaves {power = power} {begins = begins} {b' = b'} live enters run event) =
-      power_within l b' d power begins s run event at
-  comes_known l _ d _ _ s at (restarts_at_reset {power = power} {begins = begins} {b' = b'} live is way run event) =
-      power_within l b' d power begins s run event at
-  comes_known l _ d _ _ s at (marks mark) =
-      none_known refines c first past l.board
-      (rest_known refines c first past l.board d s.idle (record { sound = s.sound; known = s.known }))
+      let cause = call_under_way_has_cause l.session call way in
+      let known : DeviceImageIsKnown first past d = record { sound = s.sound; known = s.known } in
+      let x = under_way_call_keeps_or_offers l d call s way mid steps says reaches in
+      known_through_append refines c first past l.board mid steps more
+      (known_through_reached_call refines c first past l.board mid d call cause.0 steps says s.idle known cause.1
+      (under_way_call_keeps_or_offers l d call s way) reaches)
+      (reached_call_is_run call l.board mid steps says reaches)
+      (call_known refines c first past mid b' x.device UsbReset BusReset more a out x.idle (event_keeps_image_known refines c first past d
+      mid known x) refl serves at)
+  known_through_event l _ d steps _ s at (restarts {call = call} {b' = b'} way stops) =
+      let cause = call_under_way_has_cause l.session call way in
+      known_through_cut_off_call refines c first past l.board b' d call cause.0 steps s.idle (record { sound = s.sound; known = s.known })
+      cause.1
+      (under_way_call_keeps_or_offers l d call s way) stops at
+  known_through_event l _ d _ _ s at (leaves {power = power} {begins = begins} {b' = b'} live enters run event) =
+      known_through_restart l b' d power begins s run event at
+  known_through_event l _ d _ _ s at (restarts_at_reset {power = power} {begins = begins} {b' = b'} live is way run event) =
+      known_through_restart l b' d power begins s run event at
+  known_through_event l _ d _ _ s at (marks mark) =
+      known_through_no_step refines c first past l.board
+      (idle_board_image_is_known refines c first past l.board d s.idle (record { sound = s.sound; known = s.known }))

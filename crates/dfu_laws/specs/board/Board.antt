@@ -9,7 +9,7 @@ use Rattle.dfu_device.specs.Stage.{state_of}
 use Rattle.dfu_device.specs.Parts.{stage_of}
 use Rattle.dfu_asks.specs.declared.asking.Asking.{Asking}
 use Rattle.dfu_asks.specs.Lent.{LentDevice, lent}
-use Rattle.dfu_asks.specs.Mapped.{mapped}
+use Rattle.dfu_asks.specs.Mapped.{mapped_medium}
 use Rattle.dfu_asks.specs.Asks.{grain_in, device_in}
 
 -- A board: what is kept of the device, the bytes in its two memories, and those of its flash.
@@ -19,19 +19,19 @@ pub record Board : Type 0 where
   pub held : List ℕ
   pub flash : List ℕ
 
--- The device with what is in its memories.
+-- The device with the bytes of its two memories.
 abbrev pub lent_on : Board → LentDevice
 lent_on b = lent b.asking b.block b.held
 
--- Its flash as a medium; any write of it may fail.
+-- The flash of a board as a medium, on which any write may fail.
 abbrev pub medium_on : Board → MediumState
-medium_on b = mapped (grain_in (lent_on b)) b.flash
+medium_on b = mapped_medium (grain_in (lent_on b)) b.flash
 
--- The device of the device table that it is, if no writes are due.
+-- The device of the device table that a board is, if no writes are due.
 abbrev pub device_on : Board → DeviceView
 device_on b = device_in (lent_on b) b.flash
 
--- Its state of the standard, as `Asking::state` tells it.
+-- State of the standard of a board, as `Asking::state` returns it.
 abbrev pub state_on : Board → State
 state_on b = state_of (stage_of b.asking.mode [] [])
 
@@ -41,17 +41,17 @@ pub data Event : Type 0 where
   Handle : (setup body : List ℕ) → Event
   Elapse : (ms : ℕ) → Event
   UsbReset : Event
-  -- The calls `refuse_close` and `refuse`, by which its program refuses an image.
+  -- The calls `refuse_close` and `refuse`, by which the board's program refuses an image.
   RefuseClose : (setup : List ℕ) (why : Objection) → Event
   Refuse : (why : Objection) → Event
   -- The flash changes in the range of the piece that `next` hands out.
   Write : Event
   -- The call `took`.
   Took : (failed : Bool) → Event
-  -- The power goes, and comes back: `power_on`. If the device begins for a host, it is put into dfuIDLE then.
+  -- The power goes and comes back: `power_on`. A board that begins for a host is put into dfuIDLE.
   Restart : (begins : Bool) → Event
 
--- Answer to an event: nothing, as by a call that is refused; that writes are due; or an answer with its bytes.
+-- Reply of a board to an event: nothing, for example to a call that is refused; writes are due; or an answer with its bytes.
 pub data BoardReply : Type 0 where
   Nothing : BoardReply
   WritesDue : BoardReply

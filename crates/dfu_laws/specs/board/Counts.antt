@@ -4,7 +4,7 @@ use Rattle.dfu_asks.specs.declared.pending_writes.PendingWrites.{PendingWrites}
 use Rattle.dfu_asks.specs.declared.pending_writes.SlotWrite.{SlotWrite}
 use Rattle.dfu_asks.specs.declared.pending_writes.SlotWrite.TheVariants.{Block, Commit}
 use Rattle.dfu_asks.specs.Steps.{Step}
-use Rattle.dfu_asks.specs.Carried.{IsPiece}
+use Rattle.dfu_asks.specs.Carried.{IsStepPiece}
 use Rattle.dfu_asks.specs.Asks.{steps_in}
 use Rattle.dfu_laws.specs.board.Board.{Board, lent_on, Event, Took, Restart, BoardReply, WritesDue, Answers, BoardStep}
 use Rattle.dfu_laws.specs.board.Happens.{IsPoweredOn, IsRun}
@@ -24,12 +24,12 @@ commit_erases sector = if sector == 0 then 0 else 3
 abbrev pub commit_programs : ℕ
 commit_programs = 3
 
--- The most writes that are asked for: those of a block of n bytes, or those of a commit.
+-- The most writes for which a board asks: those of a block of n bytes, or those of a commit.
 abbrev pub operation_bound : SlotWrite → (n sector : ℕ) → ℕ
 operation_bound (Block spare close) n sector = block_erases n sector + block_programs n
 operation_bound (Commit spare gen crc) n sector = commit_erases sector + commit_programs
 
--- Number of these steps that say that writes are due.
+-- Number of steps whose reply is that writes are due.
 abbrev pub operations_of : BoardReply → ℕ
 operations_of WritesDue = 1
 operations_of says = 0
@@ -38,7 +38,7 @@ abbrev pub operations_in : List BoardStep → ℕ
 operations_in [] = 0
 operations_in (s ∷ rest) = operations_of s.says + operations_in rest
 
--- A step is not answered, and the power does not go.
+-- A step is not answered, and the power stays.
 abbrev pub IsUnanswered : Event → BoardReply → Type 0
 IsUnanswered (Restart begins) says = ⊥
 IsUnanswered event (Answers a out) = ⊥
@@ -48,18 +48,18 @@ abbrev pub AreUnanswered : List BoardStep → Type 0
 AreUnanswered [] = Unit {0}
 AreUnanswered (s ∷ rest) = IsUnanswered s.event s.says × AreUnanswered rest
 
--- If a report does not end a row, the piece that was due is behind it, by the clause `further` of `took`.
+-- After a report that is answered by more writes, the next piece is the one behind the piece that was due: the clause `further` of `took`.
 abbrev pub PieceAdvances : Board → Event → BoardReply → Board → Type 0
 PieceAdvances b (Took failed) WritesDue b' = (w : PendingWrites) (p : Step) → b.asking.work ≡ Some w
-    → IsPiece (steps_in (lent_on b) w) w.done p → b'.asking.work ≡ Some (record w { done = w.done + length p.write.bytes })
+    → IsStepPiece (steps_in (lent_on b) w) w.done p → b'.asking.work ≡ Some (record w { done = w.done + length p.write.bytes })
 PieceAdvances b event says b' = Unit {0}
 
 abbrev pub AllPiecesAdvance : List BoardStep → Type 0
 AllPiecesAdvance [] = Unit {0}
 AllPiecesAdvance (s ∷ rest) = PieceAdvances s.before s.event s.says s.after × AllPiecesAdvance rest
 
--- No writes were due on a board, and none of the steps since was answered: if writes are due then, these steps asked for at most so many,
--- the first time and the last time included. The block of the bound is the one that is being written.
+-- From a board with no writes due, as long as no step is answered, the steps ask for writes at most as often as `operation_bound` says. The
+-- block of the bound is the one that is being written.
 abbrev pub RunOperationsBounded : Type 0
 RunOperationsBounded = (b mid b' : Board) (old steps : List BoardStep) (w : PendingWrites) → IsPoweredOn b → IsRun b old mid
     → mid.asking.work ≡ None → IsRun mid steps b' → AreUnanswered steps → AllPiecesAdvance steps → b'.asking.work ≡ Some w

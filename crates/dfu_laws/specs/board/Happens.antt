@@ -11,21 +11,21 @@ use Rattle.dfu_device.specs.Rows.{Cause, Transfer, Passing, RefusingClose, Refus
 use Rattle.dfu_asks.specs.declared.reply.Reply.{Reply}
 use Rattle.dfu_asks.specs.declared.reply.Reply.TheVariants as reply
 use Rattle.dfu_asks.specs.declared.pending_writes.PendingWrites.{PendingWrites}
-use Rattle.dfu_asks.specs.Lent.{IsSetUpAs}
+use Rattle.dfu_asks.specs.Lent.{SameSetup}
 use Rattle.dfu_asks.specs.Steps.{Step}
-use Rattle.dfu_asks.specs.Carried.{IsPiece}
+use Rattle.dfu_asks.specs.Carried.{IsStepPiece}
 use Rattle.dfu_asks.specs.Asks.{device_of, IsDevice, steps_in}
 use Rattle.dfu_asks.specs.Calls.{WritesPending, DeviceCalled, DevicePieceReported}
 use Rattle.dfu_asks.specs.Refused.{RoomForBlocks, IsDeviceOn, HasRemainingWrites}
 use Rattle.dfu_laws.specs.board.Board.{Board, lent_on, medium_on, device_on, Event, Handle, Elapse, UsbReset, RefuseClose, Refuse, Write, Took, Restart, BoardReply, Nothing, WritesDue, Answers, BoardStep}
 
--- Answer of a reply, with these bytes in the buffer of the call.
+-- Reply of a board for the reply of a call, with the bytes in the buffer of the call.
 abbrev pub reply_of_call : Reply → List ℕ → BoardReply
 reply_of_call reply.Asks out = WritesDue
 reply_of_call (reply.Answered a count) out = Answers a (take count out)
 
--- A call of `handle` or `elapse` that is not refused, by the clauses `served` and `outcome`: the row of its cause answers it, or its
--- writes are due.
+-- A call of `handle` or `elapse` that is not refused, by the clauses `served` and `outcome`: the row of its cause answers the call, or the
+-- writes of that row are due.
 pub record IsServedBy (b : Board) (cause : Cause) (says : BoardReply) (b' : Board) : Type 0 where
   pub idle : b.asking.work ≡ None
   pub fits : RoomForBlocks b.asking (length b.block)
@@ -36,7 +36,7 @@ pub record IsServedBy (b : Board) (cause : Cause) (says : BoardReply) (b' : Boar
       × (says ≡ reply_of_call reply out')
 
 -- A call of `usb_reset` that is not refused, by its clauses `served`, `row`, `is` and `work`.
-pub record IsReset (b : Board) (says : BoardReply) (b' : Board) : Type 0 where
+pub record ResetServed (b : Board) (says : BoardReply) (b' : Board) : Type 0 where
   pub idle : b.asking.work ≡ None
   pub fits : RoomForBlocks b.asking (length b.block)
   pub flash : b'.flash ≡ b.flash
@@ -46,22 +46,22 @@ pub record IsReset (b : Board) (says : BoardReply) (b' : Board) : Type 0 where
   pub says_is : says ≡ Answers answer.Ack []
 
 -- A call of `refuse_close` or `refuse` that is not refused, by its clauses: the row of its cause, with this answer.
-pub record IsObjected (b : Board) (cause : Cause) (a : Answer) (says : BoardReply) (b' : Board) : Type 0 where
+pub record ObjectionServed (b : Board) (cause : Cause) (a : Answer) (says : BoardReply) (b' : Board) : Type 0 where
   pub idle : b.asking.work ≡ None
   pub flash : b'.flash ≡ b.flash
   pub row : IsDevice (lent_on b) b.flash → IsDevice (lent_on b') b'.flash × Row (device_on b) cause a [] (device_on b')
   pub work : b'.asking.work ≡ None
   pub says_is : says ≡ Answers a []
 
--- `next` hands out this piece, by its clauses `due` and `piece`.
-abbrev pub IsHanded : Board → Step → Type 0
-IsHanded b p = (w : PendingWrites) × (b.asking.work ≡ Some w) × IsPiece (steps_in (lent_on b) w) w.done p
+-- `next` hands out the piece, by its clauses `due` and `piece`.
+abbrev pub PieceHandedOut : Board → Step → Type 0
+PieceHandedOut b p = (w : PendingWrites) × (b.asking.work ≡ Some w) × IsStepPiece (steps_in (lent_on b) w) w.done p
 
--- The flash changes in the range of that piece, and nowhere else. Any bytes may be there then: the piece may be carried out, whole
--- or in part, or fail, or lie.
+-- The flash changes in the range of the piece, and nowhere else. The range may hold any bytes afterwards, because the piece may be carried
+-- out whole or in part, fail, or lie.
 pub record FlashIsWritten (b : Board) (b' : Board) : Type 0 where
   pub piece : Step
-  pub handed : IsHanded b piece
+  pub handed : PieceHandedOut b piece
   pub torn : Torn b.flash piece.write.at piece.write.bytes b'.flash
   pub asking : b'.asking ≡ b.asking
   pub block : b'.block ≡ b.block
@@ -76,7 +76,7 @@ pub record TookResult (b : Board) (failed : Bool) (says : BoardReply) (b' : Boar
   pub out : List ℕ
   pub out' : List ℕ
   pub outcome : (len : ℕ) (s : SlotsState) (was before : List ℕ) (asks : WritesPending (lent_on b) len s was before) (p : Step)
-      → IsPiece (steps_in (lent_on b) asks.work) asks.work.done p → Torn before p.write.at p.write.bytes b.flash
+      → IsStepPiece (steps_in (lent_on b) asks.work) asks.work.done p → Torn before p.write.at p.write.bytes b.flash
       → DevicePieceReported (device_of (lent_on b) s) len s was p.write failed b.flash out (lent_on b') out' reply
   pub says_is : says ≡ reply_of_call reply out'
 
@@ -85,34 +85,34 @@ abbrev pub start_stage : Bool → Stage
 start_stage true = InDfuIdle
 start_stage false = InAppIdle
 
--- It just got power, by the clauses `device`, `is` and `work` of `power_on`; and if it begins for a host, it was put into dfuIDLE then.
+-- A board just got power, by the clauses `device`, `is` and `work` of `power_on`; if it begins for a host, it was put into dfuIDLE.
 pub record IsPoweredOn (b : Board) : Type 0 where
   pub begins : Bool
   pub device : device_on b ≡ record (powered_on b.asking.config (medium_on b)) { stage = start_stage begins }
   pub is : IsDevice (lent_on b) b.flash
   pub work : b.asking.work ≡ None
 
--- It just got power, and begins for a host or not.
+-- A board just got power, and begins for a host or not.
 abbrev pub BoardStarts : Bool → Board → Type 0
 BoardStarts begins b = (on : IsPoweredOn b) × (on.begins ≡ begins)
 
--- Nothing is said and nothing changes, as if a call is refused; or else this.
+-- A call is refused, which says nothing and changes nothing; or else P holds.
 abbrev pub IsRefusedOr : BoardReply → Board → Board → Type 0 → Type 0
 IsRefusedOr Nothing b b' P = b' ≡ b
 IsRefusedOr says b b' P = P
 
 -- Result of an event. If the power goes, the flash stays as it is.
-abbrev pub Happens : Board → Event → BoardReply → Board → Type 0
-Happens b (Handle setup body) says b' = IsRefusedOr says b b' (IsServedBy b (Transfer setup body) says b')
-Happens b (Elapse ms) says b' = IsRefusedOr says b b' (IsServedBy b (Passing ms) says b')
-Happens b UsbReset says b' = IsRefusedOr says b b' (IsReset b says b')
-Happens b (RefuseClose setup why) says b' = IsRefusedOr says b b' (IsObjected b (RefusingClose setup why) answer.Stall says b')
-Happens b (Refuse why) says b' = IsRefusedOr says b b' (IsObjected b (Refusing why) answer.Ack says b')
-Happens b Write says b' = (says ≡ Nothing) × FlashIsWritten b b'
-Happens b (Took failed) says b' = IsRefusedOr says b b' (TookResult b failed says b')
-Happens b (Restart begins) says b' = (says ≡ Nothing) × (b'.flash ≡ b.flash) × BoardStarts begins b'
+abbrev pub EventOutcome : Board → Event → BoardReply → Board → Type 0
+EventOutcome b (Handle setup body) says b' = IsRefusedOr says b b' (IsServedBy b (Transfer setup body) says b')
+EventOutcome b (Elapse ms) says b' = IsRefusedOr says b b' (IsServedBy b (Passing ms) says b')
+EventOutcome b UsbReset says b' = IsRefusedOr says b b' (ResetServed b says b')
+EventOutcome b (RefuseClose setup why) says b' = IsRefusedOr says b b' (ObjectionServed b (RefusingClose setup why) answer.Stall says b')
+EventOutcome b (Refuse why) says b' = IsRefusedOr says b b' (ObjectionServed b (Refusing why) answer.Ack says b')
+EventOutcome b Write says b' = (says ≡ Nothing) × FlashIsWritten b b'
+EventOutcome b (Took failed) says b' = IsRefusedOr says b b' (TookResult b failed says b')
+EventOutcome b (Restart begins) says b' = (says ≡ Nothing) × (b'.flash ≡ b.flash) × ((on : IsPoweredOn b') × (on.begins ≡ begins))
 
--- These steps come to a board. Each begins where the one before ended, and leaves the board set up as it was.
+-- The steps come to a board. Each begins where the one before ended, and leaves the setup of the board as it was.
 abbrev pub IsRun : Board → List BoardStep → Board → Type 0
 IsRun b [] b' = b' ≡ b
-IsRun b (s ∷ rest) b' = (s.before ≡ b) × Happens b s.event s.says s.after × IsSetUpAs b.asking s.after.asking × IsRun s.after rest b'
+IsRun b (s ∷ rest) b' = (s.before ≡ b) × EventOutcome b s.event s.says s.after × SameSetup b.asking s.after.asking × IsRun s.after rest b'

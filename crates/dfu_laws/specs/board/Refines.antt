@@ -15,7 +15,7 @@ use Rattle.dfu_device.specs.Rows.{Cause, Transfer, Passing, BusReset, RefusingCl
 use Rattle.dfu_device.specs.History.{IsHistory, HistoryStep as TableRow}
 use Rattle.dfu_device.specs.AcceptedBytes.{accepted_of}
 use Rattle.dfu_asks.specs.Steps.{Step}
-use Rattle.dfu_asks.specs.Carried.{IsPiece}
+use Rattle.dfu_asks.specs.Carried.{IsStepPiece}
 use Rattle.dfu_asks.specs.Due.{IsDueRow}
 use Rattle.dfu_asks.specs.Asks.{device_of, IsDevice, steps_in}
 use Rattle.dfu_asks.specs.Calls.{WritesPending}
@@ -23,16 +23,16 @@ use Rattle.dfu_laws.specs.board.Board.{Board, lent_on, medium_on, device_on, sta
 use Rattle.dfu_laws.specs.board.Happens.{IsPoweredOn, IsRun}
 use Rattle.dfu_laws.specs.board.ImageSurvival.{is_manifesting}
 
--- There is one row, of this cause, with this answer.
-pub record IsOne (cause : Cause) (a : Answer) (out : List ℕ) (rows : List TableRow) : Type 0 where
+-- The list is one row, with the cause and the answer.
+pub record IsOneRow (cause : Cause) (a : Answer) (out : List ℕ) (rows : List TableRow) : Type 0 where
   pub row : TableRow
   pub rows_are : rows ≡ row ∷ []
   pub cause_is : row.cause ≡ cause
   pub answer_is : row.answer ≡ a
   pub out_is : row.out ≡ out
 
--- This cause is a DETACH.
-pub record IsDetach (cause : Cause) : Type 0 where
+-- The cause is a DETACH.
+pub record IsDetachCause (cause : Cause) : Type 0 where
   pub setup : List ℕ
   pub cause_is : cause ≡ Transfer setup []
   pub read : Setup
@@ -40,37 +40,37 @@ pub record IsDetach (cause : Cause) : Type 0 where
   pub timeout : ℕ
   pub asks : AsksFor read (request.Detach timeout)
 
--- There are three rows: that of the power that came back, that of a DETACH, and that of a reset of the bus.
-pub record IsBegin (rows : List TableRow) : Type 0 where
+-- The list is three rows: power that came back, a DETACH, and a reset of the bus.
+pub record AreBeginRows (rows : List TableRow) : Type 0 where
   pub power : TableRow
   pub detach : TableRow
   pub reset : TableRow
   pub rows_are : rows ≡ power ∷ detach ∷ reset ∷ []
   pub power_is : power.cause ≡ PowerOn
-  pub detach_is : IsDetach detach.cause
+  pub detach_is : IsDetachCause detach.cause
   pub reset_is : reset.cause ≡ BusReset
 
 -- The rows of power that comes back, whether the device begins for a host or not.
-abbrev pub IsStart : Bool → List TableRow → Type 0
-IsStart true rows = IsBegin rows
-IsStart false rows = IsOne PowerOn answer.Ack [] rows
+abbrev pub AreStartRows : Bool → List TableRow → Type 0
+AreStartRows true rows = AreBeginRows rows
+AreStartRows false rows = IsOneRow PowerOn answer.Ack [] rows
 
--- The first row is of this cause, and nobody saw its answer. Then come those of the power that came back.
+-- The first row is of the cause, and nobody saw its answer. The rows of the power that came back follow.
 pub record AreCutRows (cause : Cause) (begins : Bool) (rows : List TableRow) : Type 0 where
   pub row : TableRow
   pub rest : List TableRow
   pub rows_are : rows ≡ row ∷ rest
   pub cause_is : row.cause ≡ cause
-  pub start : IsStart begins rest
+  pub start : AreStartRows begins rest
 
--- The rows of a call for this cause, and what is due after it: none if it is refused; none yet if writes are due, and then its own row
--- is due; its own row if it answers.
+-- The rows of a call for a cause, and what is due after it. A call that is refused has no row. A call whose writes are due has none yet,
+-- and its row is due then. A call that is answered has its own row.
 abbrev pub CallRows : Cause → Option Cause → BoardReply → List TableRow → Option Cause → Type 0
 CallRows cause due Nothing rows due' = (rows ≡ []) × (due' ≡ due)
 CallRows cause due WritesDue rows due' = (rows ≡ []) × (due' ≡ Some cause)
-CallRows cause due (Answers a out) rows due' = IsOne cause a out rows × (due' ≡ None)
+CallRows cause due (Answers a out) rows due' = IsOneRow cause a out rows × (due' ≡ None)
 
--- The rows of an event, if the row of this cause, or none, is due before it; and what is due after it.
+-- The rows of an event, and the cause whose row is due after it. The first argument is the cause whose row is due before it, or none.
 abbrev pub EventRows : Option Cause → Event → BoardReply → List TableRow → Option Cause → Type 0
 EventRows due (Handle setup body) says rows due' = CallRows (Transfer setup body) due says rows due'
 EventRows due (Elapse ms) says rows due' = CallRows (Passing ms) due says rows due'
@@ -81,17 +81,17 @@ EventRows due Write says rows due' = (rows ≡ []) × (due' ≡ due)
 EventRows (Some cause) (Took failed) says rows due' = CallRows cause (Some cause) says rows due'
 EventRows None (Took failed) says rows due' = (rows ≡ []) × (due' ≡ None)
 EventRows (Some cause) (Restart begins) says rows due' = AreCutRows cause begins rows × (due' ≡ None)
-EventRows None (Restart begins) says rows due' = IsStart begins rows × (due' ≡ None)
+EventRows None (Restart begins) says rows due' = AreStartRows begins rows × (due' ≡ None)
 
--- The rows of these steps, in their order, and what is due after them.
+-- The rows of the steps, in their order, and the cause whose row is due after them.
 abbrev pub StepRows : Option Cause → List BoardStep → List TableRow → Option Cause → Type 0
 StepRows due [] rows due' = (rows ≡ []) × (due' ≡ due)
 StepRows due (s ∷ rest) rows due' = (first later : List TableRow) × (mid : Option Cause) × (rows ≡ first ++ later)
     × EventRows due s.event s.says first mid × StepRows mid rest later due'
 
--- A board carries out the writes of this device's row for this cause: some pieces are on its flash, and the range of the next one
--- may have any bytes.
-pub record IsAtWork (b : Board) (cause : Cause) (d : DeviceView) : Type 0 where
+-- A board carries out the writes of the device's row for the cause: some pieces are on its flash, and the range of the next piece may have
+-- any bytes.
+pub record IsBoardAtWork (b : Board) (cause : Cause) (d : DeviceView) : Type 0 where
   pub len : ℕ
   pub s : SlotsState
   pub was : List ℕ
@@ -99,22 +99,23 @@ pub record IsAtWork (b : Board) (cause : Cause) (d : DeviceView) : Type 0 where
   pub asks : WritesPending (lent_on b) len s was stood
   pub device : device_of (lent_on b) s ≡ d
   pub row : IsDueRow len d (λ x sent d'. Row d cause x sent d')
-  pub torn : (p : Step) → IsPiece (steps_in (lent_on b) asks.work) asks.work.done p → Torn stood p.write.at p.write.bytes b.flash
+  pub torn : (p : Step) → IsStepPiece (steps_in (lent_on b) asks.work) asks.work.done p → Torn stood p.write.at p.write.bytes b.flash
 
--- No writes are due on a board, and it is this device.
-pub record IsIdle (b : Board) (d : DeviceView) : Type 0 where
+-- A board is the device, and no writes are due.
+pub record IsIdleBoard (b : Board) (d : DeviceView) : Type 0 where
   pub work : b.asking.work ≡ None
   pub is : IsDevice (lent_on b) b.flash
   pub device : device_on b ≡ d
 
--- A board stands for a device: it is the device, or carries out its row that is due.
+-- A board stands for a device: the board is the device, or carries out the device's row that is due.
 abbrev pub RepresentsDevice : Board → Option Cause → DeviceView → Type 0
-RepresentsDevice b None d = IsIdle b d
-RepresentsDevice b (Some cause) d = IsAtWork b cause d
+RepresentsDevice b None d = IsIdleBoard b d
+RepresentsDevice b (Some cause) d = IsBoardAtWork b cause d
 
--- The steps of a board are rows from this device to another, which it stands for now and whose state it is in. Its flash has an active
--- image, which is that device's, or if writes are due in dfuMANIFEST-SYNC or dfuMANIFEST it may be the bytes that the device has taken.
-pub record HasRefined (w : DeviceView) (steps : List BoardStep) (b : Board) : Type 0 where
+-- The steps of a board are rows that lead the device w to the device for which the board stands now, and in whose state the board is. The
+-- active image of the flash is that device's; while writes are due in dfuMANIFEST-SYNC or dfuMANIFEST, it may also be the bytes that the
+-- device has taken.
+pub record RefinesDeviceTable (w : DeviceView) (steps : List BoardStep) (b : Board) : Type 0 where
   pub rows : List TableRow
   pub due : Option Cause
   pub device : DeviceView
@@ -127,10 +128,12 @@ pub record HasRefined (w : DeviceView) (steps : List BoardStep) (b : Board) : Ty
       → (image ≡ image_of device.slots)
       ⊎ ((due ≡ None → ⊥) × (is_manifesting (state_of device.stage) ≡ true) × (image ≡ accepted_of (situation device)))
 
--- All steps of a board on which no writes are due are rows of the device that it is.
-abbrev pub IdleRefines : Type 0
-IdleRefines = (b b' : Board) (d : DeviceView) (steps : List BoardStep) → IsIdle b d → IsRun b steps b' → HasRefined d steps b'
+-- All steps of a board, from a time with no writes due on, are rows of the device that the board was then.
+abbrev pub IdleRunsRefineTable : Type 0
+IdleRunsRefineTable = (b b' : Board) (d : DeviceView) (steps : List BoardStep) → IsIdleBoard b d → IsRun b steps b' →
+    RefinesDeviceTable d steps b'
 
--- All steps of a board since power on are rows of the device table.
-abbrev pub RunRefines : Type 0
-RunRefines = (b b' : Board) (steps : List BoardStep) → IsPoweredOn b → IsRun b steps b' → HasRefined (device_on b) steps b'
+-- All steps of a board from power on are rows of the device table.
+abbrev pub RunsRefineDeviceTable : Type 0
+RunsRefineDeviceTable = (b b' : Board) (steps : List BoardStep) → IsPoweredOn b → IsRun b steps b' →
+    RefinesDeviceTable (device_on b) steps b'

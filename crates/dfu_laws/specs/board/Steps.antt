@@ -7,21 +7,21 @@ use Rattle.dfu_asks.specs.declared.reply.Reply.{Reply}
 use Rattle.dfu_laws.specs.board.Board.{Board, BoardReply, Nothing, Answers}
 use Rattle.dfu_laws.specs.board.Happens.{reply_of_call}
 
--- The board of these parts.
-abbrev pub board : Asking → (block held flash : List ℕ) → Board
-board a block held flash = record { asking = a; block = block; held = held; flash = flash }
+-- The board of its parts.
+abbrev pub board_of_parts : Asking → (block held flash : List ℕ) → Board
+board_of_parts a block held flash = record { asking = a; block = block; held = held; flash = flash }
 
--- Answer of the result of a call, with these bytes in its buffer.
+-- Reply for the result of a call, with the bytes in its buffer.
 abbrev pub reply_of_result : Result Reply Refusal → List ℕ → BoardReply
 reply_of_result (Ok r) out = reply_of_call r out
 reply_of_result (Err e) out = Nothing
 
--- Answer of the result of `usb_reset`.
+-- Reply for the result of `usb_reset`.
 abbrev pub reply_of_reset : Result (Unit {0}) Refusal → BoardReply
 reply_of_reset (Ok x) = Answers answer.Ack []
 reply_of_reset (Err e) = Nothing
 
--- Answer of the result of `refuse_close`: a stall if the setup closes a download.
+-- Reply for the result of `refuse_close`: a stall if the setup closes a download.
 abbrev pub reply_of_close : Result Bool Refusal → BoardReply
 reply_of_close (Ok true) = Answers answer.Stall []
 reply_of_close r = Nothing

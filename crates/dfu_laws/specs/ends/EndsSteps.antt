@@ -7,55 +7,61 @@ use Rattle.dfu_host_core.specs.declared.action.DfuAction.{DfuAction}
 use Rattle.dfu_host_core.specs.Runs.{CoreHost}
 use Rattle.dfu_laws.specs.board.Board.{Board, Event, Handle, Elapse, UsbReset, Refuse, Restart, BoardReply, BoardStep}
 use Rattle.dfu_laws.specs.board.Happens.{IsRun}
-use Rattle.dfu_laws.specs.link.Calls.{Serves, Reaches, Objects, Stops}
+use Rattle.dfu_laws.specs.link.Calls.{CallServed, CallReaches, ImageRefusedAtClose, CallCutOff}
 use Rattle.dfu_laws.specs.link.Marks.{IsMarkedBoard}
-use Rattle.dfu_laws.specs.ends.Sessions.{CoreSession, InSession, Wants, IsEntering, sent_body, HostTakeOk, SeenOfReply, Settles, RestartReported, MayBeUnderWay}
+use Rattle.dfu_laws.specs.ends.Sessions.{CoreSession, InSession, WantsAction, IsInEnterPhase, sent_body, HostTakeOk, SeenOfReply, SessionSettles, RestartReported, CoreCallMayBeUnderWay}
 
--- The next event, with the steps of the board, and the report then. The program does what dfu_host_next says: it sends a request (0), waits
--- (1) or resets the bus (2). By dfu_host_take it tells what came of that: what is sent back; 4, that the wait is over; or 5, that the bus
--- was reset.
-pub data EndsAdvance (s : CoreSession) (b : Board) : List BoardStep → Answered → CoreSession → Board → Type 0 where
+-- The next event, with the steps of the board, and the report after it. The program does what dfu_host_next says: send a request (0), wait
+-- (1) or reset the bus (2). Then the program tells dfu_host_take the result: what is sent back; 4, that the wait is over; or 5, that the
+-- bus was reset.
+pub data EndsStep (s : CoreSession) (b : Board) : List BoardStep → Answered → CoreSession → Board → Type 0 where
   -- Time passes at the board.
-  time_passes : {ms : ℕ} {steps : List BoardStep} {a : Answer} {out : List ℕ} {b' : Board} → Serves b (Elapse ms) steps a out b'
-      → EndsAdvance s b steps silent s b'
-  -- The session's request goes to the board: the setup as it is, and those bytes of the payload.
-  sends_it : {payload bytes : List ℕ} {x x' : CoreHost} {a : DfuAction} {steps : List BoardStep} {says : BoardReply} {b' : Board} {seen : ℕ}
-      {said : Answered} {s' : CoreSession} → s ≡ InSession payload x → Wants payload x a → a.what ≡ 0
-      → Reaches (Handle a.setup (sent_body payload a)) b steps says b' → SeenOfReply says seen bytes → HostTakeOk payload x seen bytes x'
-      → Settles payload x' said s' → EndsAdvance s b steps said s' b'
-  -- It closes a download, and the board's program refuses the image.
-  objects_to_it : {payload bytes : List ℕ} {x x' : CoreHost} {a : DfuAction} {why : Objection} {steps : List BoardStep} {says : BoardReply}
-      {b' : Board} {seen : ℕ} {said : Answered} {s' : CoreSession} → s ≡ InSession payload x → Wants payload x a → a.what ≡ 0
-      → Objects a.setup (sent_body payload a) why b steps says b' → SeenOfReply says seen bytes → HostTakeOk payload x seen bytes x'
-      → Settles payload x' said s' → EndsAdvance s b steps said s' b'
+  time_passes : {ms : ℕ} {steps : List BoardStep} {a : Answer} {out : List ℕ} {b' : Board} → CallServed b (Elapse ms) steps a out b'
+      → EndsStep s b steps silent s b'
+  -- The session's request goes to the board: the setup of the action, and the bytes of the payload that the action sends.
+  sends_request : {payload bytes : List ℕ} {x x' : CoreHost} {a : DfuAction} {steps : List BoardStep} {says : BoardReply} {b' : Board}
+      {seen : ℕ}
+      {said : Answered} {s' : CoreSession} → s ≡ InSession payload x → WantsAction payload x a → a.what ≡ 0
+      → CallReaches (Handle a.setup (sent_body payload a)) b steps says b' → SeenOfReply says seen bytes
+      → HostTakeOk payload x seen bytes x'
+      → SessionSettles payload x' said s' → EndsStep s b steps said s' b'
+  -- The request closes a download, and the board's program refuses the image.
+  close_is_refused : {payload bytes : List ℕ} {x x' : CoreHost} {a : DfuAction} {why : Objection} {steps : List BoardStep} {says :
+      BoardReply}
+      {b' : Board} {seen : ℕ} {said : Answered} {s' : CoreSession} → s ≡ InSession payload x → WantsAction payload x a → a.what ≡ 0
+      → ImageRefusedAtClose a.setup (sent_body payload a) why b steps says b' → SeenOfReply says seen bytes →
+      HostTakeOk payload x seen bytes x'
+      → SessionSettles payload x' said s' → EndsStep s b steps said s' b'
   -- The board's program refuses the image that was closed, if one was.
-  refuses_image : {why : Objection} {steps : List BoardStep} {a : Answer} {out : List ℕ} {b' : Board} → Serves b (Refuse why) steps a out b'
-      → EndsAdvance s b steps silent s b'
+  refuses_image : {why : Objection} {steps : List BoardStep} {a : Answer} {out : List ℕ} {b' : Board}
+      → CallServed b (Refuse why) steps a out b'
+      → EndsStep s b steps silent s b'
   -- The session's wait is over.
-  waits_it_out : {payload bytes : List ℕ} {x x' : CoreHost} {a : DfuAction} {said : Answered} {s' : CoreSession} → s ≡ InSession payload x
-      → Wants payload x a → a.what ≡ 1 → HostTakeOk payload x 4 bytes x' → Settles payload x' said s' → EndsAdvance s b [] said s' b
+  wait_is_over : {payload bytes : List ℕ} {x x' : CoreHost} {a : DfuAction} {said : Answered} {s' : CoreSession} → s ≡ InSession payload x
+      → WantsAction payload x a → a.what ≡ 1 → HostTakeOk payload x 4 bytes x' → SessionSettles payload x' said s' → EndsStep s b [] said s' b
   -- The session resets the bus.
   resets_bus : {payload bytes : List ℕ} {x x' : CoreHost} {a : DfuAction} {steps : List BoardStep} {answer : Answer} {out : List ℕ}
-      {b' : Board} {said : Answered} {s' : CoreSession} → s ≡ InSession payload x → Wants payload x a → a.what ≡ 2
-      → Serves b UsbReset steps answer out b' → HostTakeOk payload x 5 bytes x' → Settles payload x' said s'
-      → EndsAdvance s b steps said s' b'
-  -- The bus is reset by another cause, with this call under way, to which the board comes to an end first.
+      {b' : Board} {said : Answered} {s' : CoreSession} → s ≡ InSession payload x → WantsAction payload x a → a.what ≡ 2
+      → CallServed b UsbReset steps answer out b' → HostTakeOk payload x 5 bytes x' → SessionSettles payload x' said s'
+      → EndsStep s b steps said s' b'
+  -- The bus is reset by another cause while a call is under way; the board ends the call first.
   bus_is_reset : {call : Event} {steps more : List BoardStep} {says : BoardReply} {a : Answer} {out : List ℕ} {mid b' : Board} {said : Answered}
-      {s' : CoreSession} → MayBeUnderWay s call → Reaches call b steps says mid → Serves mid UsbReset more a out b'
+      {s' : CoreSession} → CoreCallMayBeUnderWay s call → CallReaches call b steps says mid → CallServed mid UsbReset more a out b'
       → RestartReported s said s'
-      → EndsAdvance s b (steps ++ more) said s' b'
-  -- The power of the board goes and comes back, with this call under way.
-  board_restarts : {call : Event} {steps : List BoardStep} {b' : Board} {said : Answered} {s' : CoreSession} → MayBeUnderWay s call
-      → Stops call b steps b' → RestartReported s said s' → EndsAdvance s b steps said s' b'
+      → EndsStep s b (steps ++ more) said s' b'
+  -- The power of the board goes and comes back while a call is under way.
+  board_restarts : {call : Event} {steps : List BoardStep} {b' : Board} {said : Answered} {s' : CoreSession} → CoreCallMayBeUnderWay s call
+      → CallCutOff call b steps b' → RestartReported s said s' → EndsStep s b steps said s' b'
   -- An application leaves after DETACH, for its bootloader or not: the board restarts. The session, which resets or waits next, learns
   -- nothing of it.
   leaves_app : {payload : List ℕ} {x : CoreHost} {power : BoardStep} {begins : Bool} {b' : Board} → s ≡ InSession payload x
-      → IsEntering payload x → IsRun b (power ∷ []) b' → power.event ≡ Restart begins → EndsAdvance s b (power ∷ []) silent s b'
-  -- The session resets the bus, and by that the board restarts: in appIDLE, or as an application leaves. The session learns of its reset
-  -- alone.
+      → IsInEnterPhase payload x → IsRun b (power ∷ []) b' → power.event ≡ Restart begins → EndsStep s b (power ∷ []) silent s b'
+  -- The session resets the bus, and that makes the board restart: in appIDLE, or into a bootloader as an application leaves. The session
+  -- learns of its reset alone.
   board_makes_way : {payload bytes : List ℕ} {x x' : CoreHost} {a : DfuAction} {power : BoardStep} {begins : Bool} {b' : Board}
-      {said : Answered} {s' : CoreSession} → s ≡ InSession payload x → Wants payload x a → a.what ≡ 2
-      → (begins ≡ false) ⊎ IsEntering payload x → IsRun b (power ∷ []) b' → power.event ≡ Restart begins → HostTakeOk payload x 5 bytes x'
-      → Settles payload x' said s' → EndsAdvance s b (power ∷ []) said s' b'
+      {said : Answered} {s' : CoreSession} → s ≡ InSession payload x → WantsAction payload x a → a.what ≡ 2
+      → (begins ≡ false) ⊎ IsInEnterPhase payload x → IsRun b (power ∷ []) b' → power.event ≡ Restart begins
+      → HostTakeOk payload x 5 bytes x'
+      → SessionSettles payload x' said s' → EndsStep s b (power ∷ []) said s' b'
   -- A mark of a trial is set, or torn, or fails. The session learns nothing of it.
-  mark_is_set : {b' : Board} → IsMarkedBoard b b' → EndsAdvance s b [] silent s b'
+  mark_is_set : {b' : Board} → IsMarkedBoard b b' → EndsStep s b [] silent s b'

@@ -3,149 +3,158 @@ use Rattle.std.specs.Prelude.{◌≡◌, ◌<◌, ℕ, pos, Bool, List, [], ◌�
 use Rattle.dfu_wire.specs.declared.states.State.{State}
 use Rattle.dfu_slots.specs.Image.{Active}
 use Rattle.dfu_host.specs.declared.limits.Limits.{Limits}
-use Rattle.dfu_host.specs.Phases.{ToFetch}
-use Rattle.dfu_host.specs.Host.{started}
+use Rattle.dfu_host.specs.Phases.{FetchGoal}
+use Rattle.dfu_host.specs.Host.{host_for_goal}
 use Rattle.dfu_sim.specs.declared.offering.Purpose.{Purpose}
 use Rattle.dfu_sim.specs.LinkView.{Session}
 use Rattle.dfu_sim.specs.Opening.{goal_of_purpose}
 use Rattle.dfu_sim.specs.Play.{Answered}
 use Rattle.dfu_sim.specs.Session.{IsInPlaceReport}
-use Rattle.dfu_core.specs.Config.{setting_of}
-use Rattle.dfu_core.specs.Board.{CoreBoard, medium_of_core, IsIn}
-use Rattle.dfu_core.specs.Happens.{IsCoreOn}
+use Rattle.dfu_core.specs.Config.{config_setting}
+use Rattle.dfu_core.specs.Board.{CoreBoard, medium_of_core, HasBoardState}
+use Rattle.dfu_core.specs.Happens.{IsCorePoweredOn}
 use Rattle.dfu_host_core.specs.declared.session.DfuSession.{DfuSession}
 use Rattle.dfu_host_core.specs.BeginCalls.{IsInitialRecord}
-use Rattle.dfu_host_core.specs.Runs.{CoreHost, CoreAbort, HostCalled}
+use Rattle.dfu_host_core.specs.Runs.{CoreHost, CoreAbortCall, HostCallResult}
 use Rattle.dfu_laws.specs.board.Board.{Board, medium_on, state_on, BoardStep}
 use Rattle.dfu_laws.specs.link.Marks.{TrialEnd}
-use Rattle.dfu_laws.specs.in_c.Steps.{CoreStep, IsCoreRun, IsBoardOf, AreStepsOf}
-use Rattle.dfu_laws.specs.in_c.Marks.{IsCoreMarked, CoreTrialEnd, IsCoreMarkedRun}
-use Rattle.dfu_laws.specs.in_c.Plays.{CorePlays, IsCoreInPlace, CoreKnownIsActive}
-use Rattle.dfu_laws.specs.ends.Sessions.{CoreSession, NoSession, InSession, IsSessionOf, MayEndIn}
-use Rattle.dfu_laws.specs.ends.EndsSteps.{EndsAdvance}
+use Rattle.dfu_laws.specs.in_c.Steps.{CoreStep, IsCoreRun, IsBoardOfCore, AreBoardStepsOf}
+use Rattle.dfu_laws.specs.in_c.Marks.{IsMarkedCoreBoard, CoreTrialEnd, IsCoreRunWithMarks}
+use Rattle.dfu_laws.specs.in_c.Plays.{CorePlays, IsCorePayloadInPlace, HasKnownCoreImage}
+use Rattle.dfu_laws.specs.ends.Sessions.{CoreSession, NoSession, InSession, IsSessionOf, CoreTrialMayEnd}
+use Rattle.dfu_laws.specs.ends.EndsSteps.{EndsStep}
 
--- A session in C that a call has begun, with any buffer.
+-- A session in C that a call has begun, with its record and any buffer.
 abbrev pub initial_session : (payload : List ℕ) → DfuSession → (buffer : List ℕ) → CoreSession
 initial_session payload r buffer = InSession payload (record { kept = r; buffer = buffer })
 
 -- Sessions in C with a board, one after the other, and all that comes to it meanwhile: the steps of the board so far; the payloads offered
--- so far, and the images that came back as a trial ended; and the payload with which the last session began, or none.
-pub data EndsPlay (b : Board) : List BoardStep → List (List ℕ) → Option (List ℕ) → CoreSession → Board → Type 0 where
+-- so far; the images that were active as a trial ended; and the payload with which the last session began, or none.
+pub data EndsPlay (b : Board) : List BoardStep → List (List ℕ) → List (List ℕ) → Option (List ℕ) → CoreSession → Board → Type 0 where
   -- No session has begun.
-  no_one_yet : EndsPlay b [] [] None NoSession b
-  -- dfu_host_download or dfu_host_verified begins one on a payload, by the functional descriptor of the board.
-  offers_one : {steps : List BoardStep} {past : List (List ℕ)} {last : Option (List ℕ)} {now : Board} (purpose : Purpose)
-      (payload buffer : List ℕ) (limits : Limits) (r : DfuSession) → EndsPlay b steps past last NoSession now → 0 < length payload
-      → IsInitialRecord r (started now.asking.config.functional (goal_of_purpose purpose payload) limits)
-      → EndsPlay b steps (payload ∷ past) (Some payload) (initial_session payload r buffer) now
-  -- dfu_host_upload begins one. The bytes that are handed in as its payload are not looked at.
-  fetches_one : {steps : List BoardStep} {past : List (List ℕ)} {last : Option (List ℕ)} {now : Board} (unused buffer : List ℕ)
-      (limits : Limits) (r : DfuSession) → EndsPlay b steps past last NoSession now
-      → IsInitialRecord r (started now.asking.config.functional ToFetch limits)
-      → EndsPlay b steps past None (initial_session unused r buffer) now
-  -- dfu_host_abort gives the live one up.
-  gives_it_up : {steps : List BoardStep} {past : List (List ℕ)} {last : Option (List ℕ)} {now : Board} {payload : List ℕ} {x x' : CoreHost}
-      → EndsPlay b steps past last (InSession payload x) now → HostCalled payload x CoreAbort (pos 0) x'
-      → EndsPlay b steps past last (InSession payload x') now
-  -- The next thing comes.
-  and_then : {steps more : List BoardStep} {past : List (List ℕ)} {last : Option (List ℕ)} {s s' : CoreSession} {now b' : Board}
-      {answer : Answered} → EndsPlay b steps past last s now → EndsAdvance s now more answer s' b'
-      → EndsPlay b (steps ++ more) past last s' b'
-  -- A trial ends, and this image is active then. The session learns nothing of it.
-  trial_is_over : {steps : List BoardStep} {past : List (List ℕ)} {last : Option (List ℕ)} {s : CoreSession} {now b' : Board}
-      {begins : Bool} (image : List ℕ) → EndsPlay b steps past last s now → MayEndIn s (state_on now) begins → TrialEnd now begins b'
-      → Active (medium_on b') image → EndsPlay b steps (image ∷ past) last s b'
+  no_session_yet : EndsPlay b [] [] [] None NoSession b
+  -- dfu_host_download or dfu_host_verified begins a session on a payload, by the functional descriptor of the board.
+  download_begins : {steps : List BoardStep} {past back : List (List ℕ)} {last : Option (List ℕ)} {now : Board} (purpose : Purpose)
+      (payload buffer : List ℕ) (limits : Limits) (r : DfuSession) → EndsPlay b steps past back last NoSession now → 0 < length payload
+      → IsInitialRecord r (host_for_goal now.asking.config.functional (goal_of_purpose purpose payload) limits)
+      → EndsPlay b steps (payload ∷ past) back (Some payload) (initial_session payload r buffer) now
+  -- dfu_host_upload begins a session. The bytes that are handed in as its payload are never read.
+  upload_begins : {steps : List BoardStep} {past back : List (List ℕ)} {last : Option (List ℕ)} {now : Board} (unused buffer : List ℕ)
+      (limits : Limits) (r : DfuSession) → EndsPlay b steps past back last NoSession now
+      → IsInitialRecord r (host_for_goal now.asking.config.functional FetchGoal limits)
+      → EndsPlay b steps past back None (initial_session unused r buffer) now
+  -- dfu_host_abort gives the live session up.
+  session_is_given_up : {steps : List BoardStep} {past back : List (List ℕ)} {last : Option (List ℕ)} {now : Board} {payload : List ℕ}
+      {x x' : CoreHost} → EndsPlay b steps past back last (InSession payload x) now → HostCallResult payload x CoreAbortCall (pos 0) x'
+      → EndsPlay b steps past back last (InSession payload x') now
+  -- The next event comes.
+  and_then : {steps more : List BoardStep} {past back : List (List ℕ)} {last : Option (List ℕ)} {s s' : CoreSession} {now b' : Board}
+      {answer : Answered} → EndsPlay b steps past back last s now → EndsStep s now more answer s' b'
+      → EndsPlay b (steps ++ more) past back last s' b'
+  -- A trial ends, and the image is active afterwards. The session learns nothing of it.
+  trial_is_over : {steps : List BoardStep} {past back : List (List ℕ)} {last : Option (List ℕ)} {s : CoreSession} {now b' : Board}
+      {begins : Bool} (image : List ℕ) → EndsPlay b steps past back last s now → CoreTrialMayEnd s (state_on now) begins
+      → TrialEnd now begins b'
+      → Active (medium_on b') image → EndsPlay b steps past (image ∷ back) last s b'
 
 -- A board in C, and the session in C that is live.
-pub record CoreEnds : Type 0 where
+pub record CoreEndsLink : Type 0 where
   pub board : CoreBoard
   pub session : CoreSession
 
--- Such sessions, with a board in C: its steps are runs, between marks and ends of trials, and one by one those of
--- such a board.
-pub record CoreEndsPlay (b : CoreBoard) (steps : List CoreStep) (past : List (List ℕ)) (last : Option (List ℕ)) (l : CoreEnds)
+-- Sessions in C with a board in C: the steps of the board are runs, between marks and ends of trials, and each step is the step of a board
+-- that plays these sessions.
+pub record CoreEndsPlay (b : CoreBoard) (steps : List CoreStep) (past back : List (List ℕ)) (last : Option (List ℕ)) (l : CoreEndsLink)
     : Type 0 where
-  pub run : IsCoreMarkedRun b steps l.board
+  pub run : IsCoreRunWithMarks b steps l.board
   pub first : Board
-  pub is_first : IsBoardOf b first
+  pub is_first : IsBoardOfCore b first
   pub calls : List BoardStep
-  pub are : AreStepsOf steps calls
+  pub are : AreBoardStepsOf steps calls
   pub now : Board
-  pub is_now : IsBoardOf l.board now
-  pub plays : EndsPlay first calls past last l.session now
+  pub is_now : IsBoardOfCore l.board now
+  pub plays : EndsPlay first calls past back last l.session now
 
--- The next event, in terms of the calls in C.
-pub record CoreEndsAdvance (l : CoreEnds) (steps : List CoreStep) (answer : Answered) (l' : CoreEnds) : Type 0 where
-  pub run : IsCoreMarkedRun l.board steps l'.board
+-- The next event, as calls in C.
+pub record CoreEndsStep (l : CoreEndsLink) (steps : List CoreStep) (answer : Answered) (l' : CoreEndsLink) : Type 0 where
+  pub run : IsCoreRunWithMarks l.board steps l'.board
   pub before : Board
-  pub is_before : IsBoardOf l.board before
+  pub is_before : IsBoardOfCore l.board before
   pub calls : List BoardStep
-  pub are : AreStepsOf steps calls
+  pub are : AreBoardStepsOf steps calls
   pub after : Board
-  pub is_after : IsBoardOf l'.board after
-  pub comes : EndsAdvance l.session before calls answer l'.session after
+  pub is_after : IsBoardOfCore l'.board after
+  pub comes : EndsStep l.session before calls answer l'.session after
 
--- They are sessions of a board in C with a host, which the live session is.
-pub record AreSessions (b : CoreBoard) (steps : List CoreStep) (past : List (List ℕ)) (last : Option (List ℕ)) (l : CoreEnds)
+-- The sessions are those of a board in C with a host; the live session in C is the live session of that host.
+pub record AreHostSessions (b : CoreBoard) (steps : List CoreStep) (past back : List (List ℕ)) (last : Option (List ℕ)) (l : CoreEndsLink)
     : Type 0 where
   pub session : Session
   pub is : IsSessionOf l.session session
-  pub plays : CorePlays b steps past last (record { board = l.board; session = session })
+  pub plays : CorePlays b steps past back last (record { board = l.board; session = session })
 
--- So it is of all such sessions.
-abbrev pub EndsAreSessions : Type 0
-EndsAreSessions = (b : CoreBoard) (steps : List CoreStep) (past : List (List ℕ)) (last : Option (List ℕ)) (l : CoreEnds)
-    → CoreEndsPlay b steps past last l → AreSessions b steps past last l
+-- All sessions between both ends in C are sessions with a host.
+abbrev pub SessionsOfEndsHaveHosts : Type 0
+SessionsOfEndsHaveHosts = (b : CoreBoard) (steps : List CoreStep) (past back : List (List ℕ)) (last : Option (List ℕ)) (l : CoreEndsLink)
+    → CoreEndsPlay b steps past back last l → AreHostSessions b steps past back last l
 
 -- If dfu_host_next says that a session is over with Installed or Verified, the payload with which it began is the active image of the
 -- flash, and dfu_core_state returns appIDLE.
-abbrev pub EndsInstall : Type 0
-EndsInstall = (b : CoreBoard) (steps more : List CoreStep) (past : List (List ℕ)) (last : Option (List ℕ)) (l l' : CoreEnds)
-    (answer : Answered) → IsCoreOn b → CoreEndsPlay b steps past last l → CoreEndsAdvance l more answer l' → IsInPlaceReport answer.report
-    → IsCoreInPlace last l'.board
+abbrev pub EndsReportMeansInPlace : Type 0
+EndsReportMeansInPlace = (b : CoreBoard) (steps more : List CoreStep) (past back : List (List ℕ)) (last : Option (List ℕ)) (l l' :
+    CoreEndsLink)
+    (answer : Answered) → IsCorePoweredOn b → CoreEndsPlay b steps past back last l → CoreEndsStep l more answer l'
+    → IsInPlaceReport answer.report
+    → IsCorePayloadInPlace last l'.board
 
--- If it says Uploaded, the bytes that the session keeps are the active image of the flash.
-abbrev pub EndsUploadImages : Type 0
-EndsUploadImages = (b : CoreBoard) (steps more : List CoreStep) (past : List (List ℕ)) (last : Option (List ℕ)) (l l' : CoreEnds)
-    (answer : Answered) (bytes : List ℕ) → IsCoreOn b → CoreEndsPlay b steps past last l → CoreEndsAdvance l more answer l'
+-- If dfu_host_next says Uploaded, the bytes that the session keeps are the active image of the flash.
+abbrev pub EndsUploadIsActiveImage : Type 0
+EndsUploadIsActiveImage = (b : CoreBoard) (steps more : List CoreStep) (past back : List (List ℕ)) (last : Option (List ℕ)) (l l' :
+    CoreEndsLink)
+    (answer : Answered) (bytes : List ℕ) → IsCorePoweredOn b → CoreEndsPlay b steps past back last l → CoreEndsStep l more answer l'
     → answer.gave ≡ Some bytes → Active (medium_of_core l'.board) bytes
 
--- The active image is the one that it was at first, or the whole of a payload offered so far, or one that came back as a trial ended.
-abbrev pub EndsKnow : Type 0
-EndsKnow = (b : CoreBoard) (steps : List CoreStep) (past : List (List ℕ)) (last : Option (List ℕ)) (l : CoreEnds) (image : List ℕ)
-    → IsCoreOn b → Active (medium_of_core b) image → CoreEndsPlay b steps past last l → CoreKnownIsActive image past l.board
+-- The active image is the one that it was at first, or the whole of a payload offered so far; or, once a trial ended, the other one of the
+-- two that were in the slots at first.
+abbrev pub EndsActiveImageIsKnown : Type 0
+EndsActiveImageIsKnown = (b : CoreBoard) (steps : List CoreStep) (past back : List (List ℕ)) (last : Option (List ℕ)) (l : CoreEndsLink)
+    (image : List ℕ)
+    → IsCorePoweredOn b → Active (medium_of_core b) image → CoreEndsPlay b steps past back last l
+    → HasKnownCoreImage (medium_of_core b) image past back l.board
 
--- So it is at each step of what comes next, also between two writes of a call that is under way.
-abbrev pub EndsKnowWithin : Type 0
-EndsKnowWithin = (b mid : CoreBoard) (steps front rest : List CoreStep) (past : List (List ℕ)) (last : Option (List ℕ)) (l l' : CoreEnds)
-    (answer : Answered) (image : List ℕ) → IsCoreOn b → Active (medium_of_core b) image → CoreEndsPlay b steps past last l
-    → CoreEndsAdvance l (front ++ rest) answer l' → IsCoreRun l.board front mid → CoreKnownIsActive image past mid
+-- The active image is known after each step of the next event, also between two writes of a call that is under way.
+abbrev pub EndsActiveImageKnownWithin : Type 0
+EndsActiveImageKnownWithin = (b mid : CoreBoard) (steps front rest : List CoreStep) (past back : List (List ℕ)) (last : Option (List ℕ))
+    (l l' : CoreEndsLink)
+    (answer : Answered) (image : List ℕ) → IsCorePoweredOn b → Active (medium_of_core b) image → CoreEndsPlay b steps past back last l
+    → CoreEndsStep l (front ++ rest) answer l' → IsCoreRun l.board front mid → HasKnownCoreImage (medium_of_core b) image past back mid
 
--- Sessions of both go on: they begin on a board that just got power; a payload is offered or an upload begins, if no session is live; the
--- live one is given up; or the next thing comes; or a mark of a trial is set; or a trial ends.
+-- Sessions between both ends begin on a board in C that just got power, and go on: if no session is live a payload is offered or an upload
+-- begins; the live session is given up; the next event comes; a mark of a trial is set; or a trial ends.
 pub record EndsContinue : Type 0 where
-  pub starts : (b : CoreBoard) → IsCoreOn b → CoreEndsPlay b [] [] None (record { board = b; session = NoSession })
-  pub offers : (b : CoreBoard) (steps : List CoreStep) (past : List (List ℕ)) (last : Option (List ℕ)) (on : CoreBoard) (purpose : Purpose)
-      (payload buffer : List ℕ) (limits : Limits) (r : DfuSession)
-      → CoreEndsPlay b steps past last (record { board = on; session = NoSession }) → 0 < length payload
-      → IsInitialRecord r (started (setting_of on.config).functional (goal_of_purpose purpose payload) limits)
-      → CoreEndsPlay b steps (payload ∷ past) (Some payload) (record { board = on; session = initial_session payload r buffer })
-  pub uploads : (b : CoreBoard) (steps : List CoreStep) (past : List (List ℕ)) (last : Option (List ℕ)) (on : CoreBoard)
+  pub starts : (b : CoreBoard) → IsCorePoweredOn b → CoreEndsPlay b [] [] [] None (record { board = b; session = NoSession })
+  pub offers : (b : CoreBoard) (steps : List CoreStep) (past back : List (List ℕ)) (last : Option (List ℕ)) (on : CoreBoard)
+      (purpose : Purpose) (payload buffer : List ℕ) (limits : Limits) (r : DfuSession)
+      → CoreEndsPlay b steps past back last (record { board = on; session = NoSession }) → 0 < length payload
+      → IsInitialRecord r (host_for_goal (config_setting on.config).functional (goal_of_purpose purpose payload) limits)
+      → CoreEndsPlay b steps (payload ∷ past) back (Some payload) (record { board = on; session = initial_session payload r buffer })
+  pub uploads : (b : CoreBoard) (steps : List CoreStep) (past back : List (List ℕ)) (last : Option (List ℕ)) (on : CoreBoard)
       (unused buffer : List ℕ) (limits : Limits) (r : DfuSession)
-      → CoreEndsPlay b steps past last (record { board = on; session = NoSession })
-      → IsInitialRecord r (started (setting_of on.config).functional ToFetch limits)
-      → CoreEndsPlay b steps past None (record { board = on; session = initial_session unused r buffer })
-  pub aborts : (b : CoreBoard) (steps : List CoreStep) (past : List (List ℕ)) (last : Option (List ℕ)) (on : CoreBoard) (payload : List ℕ)
-      (x x' : CoreHost) → CoreEndsPlay b steps past last (record { board = on; session = InSession payload x })
-      → HostCalled payload x CoreAbort (pos 0) x'
-      → CoreEndsPlay b steps past last (record { board = on; session = InSession payload x' })
-  pub goes_on : (b : CoreBoard) (steps more : List CoreStep) (past : List (List ℕ)) (last : Option (List ℕ)) (l l' : CoreEnds)
-      (answer : Answered) → CoreEndsPlay b steps past last l → CoreEndsAdvance l more answer l'
-      → CoreEndsPlay b (steps ++ more) past last l'
-  pub marks : (b b' on : CoreBoard) (steps : List CoreStep) (past : List (List ℕ)) (last : Option (List ℕ)) (s : CoreSession)
-      → CoreEndsPlay b steps past last (record { board = on; session = s }) → IsCoreMarked on b'
-      → CoreEndsPlay b steps past last (record { board = b'; session = s })
-  pub ends : (b b' on : CoreBoard) (steps : List CoreStep) (past : List (List ℕ)) (last : Option (List ℕ)) (s : CoreSession) (state : State)
-      (begins : Bool) (image : List ℕ) → CoreEndsPlay b steps past last (record { board = on; session = s }) → IsIn on state
-      → MayEndIn s state begins → CoreTrialEnd on begins b' → Active (medium_of_core b') image
-      → CoreEndsPlay b steps (image ∷ past) last (record { board = b'; session = s })
+      → CoreEndsPlay b steps past back last (record { board = on; session = NoSession })
+      → IsInitialRecord r (host_for_goal (config_setting on.config).functional FetchGoal limits)
+      → CoreEndsPlay b steps past back None (record { board = on; session = initial_session unused r buffer })
+  pub aborts : (b : CoreBoard) (steps : List CoreStep) (past back : List (List ℕ)) (last : Option (List ℕ)) (on : CoreBoard)
+      (payload : List ℕ) (x x' : CoreHost) → CoreEndsPlay b steps past back last (record { board = on; session = InSession payload x })
+      → HostCallResult payload x CoreAbortCall (pos 0) x'
+      → CoreEndsPlay b steps past back last (record { board = on; session = InSession payload x' })
+  pub goes_on : (b : CoreBoard) (steps more : List CoreStep) (past back : List (List ℕ)) (last : Option (List ℕ)) (l l' : CoreEndsLink)
+      (answer : Answered) → CoreEndsPlay b steps past back last l → CoreEndsStep l more answer l'
+      → CoreEndsPlay b (steps ++ more) past back last l'
+  pub marks : (b b' on : CoreBoard) (steps : List CoreStep) (past back : List (List ℕ)) (last : Option (List ℕ)) (s : CoreSession)
+      → CoreEndsPlay b steps past back last (record { board = on; session = s }) → IsMarkedCoreBoard on b'
+      → CoreEndsPlay b steps past back last (record { board = b'; session = s })
+  pub ends : (b b' on : CoreBoard) (steps : List CoreStep) (past back : List (List ℕ)) (last : Option (List ℕ)) (s : CoreSession)
+      (state : State)
+      (begins : Bool) (image : List ℕ) → CoreEndsPlay b steps past back last (record { board = on; session = s }) → HasBoardState on state
+      → CoreTrialMayEnd s state begins → CoreTrialEnd on begins b' → Active (medium_of_core b') image
+      → CoreEndsPlay b steps past (image ∷ back) last (record { board = b'; session = s })

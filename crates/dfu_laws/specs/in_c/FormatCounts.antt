@@ -1,4 +1,4 @@
--- How often a format in C asks for operations.
+-- Number of operations for which a format in C asks.
 use Rattle.std.specs.Prelude.{ℕ, suc, ◌+◌, ◌-◌, ◌/◌, ◌≤◌, ◌==◌, List, length, if◌then◌else◌}
 use Rattle.dfu_core.specs.declared.config.DfuConfig.{DfuConfig}
 use Rattle.dfu_core.specs.declared.record.DfuRecord.{DfuRecord}
@@ -13,13 +13,13 @@ format_erases n sector = if sector == 0 then 0 else 4 + (n + sector - 1) / secto
 abbrev pub format_programs : (n sector : ℕ) → ℕ
 format_programs n sector = (n + 255) / 256 + (if sector == 0 then 4 else 2)
 
--- How many calls of a format returned DFU_WRITE_PENDING so far: the one that began it, and each that went on.
-abbrev pub format_asks : (c : DfuConfig) (image flash : List ℕ) (r : DfuRecord) → IsBeingFormatted c image flash r → ℕ
-format_asks c image flash r (begins s) = 1
-format_asks c image flash r (goes_on {flash = before} {r = was} f piece asks) = suc (format_asks c image before was f)
+-- Number of calls of a format that returned DFU_WRITE_PENDING so far: dfu_core_format_start, and each dfu_core_format_took.
+abbrev pub format_operation_count : (c : DfuConfig) (image flash : List ℕ) (r : DfuRecord) → IsBeingFormatted c image flash r → ℕ
+format_operation_count c image flash r (begins s) = 1
+format_operation_count c image flash r (goes_on {flash = before} {r = was} f piece asks) = suc (format_operation_count c image before was f)
 
--- They are no more than DFU_FORMAT_ERASES and DFU_FORMAT_PROGRAMS say together of the image's length and the sector. So a loop that goes on
--- while the number is DFU_WRITE_PENDING ends.
-abbrev pub FormatsAskFew : Type 0
-FormatsAskFew = (c : DfuConfig) (image flash : List ℕ) (r : DfuRecord) (f : IsBeingFormatted c image flash r)
-    → format_asks c image flash r f ≤ format_erases (length image) c.sector + format_programs (length image) c.sector
+-- A format asks for at most DFU_FORMAT_ERASES plus DFU_FORMAT_PROGRAMS operations (of the image's length and the sector). Therefore a loop
+-- that runs while the number is DFU_WRITE_PENDING ends.
+abbrev pub FormatOperationsBounded : Type 0
+FormatOperationsBounded = (c : DfuConfig) (image flash : List ℕ) (r : DfuRecord) (f : IsBeingFormatted c image flash r)
+    → format_operation_count c image flash r f ≤ format_erases (length image) c.sector + format_programs (length image) c.sector

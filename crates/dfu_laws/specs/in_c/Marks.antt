@@ -1,43 +1,43 @@
 -- Bytes that a trial changes on the flash of a board in C, and steps with such changes between them.
-use Rattle.std.specs.Prelude.{◌≡◌, pos, Bool, List, [], ◌∷◌, length}
-use Rattle.dfu_boot.specs.trial.Unread.{IsUnread}
-use Rattle.dfu_core.specs.Power.{Powers}
+use Rattle.std.specs.Prelude.{◌≡◌, pos, Bool, List, [], ◌∷◌}
+use Rattle.dfu_boot.specs.trial.Unread.{ChangedUnreadBytes}
+use Rattle.dfu_core.specs.Power.{PowerOutcome}
 use Rattle.dfu_core.specs.Board.{CoreBoard, medium_of_core}
-use Rattle.dfu_core.specs.Happens.{start_mode, CoreHappens}
+use Rattle.dfu_core.specs.Happens.{start_mode, CoreEventOutcome}
+use Rattle.dfu_laws.specs.link.Marks.{OpenGateWasClosed}
 use Rattle.dfu_laws.specs.in_c.Steps.{CoreStep, IsCoreRun}
 
--- Bytes of the flash changed that the slot store does not read: as by the operation that dfu_core_trial_start or dfu_core_trial_confirm
--- asks for, whatever became of it, if it sets a mark. All else is as it was.
-pub record IsCoreMarked (b b' : CoreBoard) : Type 0 where
-  pub unread : IsUnread (medium_of_core b) (medium_of_core b')
-  pub config : b'.config ≡ b.config
-  pub kept : b'.kept ≡ b.kept
-  pub block : b'.block ≡ b.block
+-- Only bytes of the flash changed that the slot store does not read. The mark for which dfu_core_trial_start or dfu_core_trial_confirm asks
+-- changes such bytes, if it is set, torn or fails.
+pub record IsMarkedCoreBoard (b b' : CoreBoard) : Type 0 where
+  pub unread : ChangedUnreadBytes (medium_of_core b) (medium_of_core b')
+  pub same : b' ≡ record b { flash = b'.flash }
 
--- A trial ends, and dfu_core_power_on returns 0, or dfu_core_begin if the board begins for a host. The flash is as large as before.
+-- A trial ends: an open gate was closed, and then dfu_core_power_on returned 0, or dfu_core_begin if the board begins for a host.
 pub record CoreTrialEnd (b : CoreBoard) (begins : Bool) (b' : CoreBoard) : Type 0 where
-  pub size : length b'.flash ≡ length b.flash
+  pub closed : OpenGateWasClosed (medium_of_core b) b'.flash
   pub config : b'.config ≡ b.config
-  pub powers : Powers b'.config (start_mode begins) b'.flash (pos 0) b'.kept
+  pub powers : PowerOutcome b'.config (start_mode begins) b'.flash (pos 0) b'.kept
 
--- Marks were set on a board in C, or a trial ended, one after the other, or nothing came.
-pub data AreCoreMarked (b : CoreBoard) : CoreBoard → Type 0 where
-  no_mark : AreCoreMarked b b
-  one_mark : {mid b' : CoreBoard} → AreCoreMarked b mid → IsCoreMarked mid b' → AreCoreMarked b b'
-  one_trial : {mid b' : CoreBoard} {begins : Bool} → AreCoreMarked b mid → CoreTrialEnd mid begins b' → AreCoreMarked b b'
+-- Any number of marks and ends of trials came to a board in C, or none.
+pub data CoreMarksOrTrialEnds (b : CoreBoard) : CoreBoard → Type 0 where
+  no_core_mark_or_end : CoreMarksOrTrialEnds b b
+  then_core_mark : {mid b' : CoreBoard} → CoreMarksOrTrialEnds b mid → IsMarkedCoreBoard mid b' → CoreMarksOrTrialEnds b b'
+  then_core_trial_end : {mid b' : CoreBoard} {begins : Bool} → CoreMarksOrTrialEnds b mid → CoreTrialEnd mid begins b' →
+      CoreMarksOrTrialEnds b b'
 
--- These steps come to a board in C, and before, between and after them marks may be set and trials may end.
-abbrev pub IsCoreMarkedRun : CoreBoard → List CoreStep → CoreBoard → Type 0
-IsCoreMarkedRun b [] b' = AreCoreMarked b b'
-IsCoreMarkedRun b (s ∷ rest) b' = AreCoreMarked b s.before × CoreHappens s.before s.event s.number s.out s.after
-    × IsCoreMarkedRun s.after rest b'
+-- The steps come to a board in C one after the other; before, between and after them marks may be set and trials may end.
+abbrev pub IsCoreRunWithMarks : CoreBoard → List CoreStep → CoreBoard → Type 0
+IsCoreRunWithMarks b [] b' = CoreMarksOrTrialEnds b b'
+IsCoreRunWithMarks b (s ∷ rest) b' = CoreMarksOrTrialEnds b s.before × CoreEventOutcome s.before s.event s.number s.out s.after
+    × IsCoreRunWithMarks s.after rest b'
 
 -- Each step begins where the one before ended, so nothing came between them.
-abbrev pub AreCoreJoined : CoreBoard → List CoreStep → CoreBoard → Type 0
-AreCoreJoined b [] b' = b' ≡ b
-AreCoreJoined b (s ∷ rest) b' = (s.before ≡ b) × AreCoreJoined s.after rest b'
+abbrev pub AreCoreStepsJoined : CoreBoard → List CoreStep → CoreBoard → Type 0
+AreCoreStepsJoined b [] b' = b' ≡ b
+AreCoreStepsJoined b (s ∷ rest) b' = (s.before ≡ b) × AreCoreStepsJoined s.after rest b'
 
--- So these steps are runs, between marks and ends of trials; and if they are joined, one run.
+-- The steps are runs with marks and ends of trials between them. If each step begins where the one before ended, they are one run.
 pub record IsCoreRunBetweenMarks (b : CoreBoard) (steps : List CoreStep) (b' : CoreBoard) : Type 0 where
-  pub marked : IsCoreMarkedRun b steps b'
-  pub joined : AreCoreJoined b steps b' → IsCoreRun b steps b'
+  pub marked : IsCoreRunWithMarks b steps b'
+  pub joined : AreCoreStepsJoined b steps b' → IsCoreRun b steps b'

@@ -1,4 +1,4 @@
--- The kind of the answer to a setup.
+-- Kinds of answers that requests get.
 use Rattle.std.specs.Prelude.{List, [], ◌∷◌}
 use Rattle.dfu_wire.specs.declared.setups.Setup.{Setup}
 use Rattle.dfu_wire.specs.declared.requests.Request.{Request}
@@ -8,23 +8,23 @@ use Rattle.dfu_wire.specs.Request.{SetupRequest}
 use Rattle.dfu_device.specs.declared.answer.Answer.TheVariants as answer
 use Rattle.dfu_laws.specs.board.Board.{Event, Handle, BoardReply, Answers, BoardStep}
 
--- The answer to a request is of its kind: GETSTATUS, GETSTATE and UPLOAD are not acknowledged, and any other one gets no bytes.
-abbrev pub ReplyOfRequest : Request → BoardReply → Type 0
-ReplyOfRequest (request.GetStatus len) (Answers answer.Ack out) = ⊥
-ReplyOfRequest (request.GetState len) (Answers answer.Ack out) = ⊥
-ReplyOfRequest (request.Upload block len) (Answers answer.Ack out) = ⊥
-ReplyOfRequest (request.GetStatus len) says = Unit {0}
-ReplyOfRequest (request.GetState len) says = Unit {0}
-ReplyOfRequest (request.Upload block len) says = Unit {0}
-ReplyOfRequest q (Answers answer.Bytes out) = ⊥
-ReplyOfRequest q says = Unit {0}
+-- A reply fits its request: GETSTATUS, GETSTATE and UPLOAD are answered by bytes or a stall, and any other request gets no bytes.
+abbrev pub ReplyFitsRequest : Request → BoardReply → Type 0
+ReplyFitsRequest (request.GetStatus len) (Answers answer.Ack out) = ⊥
+ReplyFitsRequest (request.GetState len) (Answers answer.Ack out) = ⊥
+ReplyFitsRequest (request.Upload block len) (Answers answer.Ack out) = ⊥
+ReplyFitsRequest (request.GetStatus len) says = Unit {0}
+ReplyFitsRequest (request.GetState len) says = Unit {0}
+ReplyFitsRequest (request.Upload block len) says = Unit {0}
+ReplyFitsRequest q (Answers answer.Bytes out) = ⊥
+ReplyFitsRequest q says = Unit {0}
 
--- So it is of what is said to a setup at once, by the request that it asks for.
-abbrev pub ReplyOfSetup : Event → BoardReply → Type 0
-ReplyOfSetup (Handle setup body) says = (p : Setup) (q : Request) → IsSetup p setup → SetupRequest p q → ReplyOfRequest q says
-ReplyOfSetup event says = Unit {0}
+-- The reply that a setup gets at once fits the request for which the setup asks.
+abbrev pub ReplyFitsSetup : Event → BoardReply → Type 0
+ReplyFitsSetup (Handle setup body) says = (p : Setup) (q : Request) → IsSetup p setup → SetupRequest p q → ReplyFitsRequest q says
+ReplyFitsSetup event says = Unit {0}
 
--- And at each of these steps.
-abbrev pub RepliesMatch : List BoardStep → Type 0
-RepliesMatch [] = Unit {0}
-RepliesMatch (s ∷ rest) = ReplyOfSetup s.event s.says × RepliesMatch rest
+-- At each of the steps the reply fits.
+abbrev pub RepliesFitSetups : List BoardStep → Type 0
+RepliesFitSetups [] = Unit {0}
+RepliesFitSetups (s ∷ rest) = ReplyFitsSetup s.event s.says × RepliesFitSetups rest

@@ -8,16 +8,16 @@ use Rattle.dfu_boot.specs.declared.trial.standing.Standing.TheVariants.{OnTrial}
 use Rattle.dfu_sim.specs.Play.{Answered}
 use Rattle.dfu_sim.specs.Session.{IsInPlaceReport}
 use Rattle.dfu_core.specs.Board.{CoreBoard, medium_of_core}
-use Rattle.dfu_core.specs.Happens.{IsCoreOn}
-use Rattle.dfu_laws.specs.link.Stays.{RunsOnTrial}
+use Rattle.dfu_core.specs.Happens.{IsCorePoweredOn}
+use Rattle.dfu_laws.specs.link.Stays.{PayloadRunsOnTrial}
 use Rattle.dfu_laws.specs.in_c.Steps.{CoreStep}
 use Rattle.dfu_laws.specs.in_c.Plays.{CoreLink, CorePlays, CoreLinkStep}
 
--- If Installed or Verified is reported and an image is on trial then, it is the payload, and each start runs that or the confirmed image,
--- as with a board.
-abbrev pub CorePlaysStay : Type 0
-CorePlaysStay = (b : CoreBoard) (steps more : List CoreStep) (past : List (List ℕ)) (last : Option (List ℕ)) (l l' : CoreLink)
-    (answer : Answered) (tries : ℕ) (t : Trial) (list : List TrialStep) → IsCoreOn b → CorePlays b steps past last l
+-- If Installed or Verified is reported and an image is on trial, that image is the payload, and each start runs the payload or the
+-- confirmed image (`PayloadRunsOnTrial`).
+abbrev pub CoreReportedTrialStays : Type 0
+CoreReportedTrialStays = (b : CoreBoard) (steps more : List CoreStep) (past back : List (List ℕ)) (last : Option (List ℕ)) (l l' : CoreLink)
+    (answer : Answered) (tries : ℕ) (t : Trial) (list : List TrialStep) → IsCorePoweredOn b → CorePlays b steps past back last l
     → CoreLinkStep l more answer l' → IsInPlaceReport answer.report → AreTries (medium_of_core l'.board).grain tries
     → IsStanding (medium_of_core l'.board) tries (OnTrial t) → TrialCourse tries (medium_of_core l'.board) list
-    → RunsOnTrial tries last (medium_of_core l'.board) t list
+    → PayloadRunsOnTrial tries last (medium_of_core l'.board) t list

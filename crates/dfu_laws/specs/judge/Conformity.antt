@@ -1,4 +1,4 @@
--- A history of the device here, as a judge sees it, and that it is kept.
+-- The events that a judge sees of a history of the device, and the statement that each such history keeps the standard.
 use Rattle.std.specs.Prelude.{◌≡◌, ℕ, ◌+◌, ◌*◌, ◌≤◌, Bool, true, false, List, [], ◌∷◌, length, slice_index}
 use Rattle.dfu_wire.specs.declared.setups.Setup.{Setup}
 use Rattle.dfu_wire.specs.declared.requests.Request.{Request as Asked}
@@ -8,7 +8,7 @@ use Rattle.dfu_wire.specs.Setup.{IsSetup}
 use Rattle.dfu_wire.specs.Request.{SetupRequest}
 use Rattle.dfu_device.specs.declared.answer.Answer.{Answer}
 use Rattle.dfu_device.specs.declared.answer.Answer.TheVariants as answer
-use Rattle.dfu_device.specs.Setting.{IsAllowed}
+use Rattle.dfu_device.specs.Setting.{IsAllowedSetting}
 use Rattle.dfu_device.specs.Stage.{Profile, Stage, InAppIdle, InAppDetach, InDfuIdle, InDownloadSync, InDownloadSyncWritten, InDownloadBusy, InDownloadIdle, InManifestSync, InManifestSyncComplete, InManifest, InManifestWaitReset, InUploadIdle, InError}
 use Rattle.dfu_device.specs.DeviceView.{DeviceView, profile}
 use Rattle.dfu_device.specs.Rows.{Cause, Transfer, Passing, BusReset, RefusingClose, Refusing, PowerOn}
@@ -18,19 +18,19 @@ use Rattle.dfu_conformance.specs.declared.row.StandardState.TheVariants as place
 use Rattle.dfu_conformance.specs.declared.event.Response.{Response as Shows}
 use Rattle.dfu_conformance.specs.declared.event.Response.TheVariants as shows
 use Rattle.dfu_conformance.specs.declared.event.LogEvent.{LogEvent}
-use Rattle.dfu_conformance.specs.Setups.{event_of, reset, power}
+use Rattle.dfu_conformance.specs.Setups.{event_of, reset_event, power_event}
 use Rattle.dfu_conformance.specs.declared.verdict.Verdict.TheVariants.{Kept}
 use Rattle.dfu_conformance.specs.MayAnswer.{Run}
 use Rattle.dfu_conformance.specs.Verdict.{IsVerdict}
 
--- A bit as a number.
-abbrev pub bit : Bool → ℕ
-bit true = 1
-bit false = 0
+-- Number of a bit: 1 if it is set.
+abbrev pub attribute_bit : Bool → ℕ
+attribute_bit true = 1
+attribute_bit false = 0
 
--- bmAttributes of these four bits.
+-- bmAttributes with the four bits.
 abbrev pub attributes : (download upload tolerant will_detach : Bool) → ℕ
-attributes d u t w = bit d + 2 * bit u + 4 * bit t + 8 * bit w
+attributes d u t w = attribute_bit d + 2 * attribute_bit u + 4 * attribute_bit t + 8 * attribute_bit w
 
 -- bmAttributes of a device.
 abbrev pub attributes_of : Profile → ℕ
@@ -52,35 +52,36 @@ place_of InManifestWaitReset = place.ManifestWaitReset
 place_of (InUploadIdle at number) = place.UploadIdle
 place_of (InError code) = place.Error
 
--- View of an answer with these bytes.
+-- What a judge sees of an answer and its bytes.
 abbrev pub seen : Answer → List ℕ → Shows
 seen answer.Ack out = shows.Bytes 0 0 0
 seen answer.Stall out = shows.Stall
 seen answer.Bytes out = shows.Bytes (length out) (slice_index out 0) (slice_index out 4)
 
--- A transfer comes before these events; one that is no request of the class for interface 0 is passed over.
-abbrev pub AddsEvent : Setup → Asked → List ℕ → Shows → (rest events : List LogEvent) → Type 0
-AddsEvent p asked.NotDfu body a rest events = events ≡ rest
-AddsEvent p q body a rest events = events ≡ event_of p q (length body) a ∷ rest
+-- The events are those of the rest, with the transfer before them; a transfer that is no class request for interface 0 is passed over.
+abbrev pub TransferAddsEvent : Setup → Asked → List ℕ → Shows → (rest events : List LogEvent) → Type 0
+TransferAddsEvent p asked.NotDfu body a rest events = events ≡ rest
+TransferAddsEvent p q body a rest events = events ≡ event_of p q (length body) a ∷ rest
 
--- A step comes before these events: time that passes is not seen, nor that the program refuses an image that was closed.
+-- The events are those of the rest, with the step before them. Two kinds of steps are not seen: time that passes, and a program that
+-- refuses an image after its close.
 abbrev pub EventsOfStep : Cause → Answer → List ℕ → (rest events : List LogEvent) → Type 0
 EventsOfStep (Transfer setup body) a out rest events =
-    (p : Setup) × (q : Asked) × IsSetup p setup × SetupRequest p q × AddsEvent p q body (seen a out) rest events
+    (p : Setup) × (q : Asked) × IsSetup p setup × SetupRequest p q × TransferAddsEvent p q body (seen a out) rest events
 EventsOfStep (Passing ms) a out rest events = events ≡ rest
-EventsOfStep BusReset a out rest events = events ≡ reset ∷ rest
+EventsOfStep BusReset a out rest events = events ≡ reset_event ∷ rest
 EventsOfStep (RefusingClose setup why) a out rest events =
-    (p : Setup) × (q : Asked) × IsSetup p setup × SetupRequest p q × AddsEvent p q [] (seen a out) rest events
+    (p : Setup) × (q : Asked) × IsSetup p setup × SetupRequest p q × TransferAddsEvent p q [] (seen a out) rest events
 EventsOfStep (Refusing why) a out rest events = events ≡ rest
-EventsOfStep PowerOn a out rest events = events ≡ power ∷ rest
+EventsOfStep PowerOn a out rest events = events ≡ power_event ∷ rest
 
--- These events are what is seen of a history.
+-- The events are what a judge sees of a history.
 abbrev pub EventsOfHistory : List HistoryStep → List LogEvent → Type 0
 EventsOfHistory [] events = events ≡ []
 EventsOfHistory (s ∷ h) events = (rest : List LogEvent) × EventsOfStep s.cause s.answer s.out rest events × EventsOfHistory h rest
 
--- Facts of each stage that a device comes to: manifestation is complete only if it is tolerant, an upload is under way only if it can
--- upload, and dfuERROR never has the code OK.
+-- Facts of each stage that a device reaches: manifestation is complete only if the device is tolerant, an upload is under way only if it
+-- can upload, and dfuERROR never has the code OK.
 abbrev pub StageInvariant : Profile → Stage → Type 0
 StageInvariant c InManifestSyncComplete = c.tolerant ≡ true
 StageInvariant c (InUploadIdle at number) = c.can_upload ≡ true
@@ -91,7 +92,8 @@ StageInvariant c stage = Unit {0}
 abbrev pub NeedsManifestTime : Profile → Type 0
 NeedsManifestTime c = c.tolerant ≡ false → 1 ≤ c.manifest
 
--- For every history of a device that holds this, the seen events are a run with no habit, and the device holds this in the end.
+-- The events that a judge sees of a history are a run of the standard's table with no habit, if the invariant holds of the device; it holds
+-- at the end too.
 abbrev pub HistoriesConform : Type 0
 HistoriesConform = (h : List HistoryStep) (events : List LogEvent) (w w' : DeviceView) → NeedsManifestTime (profile w)
     → StageInvariant (profile w) w.stage →
@@ -99,9 +101,8 @@ HistoriesConform = (h : List HistoryStep) (events : List LogEvent) (w w' : Devic
     → EventsOfHistory h events → Run (attributes_of (profile w)) 0 (place_of w.stage) events (place_of w'.stage)
     × StageInvariant (profile w') w'.stage
 
--- So the answers of each device that begins in appIDLE, as one does that got power, are kept: a device of the standard may have
--- answered so.
-abbrev pub StartsConform : Type 0
-StartsConform =
-    (h : List HistoryStep) (events : List LogEvent) (w w' : DeviceView) → IsAllowed w.config → w.stage ≡ InAppIdle → IsHistory w h w'
+-- Each device that begins in appIDLE, as after power on, gives answers that a device of the standard may give.
+abbrev pub DevicesFromStartConform : Type 0
+DevicesFromStartConform =
+    (h : List HistoryStep) (events : List LogEvent) (w w' : DeviceView) → IsAllowedSetting w.config → w.stage ≡ InAppIdle → IsHistory w h w'
     → EventsOfHistory h events → Run (attributes_of (profile w)) 0 place.AppIdle events (place_of w'.stage) × IsVerdict Kept events

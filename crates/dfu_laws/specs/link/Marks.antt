@@ -1,43 +1,48 @@
 -- Bytes that a trial changes on the flash of a board, and steps of a board with such changes between them.
-use Rattle.std.specs.Prelude.{◌≡◌, Bool, List, [], ◌∷◌, length}
-use Rattle.dfu_boot.specs.trial.Unread.{IsUnread}
-use Rattle.dfu_asks.specs.Lent.{IsSetUpAs}
+use Rattle.std.specs.Prelude.{◌≡◌, ℕ, ◌+◌, Bool, List, [], ◌∷◌, slice_index}
+use Rattle.dfu_slots.specs.Medium.{MediumState, FrameOutside}
+use Rattle.dfu_slots.specs.Layout.{ArePlaces, OPEN}
+use Rattle.dfu_boot.specs.trial.Unread.{ChangedUnreadBytes}
+use Rattle.dfu_asks.specs.Lent.{SameSetup}
 use Rattle.dfu_laws.specs.board.Board.{Board, medium_on, BoardStep}
-use Rattle.dfu_laws.specs.board.Happens.{BoardStarts, Happens, IsRun}
+use Rattle.dfu_laws.specs.board.Happens.{IsPoweredOn, EventOutcome, IsRun}
 
--- Bytes of the flash changed that the slot store does not read, as by a mark of a trial that is set, or torn, or fails. All else of the
--- board is as it was.
+-- Only bytes of the flash changed that the slot store does not read. A mark of a trial changes such bytes, if it is set, torn or fails.
 pub record IsMarkedBoard (b b' : Board) : Type 0 where
-  pub unread : IsUnread (medium_on b) (medium_on b')
-  pub asking : b'.asking ≡ b.asking
-  pub block : b'.block ≡ b.block
-  pub held : b'.held ≡ b.held
+  pub unread : ChangedUnreadBytes (medium_on b) (medium_on b')
+  pub same : b' ≡ record b { flash = b'.flash }
 
--- A trial ends, and the board restarts, in dfuIDLE if it begins for a host. The flash is as large as before; which image is active on it is
--- said where this is used. By dfu_boot only the sector of the gate on trial changes, and the confirmed image is back or the trial goes on.
+-- The gate of an open slot is closed, and that works, fails, lies or is cut: the sector of the gate has any bytes now, and elsewhere
+-- nothing changed.
+abbrev pub OpenGateWasClosed : MediumState → List ℕ → Type 0
+OpenGateWasClosed m now = (at : ℕ) × (other : ℕ) × ArePlaces m.bytes at other × (slice_index m.bytes at ≡ OPEN)
+    × FrameOutside at (at + m.grain.sector) m.bytes now
+
+-- A trial ends: an open gate was closed, and the board restarts, in dfuIDLE if it begins for a host.
 pub record TrialEnd (b : Board) (begins : Bool) (b' : Board) : Type 0 where
-  pub size : length b'.flash ≡ length b.flash
-  pub starts : BoardStarts begins b'
-  pub same : IsSetUpAs b.asking b'.asking
+  pub closed : OpenGateWasClosed (medium_on b) b'.flash
+  pub starts : (on : IsPoweredOn b') × (on.begins ≡ begins)
+  pub same : SameSetup b.asking b'.asking
 
--- Marks were set on a board, or a trial ended, one after the other, or nothing came.
-pub data AreMarked (b : Board) : Board → Type 0 where
-  none_is : AreMarked b b
-  one_more : {mid b' : Board} → AreMarked b mid → IsMarkedBoard mid b' → AreMarked b b'
-  one_end : {mid b' : Board} {begins : Bool} → AreMarked b mid → TrialEnd mid begins b' → AreMarked b b'
+-- Any number of marks and ends of trials came to a board, or none.
+pub data MarksOrTrialEnds (b : Board) : Board → Type 0 where
+  no_mark_or_end : MarksOrTrialEnds b b
+  one_more : {mid b' : Board} → MarksOrTrialEnds b mid → IsMarkedBoard mid b' → MarksOrTrialEnds b b'
+  then_trial_end : {mid b' : Board} {begins : Bool} → MarksOrTrialEnds b mid → TrialEnd mid begins b' → MarksOrTrialEnds b b'
 
--- These steps come to a board, and before, between and after them marks may be set and trials may end.
-abbrev pub IsMarkedRun : Board → List BoardStep → Board → Type 0
-IsMarkedRun b [] b' = AreMarked b b'
-IsMarkedRun b (s ∷ rest) b' = AreMarked b s.before × Happens s.before s.event s.says s.after × IsSetUpAs s.before.asking s.after.asking
-    × IsMarkedRun s.after rest b'
+-- The steps come to a board one after the other; before, between and after them marks may be set and trials may end.
+abbrev pub IsRunWithMarks : Board → List BoardStep → Board → Type 0
+IsRunWithMarks b [] b' = MarksOrTrialEnds b b'
+IsRunWithMarks b (s ∷ rest) b' = MarksOrTrialEnds b s.before × EventOutcome s.before s.event s.says s.after
+    × SameSetup s.before.asking s.after.asking
+    × IsRunWithMarks s.after rest b'
 
 -- Each step begins where the one before ended, so nothing came between them.
-abbrev pub AreJoined : Board → List BoardStep → Board → Type 0
-AreJoined b [] b' = b' ≡ b
-AreJoined b (s ∷ rest) b' = (s.before ≡ b) × AreJoined s.after rest b'
+abbrev pub AreStepsJoined : Board → List BoardStep → Board → Type 0
+AreStepsJoined b [] b' = b' ≡ b
+AreStepsJoined b (s ∷ rest) b' = (s.before ≡ b) × AreStepsJoined s.after rest b'
 
--- So these steps are runs, between marks and ends of trials; and if they are joined, one run.
+-- The steps are runs with marks and ends of trials between them. If each step begins where the one before ended, they are one run.
 pub record IsRunBetweenMarks (b : Board) (steps : List BoardStep) (b' : Board) : Type 0 where
-  pub marked : IsMarkedRun b steps b'
-  pub joined : AreJoined b steps b' → IsRun b steps b'
+  pub marked : IsRunWithMarks b steps b'
+  pub joined : AreStepsJoined b steps b' → IsRun b steps b'

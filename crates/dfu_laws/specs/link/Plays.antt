@@ -1,88 +1,94 @@
 -- Sessions over a link to a board, and what a host's report says of the board.
 use Rattle.std.specs.Prelude.{◌≡◌, ◌⊎◌, ℕ, ◌<◌, Bool, List, [], ◌∷◌, ◌++◌, length, Option, Some, None}
 use Rattle.dfu_wire.specs.declared.states.State.TheVariants.{AppIdle}
+use Rattle.dfu_slots.specs.Medium.{MediumState}
 use Rattle.dfu_slots.specs.Image.{Active}
 use Rattle.dfu_host.specs.declared.limits.Limits.{Limits}
-use Rattle.dfu_host.specs.Phases.{Goal, ToFetch}
-use Rattle.dfu_host.specs.Host.{HostState, started, aborted}
+use Rattle.dfu_host.specs.Phases.{FetchGoal}
+use Rattle.dfu_host.specs.Host.{HostState, host_for_goal, aborted_host}
 use Rattle.dfu_sim.specs.declared.offering.Purpose.{Purpose}
-use Rattle.dfu_sim.specs.LinkView.{Nobody, Hosted}
+use Rattle.dfu_sim.specs.LinkView.{NoLiveSession, HostSession}
 use Rattle.dfu_sim.specs.Opening.{goal_of_purpose}
 use Rattle.dfu_sim.specs.Play.{Answered}
 use Rattle.dfu_sim.specs.Session.{IsOneOf, IsInPlaceReport}
 use Rattle.dfu_laws.specs.board.Board.{Board, medium_on, state_on, BoardStep}
 use Rattle.dfu_laws.specs.board.Happens.{IsPoweredOn, IsRun}
+use Rattle.dfu_laws.specs.board.Slots.{IsInSlot}
 use Rattle.dfu_laws.specs.link.LinkSteps.{BoardLink, BoardLinkStep}
 use Rattle.dfu_laws.specs.link.Marks.{TrialEnd, IsRunBetweenMarks}
-use Rattle.dfu_laws.specs.link.Trials.{MayEnd}
-
--- A session with this goal begins, by the descriptor of the board's device.
-abbrev pub opened_on : Board → Goal → Limits → BoardLink
-opened_on b goal limits = record { board = b; session = Hosted (started b.asking.config.functional goal limits) }
+use Rattle.dfu_laws.specs.link.Trials.{TrialMayEnd}
 
 -- Sessions with a board, one after the other, and all that comes to it meanwhile: the steps of the board so far; the payloads offered so
--- far, and the images that came back as a trial ended; and the payload with which the last session began, or none.
-pub data Plays (b : Board) : List BoardStep → List (List ℕ) → Option (List ℕ) → BoardLink → Type 0 where
+-- far; the images that were active as a trial ended; and the payload with which the last session began, or none.
+pub data BoardPlays (b : Board) : List BoardStep → List (List ℕ) → List (List ℕ) → Option (List ℕ) → BoardLink → Type 0 where
   -- No session has begun.
-  starts : Plays b [] [] None (record { board = b; session = Nobody })
+  starts : BoardPlays b [] [] [] None (record { board = b; session = NoLiveSession })
   -- A payload is offered, to be installed, or to be installed and verified.
-  offers : {steps : List BoardStep} {past : List (List ℕ)} {last : Option (List ℕ)} {l : BoardLink} (purpose : Purpose) (payload : List ℕ)
-      (limits : Limits) → Plays b steps past last l → l.session ≡ Nobody → 0 < length payload
-      → Plays b steps (payload ∷ past) (Some payload) (opened_on l.board (goal_of_purpose purpose payload) limits)
+  offers : {steps : List BoardStep} {past back : List (List ℕ)} {last : Option (List ℕ)} {l : BoardLink} (purpose : Purpose)
+      (payload : List ℕ) (limits : Limits) → BoardPlays b steps past back last l → l.session ≡ NoLiveSession → 0 < length payload
+      → BoardPlays b steps (payload ∷ past) back (Some payload)
+      (record l { session = HostSession (host_for_goal l.board.asking.config.functional (goal_of_purpose purpose payload) limits) })
   -- An upload begins.
-  uploads : {steps : List BoardStep} {past : List (List ℕ)} {last : Option (List ℕ)} {l : BoardLink} (limits : Limits)
-      → Plays b steps past last l → l.session ≡ Nobody → Plays b steps past None (opened_on l.board ToFetch limits)
+  uploads : {steps : List BoardStep} {past back : List (List ℕ)} {last : Option (List ℕ)} {l : BoardLink} (limits : Limits)
+      → BoardPlays b steps past back last l → l.session ≡ NoLiveSession → BoardPlays b steps past back None
+      (record l { session = HostSession (host_for_goal l.board.asking.config.functional FetchGoal limits) })
   -- The live session is given up.
-  aborts : {steps : List BoardStep} {past : List (List ℕ)} {last : Option (List ℕ)} {l : BoardLink} {h : HostState}
-      → Plays b steps past last l → l.session ≡ Hosted h
-      → Plays b steps past last (record { board = l.board; session = Hosted (aborted h) })
-  -- The next thing comes.
-  goes_on : {steps more : List BoardStep} {past : List (List ℕ)} {last : Option (List ℕ)} {l l' : BoardLink} {answer : Answered}
-      → Plays b steps past last l → BoardLinkStep l more answer l' → Plays b (steps ++ more) past last l'
-  -- A trial ends, and this image is active then: the one that comes back, or that on trial as before. The host hears nothing.
-  ends : {steps : List BoardStep} {past : List (List ℕ)} {last : Option (List ℕ)} {l : BoardLink} {b' : Board} {begins : Bool}
-      (image : List ℕ) → Plays b steps past last l → MayEnd l.session (state_on l.board) begins → TrialEnd l.board begins b'
-      → Active (medium_on b') image → Plays b steps (image ∷ past) last (record { board = b'; session = l.session })
+  aborts : {steps : List BoardStep} {past back : List (List ℕ)} {last : Option (List ℕ)} {l : BoardLink} {h : HostState}
+      → BoardPlays b steps past back last l → l.session ≡ HostSession h
+      → BoardPlays b steps past back last (record l { session = HostSession (aborted_host h) })
+  -- The next event comes.
+  goes_on : {steps more : List BoardStep} {past back : List (List ℕ)} {last : Option (List ℕ)} {l l' : BoardLink} {answer : Answered}
+      → BoardPlays b steps past back last l → BoardLinkStep l more answer l' → BoardPlays b (steps ++ more) past back last l'
+  -- A trial ends, and the image is active afterwards: the confirmed image that comes back, or still the one on trial. The host hears
+  -- nothing.
+  ends : {steps : List BoardStep} {past back : List (List ℕ)} {last : Option (List ℕ)} {l : BoardLink} {b' : Board} {begins : Bool}
+      (image : List ℕ) → BoardPlays b steps past back last l → TrialMayEnd l.session (state_on l.board) begins → TrialEnd l.board begins b'
+      → Active (medium_on b') image → BoardPlays b steps past (image ∷ back) last (record { board = b'; session = l.session })
 
--- The last session began with a payload. The payload is the active image of the board's flash, and the board is in appIDLE.
-pub record IsInPlace (last : Option (List ℕ)) (b : Board) : Type 0 where
+-- The payload with which the last session began is the active image of the board's flash, and the board is in appIDLE.
+pub record IsPayloadInPlace (last : Option (List ℕ)) (b : Board) : Type 0 where
   pub payload : List ℕ
   pub offered : last ≡ Some payload
   pub active : Active (medium_on b) payload
   pub state : state_on b ≡ AppIdle
 
--- If Installed or Verified is reported, it is so.
-abbrev pub PlaysInstall : Type 0
-PlaysInstall = (b : Board) (steps more : List BoardStep) (past : List (List ℕ)) (last : Option (List ℕ)) (l l' : BoardLink)
-    (answer : Answered) → IsPoweredOn b → 0 < b.asking.config.functional.transfer → Plays b steps past last l
-    → BoardLinkStep l more answer l'
-    → IsInPlaceReport answer.report → IsInPlace last l'.board
+-- If the host reports Installed or Verified, the payload of the last session is in place.
+abbrev pub ReportMeansPayloadInPlace : Type 0
+ReportMeansPayloadInPlace = (b : Board) (steps more : List BoardStep) (past back : List (List ℕ)) (last : Option (List ℕ)) (l l' :
+    BoardLink)
+    (answer : Answered) → IsPoweredOn b → 0 < b.asking.config.functional.transfer → BoardPlays b steps past back last l
+    → BoardLinkStep l more answer l' → IsInPlaceReport answer.report → IsPayloadInPlace last l'.board
 
 -- The bytes that come with Uploaded are the active image.
-abbrev pub UploadsOfPlays : Type 0
-UploadsOfPlays = (b : Board) (steps more : List BoardStep) (past : List (List ℕ)) (last : Option (List ℕ)) (l l' : BoardLink)
-    (answer : Answered) (bytes : List ℕ) → IsPoweredOn b → 0 < b.asking.config.functional.transfer → Plays b steps past last l
+abbrev pub UploadIsActiveImage : Type 0
+UploadIsActiveImage = (b : Board) (steps more : List BoardStep) (past back : List (List ℕ)) (last : Option (List ℕ)) (l l' : BoardLink)
+    (answer : Answered) (bytes : List ℕ) → IsPoweredOn b → 0 < b.asking.config.functional.transfer → BoardPlays b steps past back last l
     → BoardLinkStep l more answer l' → answer.gave ≡ Some bytes → Active (medium_on l'.board) bytes
 
--- The active image of a board's flash is this one, or one of these.
-pub record KnownIsActive (image : List ℕ) (past : List (List ℕ)) (b : Board) : Type 0 where
+-- The active image of a board's flash is the one given, or was offered; or it was active as a trial ended, and was in a slot of the medium
+-- m.
+pub record HasKnownActiveImage (m : MediumState) (image : List ℕ) (past back : List (List ℕ)) (b : Board) : Type 0 where
   pub now : List ℕ
   pub active : Active (medium_on b) now
-  pub known : (now ≡ image) ⊎ IsOneOf now past
+  pub known : ((now ≡ image) ⊎ (IsInSlot m now × IsOneOf now back)) ⊎ IsOneOf now past
 
--- The active image is the one that it was at first, or the whole of a payload offered so far, or one that came back as a trial ended.
-abbrev pub PlaysKnow : Type 0
-PlaysKnow = (b : Board) (steps : List BoardStep) (past : List (List ℕ)) (last : Option (List ℕ)) (l : BoardLink) (image : List ℕ)
-    → IsPoweredOn b → 0 < b.asking.config.functional.transfer → Active (medium_on b) image → Plays b steps past last l
-    → KnownIsActive image past l.board
+-- The active image is the one that it was at first, or the whole of a payload offered so far; or, once a trial ended, the other one of the
+-- two that were in the slots at first.
+abbrev pub ActiveImageIsKnown : Type 0
+ActiveImageIsKnown = (b : Board) (steps : List BoardStep) (past back : List (List ℕ)) (last : Option (List ℕ)) (l : BoardLink) (image :
+    List ℕ)
+    → IsPoweredOn b → 0 < b.asking.config.functional.transfer → Active (medium_on b) image → BoardPlays b steps past back last l
+    → HasKnownActiveImage (medium_on b) image past back l.board
 
--- So it is at each step of what comes next, also between two writes of a call that is under way: after the first of its steps.
-abbrev pub PlaysKnowWithin : Type 0
-PlaysKnowWithin = (b mid : Board) (steps front rest : List BoardStep) (past : List (List ℕ)) (last : Option (List ℕ)) (l l' : BoardLink)
-    (answer : Answered) (image : List ℕ) → IsPoweredOn b → 0 < b.asking.config.functional.transfer → Active (medium_on b) image
-    → Plays b steps past last l → BoardLinkStep l (front ++ rest) answer l' → IsRun l.board front mid → KnownIsActive image past mid
+-- The active image is known after each step of the next event, also between two writes of a call that is under way.
+abbrev pub ActiveImageIsKnownWithin : Type 0
+ActiveImageIsKnownWithin = (b mid : Board) (steps front rest : List BoardStep) (past back : List (List ℕ)) (last : Option (List ℕ))
+    (l l' : BoardLink) (answer : Answered) (image : List ℕ) → IsPoweredOn b → 0 < b.asking.config.functional.transfer
+    → Active (medium_on b) image → BoardPlays b steps past back last l → BoardLinkStep l (front ++ rest) answer l' → IsRun l.board front mid
+    → HasKnownActiveImage (medium_on b) image past back mid
 
--- All that comes to the board are runs of it, between marks and ends of trials; without these one run. So what holds of runs holds.
-abbrev pub PlaysRun : Type 0
-PlaysRun = (b : Board) (steps : List BoardStep) (past : List (List ℕ)) (last : Option (List ℕ)) (l : BoardLink)
-    → Plays b steps past last l → IsRunBetweenMarks b steps l.board
+-- All steps of the board are runs between marks and ends of trials, and one run if there are none. Therefore what holds of runs holds of
+-- sessions.
+abbrev pub PlaysAreRuns : Type 0
+PlaysAreRuns = (b : Board) (steps : List BoardStep) (past back : List (List ℕ)) (last : Option (List ℕ)) (l : BoardLink)
+    → BoardPlays b steps past back last l → IsRunBetweenMarks b steps l.board

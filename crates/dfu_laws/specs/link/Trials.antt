@@ -1,21 +1,21 @@
--- Ends of a trial that may come, by what the host of the live session is about to do.
+-- Times at which a trial may end, by what the host of the live session does next.
 use Rattle.std.specs.Prelude.{◌≡◌, ◌⊎◌, Bool, true}
 use Rattle.dfu_wire.specs.declared.states.State.{State}
 use Rattle.dfu_wire.specs.declared.states.State.TheVariants.{DfuIdle}
 use Rattle.dfu_wire.specs.declared.requests.Request.TheVariants as request
 use Rattle.dfu_host.specs.Phases.{Deed, Send}
-use Rattle.dfu_host.specs.CommonPhases.{IsCommon}
+use Rattle.dfu_host.specs.CommonPhases.{IsCommonPhase}
 use Rattle.dfu_host.specs.Table.{deed}
-use Rattle.dfu_sim.specs.LinkView.{Session, Nobody, Hosted}
+use Rattle.dfu_sim.specs.LinkView.{Session, NoLiveSession, HostSession}
 
--- The host sends a request with which a download or an upload begins, if the device is in dfuIDLE.
-abbrev pub IsTransfer : Deed → Type 0
-IsTransfer (Send (request.Dnload block len) body) = Unit {0}
-IsTransfer (Send (request.Upload block len) body) = Unit {0}
-IsTransfer d = ⊥
+-- The host sends a DNLOAD or UPLOAD, which begins a transfer if the device is in dfuIDLE.
+abbrev pub BeginsTransfer : Deed → Type 0
+BeginsTransfer (Send (request.Dnload block len) body) = Unit {0}
+BeginsTransfer (Send (request.Upload block len) body) = Unit {0}
+BeginsTransfer d = ⊥
 
--- A trial may end as the board restarts, while no session is live, or while the host looks for the device or brings it to dfuIDLE. Or a
--- transfer is about to begin in dfuIDLE, and the board begins in dfuIDLE again.
-abbrev pub MayEnd : Session → State → (begins : Bool) → Type 0
-MayEnd Nobody state begins = Unit {0}
-MayEnd (Hosted h) state begins = IsCommon h.phase ⊎ (IsTransfer (deed h.task h.phase) × (state ≡ DfuIdle) × (begins ≡ true))
+-- A trial may end by a restart of the board while no session is live, or while the host looks for the device or brings it to dfuIDLE. A
+-- trial may also end in dfuIDLE before a transfer begins, if the board begins in dfuIDLE again.
+abbrev pub TrialMayEnd : Session → State → (begins : Bool) → Type 0
+TrialMayEnd NoLiveSession state begins = Unit {0}
+TrialMayEnd (HostSession h) state begins = IsCommonPhase h.phase ⊎ (BeginsTransfer (deed h.task h.phase) × (state ≡ DfuIdle) × (begins ≡ true))

@@ -1,52 +1,51 @@
--- Text that the code writes, its record of a line that is expected, and the text that is printed if one is.
+-- Writing of a text by the code, the line that it expects, and the printing of a text while a line is expected.
 use Rattle.std.specs.Prelude.{◌≡◌, ℕ, List, Option, Some, None, Result, OnOk, OnErr, IfErr}
 use Rattle.std.specs.Io.KnownBytes.{Appends}
 use Rattle.dfu_host.specs.declared.limits.Limits.{Limits}
 use Rattle.dfu_sim.specs.LinkView.{LinkView}
 use Rattle.dfu_suffix.specs.Writing.{IsOutInPart}
-use Rattle.dfu_link.specs.Expecting.{Expectation, Meets, still, FailsToPrint}
+use Rattle.dfu_link.specs.Expecting.{Expectation, MeetsExpectation, expectation_left, FailsToPrint}
 use Rattle.dfu_link.specs.LineContent.{given_bytes}
-use Rattle.dfu_link.specs.ScriptRun.{Point}
+use Rattle.dfu_link.specs.ScriptRun.{ScriptPoint}
 use Rattle.dfu_link.specs.declared.scripting.expectation.Expectation.{Expectation as ExpectationHeld}
 use Rattle.dfu_link.specs.declared.scripting.expectation.ScriptContext.{ScriptContext}
 use Rattle.dfu_link.specs.declared.scripting.fault.ScriptFault.{ScriptFault}
 use Rattle.dfu_link.specs.declared.scripting.fault.ScriptFault.TheVariants.{NonePrinted, NoMemory, Write}
 
--- Writing a text went like this: with Ok it is out; with a fault the writer failed, and a prefix of the text is out, and not all of it.
-pub record Puts (text : List ℕ) (old new : Option (List ℕ)) (r : Result Unit ScriptFault) : Type 0 where
+-- Result of writing a text: with Ok the text is out; with a fault the writer failed, and a prefix of the text is out, but not all of it.
+pub record TextWritten (text : List ℕ) (old new : Option (List ℕ)) (r : Result Unit ScriptFault) : Type 0 where
   pub ok : OnOk r (Appends old new text)
   pub err : OnErr r (IsOutInPart old new text)
   pub fault : IfErr r (λ f. f ≡ Write)
 
--- Expectation that is held, as plain data.
+-- The expectation that the code holds, as plain data.
 abbrev pub expectation_of : Option ExpectationHeld → Option Expectation
 expectation_of None = None
 expectation_of (Some e) = Some (record { number = e.number; text = e.text.items })
 
--- The bytes that are given, those of a check, these limits, what is expected, and this link.
-abbrev pub point_at : (given : Option (List ℕ)) → (check : List ℕ) → Limits → Option Expectation → LinkView → Point
-point_at given check limits next at = record { given = given; check = check; limits = limits; next = next; at = at }
+-- Point of a script with the bytes that FILE means, the bytes of a check, the limits, the expected line, and the link.
+abbrev pub point_of_parts : (given : Option (List ℕ)) → (check : List ℕ) → Limits → Option Expectation → LinkView → ScriptPoint
+point_of_parts given check limits next at = record { given = given; check = check; limits = limits; next = next; at = at }
 
--- Point of the context for the lines to come, and this link.
-abbrev pub at_point : ScriptContext → LinkView → Point
-at_point a at = point_at (given_bytes a.given) a.check.now a.limits (expectation_of a.next) at
+-- Point of a script by the code's context and a link.
+abbrev pub point_of_context : ScriptContext → LinkView → ScriptPoint
+point_of_context a at = point_of_parts (given_bytes a.given) a.check.now a.limits (expectation_of a.next) at
 
--- A text is out, which is as expected, and what is expected after it.
-pub record Prints (e : Option Expectation) (old : Option (List ℕ)) (text : List ℕ) (e' : Option Expectation) (new : Option (List ℕ))
+-- A text was printed as expected: it is out, and the expectation after it is left.
+pub record TextPrinted (e : Option Expectation) (old : Option (List ℕ)) (text : List ℕ) (e' : Option Expectation) (new : Option (List ℕ))
     : Type 0 where
   pub told : Appends old new text
-  pub meets : Meets e text
-  pub left : e' ≡ still e text
+  pub meets : MeetsExpectation e text
+  pub left : e' ≡ expectation_left e text
 
--- Printing a text next went like this: with Ok it is out, as expected; with a fault it fell short, and a prefix of it is out, and not all
--- of it.
+-- Result of printing the next text: with Ok the text is out, as expected; with a fault it is not out whole, but a prefix of it is.
 pub record PrintsNext (e : Option Expectation) (old : Option (List ℕ)) (text : List ℕ) (e' : Option Expectation) (new : Option (List ℕ))
     (r : Result Unit ScriptFault) : Type 0 where
-  pub ok : OnOk r (Prints e old text e' new)
+  pub ok : OnOk r (TextPrinted e old text e' new)
   pub err : OnErr r (IsOutInPart old new text)
   pub fault : IfErr r (λ f. FailsToPrint e text old new f)
 
--- A line can't be expected for this reason: one is already, or there is no memory.
+-- Reason for which a line can't be expected: a line is expected already, or there is no memory.
 abbrev pub CannotExpect : Option Expectation → ScriptFault → Type 0
 CannotExpect e NoMemory = Unit {0}
 CannotExpect (Some e) (NonePrinted n) = n ≡ e.number

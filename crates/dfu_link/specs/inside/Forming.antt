@@ -9,8 +9,9 @@ use Rattle.dfu_link.specs.ScriptRun.{blank_slots}
 use Rattle.dfu_link.specs.declared.scripting.fault.ScriptFault.{ScriptFault}
 use Rattle.dfu_link.specs.declared.scripting.fault.ScriptFault.TheVariants.{BadConfig, NoMemory}
 
--- A blank medium of this grain, with room for so many bytes, was formatted with the image, which is active, and isn't armed.
-pub record Formed (grain : Grain) (capacity : ℕ) (image : List ℕ) (s : SlotsState) : Type 0 where
+-- A blank medium of that grain, with room for images of `capacity` bytes, was formatted with the image. The image is active, and the medium
+-- is not armed.
+pub record FormattedStore (grain : Grain) (capacity : ℕ) (image : List ℕ) (s : SlotsState) : Type 0 where
   pub whole : IsWhole grain capacity
   pub fits : length image ≤ capacity
   pub formatted : AllWrites (blank_slots grain capacity) (format_series (blank_slots grain capacity) image) s.medium
@@ -18,14 +19,14 @@ pub record Formed (grain : Grain) (capacity : ℕ) (image : List ℕ) (s : Slots
   pub image_is : image_of s ≡ image
   pub unarmed : s.medium.fuse ≡ Whole
 
--- There is none: the room has no whole units or no whole sectors, or the image is too large.
+-- No medium can be formatted: the room has no whole units or no whole sectors, or the image is too large.
 pub data CannotForm (grain : Grain) (capacity : ℕ) (image : List ℕ) : Type 0 where
-  cuts_unit : ¬ IsMultiple grain.unit capacity → CannotForm grain capacity image
+  capacity_cuts_unit : ¬ IsMultiple grain.unit capacity → CannotForm grain capacity image
   cuts_sector : 0 < grain.sector → capacity % grain.sector ≢ 0 → CannotForm grain capacity image
   too_long : capacity < length image → CannotForm grain capacity image
 
--- There is none for this reason: that, or there is no memory.
-abbrev pub FormFalls : Grain → ℕ → List ℕ → ScriptFault → Type 0
-FormFalls grain capacity image BadConfig = CannotForm grain capacity image
-FormFalls grain capacity image NoMemory = Unit {0}
-FormFalls grain capacity image fault = ⊥
+-- Reason for which no medium is formatted: BadConfig if none can be, NoMemory if there is no memory.
+abbrev pub FormatFails : Grain → ℕ → List ℕ → ScriptFault → Type 0
+FormatFails grain capacity image BadConfig = CannotForm grain capacity image
+FormatFails grain capacity image NoMemory = Unit {0}
+FormatFails grain capacity image fault = ⊥

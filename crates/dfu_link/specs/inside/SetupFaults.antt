@@ -1,11 +1,11 @@
--- Faults for which no device can be set up like this.
+-- Faults of settings with which no device can be set up.
 use Rattle.std.specs.Prelude.{◌≢◌, ◌%◌, ◌<◌, length}
 use Rattle.dfu_slots.specs.Units.{IsMultiple}
 use Rattle.dfu_link.specs.ScriptRun.{Settings}
 use Rattle.dfu_link.specs.declared.scripting.setup_fault.SetupFault.{SetupFault}
 use Rattle.dfu_link.specs.declared.scripting.setup_fault.SetupFault.TheVariants as fault
 
--- The room for images has this fault.
+-- The fault holds of the room for images.
 abbrev pub HasRoomFault : SetupFault → Settings → Type 0
 HasRoomFault fault.Unit s = ¬ IsMultiple s.grain.unit s.capacity
 HasRoomFault fault.Sector s = (0 < s.grain.sector) × (s.capacity % s.grain.sector ≢ 0)

@@ -1,4 +1,4 @@
--- Meaning of the `ScriptConfig` of the code.
+-- Meaning of `ScriptConfig`, the settings that the code keeps.
 use Rattle.std.specs.Prelude.{ℕ, List, [], ◌∷◌, Option, Some, None, Vec}
 use Rattle.std.specs.declared.alloc.Global.{Global}
 use Rattle.dfu_device.specs.declared.config.Pace.{Pace}
@@ -10,25 +10,25 @@ use Rattle.dfu_slots.specs.Units.{Grain}
 use Rattle.dfu_link.specs.declared.scripting.line.Sector.{Sector}
 use Rattle.dfu_link.specs.declared.scripting.script_config.ScriptConfig.{ScriptConfig}
 
--- The image at first; if none is set it is the byte 00.
+-- The image that a device has at first: the byte 00 if no line sets one.
 abbrev pub image_bytes : Option (Vec ℕ Global) → List ℕ
 image_bytes None = 0 ∷ []
 image_bytes (Some image) = image.items
 
--- The bytes with which an image begins that the program takes; if none are set it takes any.
+-- The first bytes of each image that the program takes; none if it takes any image.
 abbrev pub check_bytes : Option (Vec ℕ Global) → List ℕ
 check_bytes None = []
 check_bytes (Some front) = front.items
 
--- A medium is written in this unit and erased in these sectors.
+-- Grain of a medium by its unit and its sectors.
 abbrev pub setup_grain : WriteUnit → Sector → Grain
 setup_grain unit sector = record { unit = unit; sector = sector.bytes }
 
--- Times of its flash, which is written in the unit and erased in the sectors that are set.
+-- Pace of the device's flash, with the unit and the sectors that are set.
 abbrev pub pace_of : ScriptConfig → Pace
 pace_of s = record { erase_ms = s.erase_ms; program_ms = s.program_ms; unit = s.unit; sector = s.sector.bytes }
 
--- Settings of the device.
+-- Setting of the device by the settings of a script.
 abbrev pub setting_of_device : ScriptConfig → Setting
 setting_of_device s = record {
   ids = s.ids;
@@ -39,7 +39,7 @@ setting_of_device s = record {
   pace = pace_of s;
 }
 
--- What is set.
+-- Settings of a script, as plain data.
 abbrev pub settings_of : ScriptConfig → Settings
 settings_of s = record {
   device = setting_of_device s;

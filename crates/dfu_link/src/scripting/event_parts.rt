@@ -1,12 +1,12 @@
-//! Parts of the events of a line: the file that they offer, the fate of an action in which a write is harmed, and how the image begins that
+//! Parts of the events of a line: the file of an offer, the fate of an action in which a write is harmed, and the front of an image that
 //! an action closes.
 
 ghost use Rattle.std.specs.Prelude.{◌≡◌, IfOk, IfErr, ◌+◌, ◌≤◌, ◌<◌, ◌∷◌, [], length, get_or, drop, IfSome, IfNone};
 ghost use Rattle.dfu_link.specs.LineContent.{given_bytes, harm_fate};
-ghost use Rattle.dfu_link.specs.inside.Moving.{offered_file_bytes, IsFileOf, NoRoomForFile};
-ghost use Rattle.dfu_sim.specs.Happening.{fate_of, harm_in, happening, Offers, harmed};
+ghost use Rattle.dfu_link.specs.inside.Moving.{offered_file_bytes, IsOfferedFileOf, NoRoomForFile};
+ghost use Rattle.dfu_sim.specs.Happening.{fate_of, harm_of_fate, happening, Offers, harmed};
 ghost use Rattle.dfu_link.specs.ScriptRun.{has_front};
-ghost use Rattle.dfu_link.specs.inside.AcceptedImage.{accepted_at};
+ghost use Rattle.dfu_link.specs.inside.AcceptedImage.{candidate_bytes_of};
 
 use crate::scripting::fault::ScriptFault;
 use crate::scripting::line::{EventLine, HarmKind, Line, Offered};
@@ -26,7 +26,7 @@ pub(crate) enum OfferedFile<'g> {
 }
 
 impl<'g> OfferedFile<'g> {
-    /// Its bytes.
+    /// Returns the bytes of the file.
     pub(crate) fn bytes(&self) -> &[u8]
         ensures { result.now ≡ offered_file_bytes self.now }
     {
@@ -37,13 +37,13 @@ impl<'g> OfferedFile<'g> {
     }
 }
 
-/// The file that a line offers; other lines offer none. Of one that is given nothing is copied.
+/// Returns the file of an offer; other lines have none. The given bytes are not copied.
 pub(crate) fn file_of<'g>(
     alloc: Global,
     given: Option<&'g [u8]>,
     line: &[u8],
 ) -> Result<OfferedFile<'g>, ScriptFault>
-    ensures ok { IfOk result (λ file. IsFileOf (given_bytes given.entry) line.now (offered_file_bytes file)) }
+    ensures ok { IfOk result (λ file. IsOfferedFileOf (given_bytes given.entry) line.now (offered_file_bytes file)) }
     ensures fault { IfErr result (λ f. NoRoomForFile (given_bytes given.entry) line.now f) }
 {
     match parse(given, line) {
@@ -55,10 +55,10 @@ pub(crate) fn file_of<'g>(
     }
 }
 
-/// The fate of an action in which a write is harmed.
+/// Returns the fate of an action in which a write is harmed.
 pub(crate) fn harmed(harm: HarmKind, writes: u32, tear: &[u8]) -> Fate<'_>
     ensures fate { fate_of result ≡ harm_fate harm }
-    ensures harm { harm_in result ≡ harmed writes tear.now }
+    ensures harm { harm_of_fate result ≡ harmed writes tear.now }
 {
     match harm {
         HarmKind::Cut => Fate::Cut { writes, tear },
@@ -67,7 +67,7 @@ pub(crate) fn harmed(harm: HarmKind, writes: u32, tear: &[u8]) -> Fate<'_>
     }
 }
 
-/// The offer of a file.
+/// Returns the offer of a file.
 pub(crate) fn offered<'f>(purpose: Purpose, file: &'f [u8], limits: Limits) -> Event<'f, 'static>
     ensures { happening result ≡ Offers purpose file.now limits }
 {
@@ -77,24 +77,24 @@ pub(crate) fn offered<'f>(purpose: Purpose, file: &'f [u8], limits: Limits) -> E
     }
 }
 
-/// The byte of the medium at this place.
+/// Returns the byte of the medium at place `at` + `i`.
 fn stored_byte<M: Medium>(slots: &Slots<M>, at: u32, i: usize) -> u8
     requires { at + i < length slots.now.medium.bytes }
     ensures { result ≡ get_or slots.now.medium.bytes (at + i) 0 }
 {
     let medium = slots.medium();
-    // Called for its clause: each place within the medium is a number of 32 bits.
+    // Calls `len` for its clause: each place within the medium is a number of 32 bits.
     let _end = medium.len();
     let mut byte = [0; 1];
     medium.read(at + i as u32, &mut byte);
     byte[0]
 }
 
-/// The byte at this place of an image that was taken, or none past its end.
+/// Returns byte `i` of a received image, or None past its end.
 fn byte_at<M: Medium>(slots: &Slots<M>, candidate: Candidate, i: usize) -> Option<u8>
     requires { candidate.at + candidate.stored ≤ length slots.now.medium.bytes }
-    ensures some { IfSome result (λ byte. (i < length (accepted_at slots.now candidate)) × (byte ≡ get_or (accepted_at slots.now candidate) i 0)) }
-    ensures none { IfNone result (length (accepted_at slots.now candidate) ≤ i) }
+    ensures some { IfSome result (λ byte. (i < length (candidate_bytes_of slots.now candidate)) × (byte ≡ get_or (candidate_bytes_of slots.now candidate) i 0)) }
+    ensures none { IfNone result (length (candidate_bytes_of slots.now candidate) ≤ i) }
 {
     let stored = candidate.stored as usize;
     if i < stored {
@@ -107,10 +107,10 @@ fn byte_at<M: Medium>(slots: &Slots<M>, candidate: Candidate, i: usize) -> Optio
     None
 }
 
-/// Returns whether this byte is at this place of an image that was taken.
+/// Returns whether byte `i` of a received image is `byte`.
 fn has_byte<M: Medium>(slots: &Slots<M>, candidate: Candidate, i: usize, byte: u8) -> bool
     requires { candidate.at + candidate.stored ≤ length slots.now.medium.bytes }
-    ensures { result ≡ has_front (byte ∷ []) (drop i (accepted_at slots.now candidate)) }
+    ensures { result ≡ has_front (byte ∷ []) (drop i (candidate_bytes_of slots.now candidate)) }
 {
     match byte_at::<M>(slots, candidate, i) {
         None => false,
@@ -118,10 +118,10 @@ fn has_byte<M: Medium>(slots: &Slots<M>, candidate: Candidate, i: usize, byte: u
     }
 }
 
-/// Returns whether an image that was taken begins with these bytes.
+/// Returns whether a received image begins with the bytes of `check`.
 pub(crate) fn begins<M: Medium>(slots: &Slots<M>, candidate: Candidate, check: &[u8]) -> bool
     requires { candidate.at + candidate.stored ≤ length slots.now.medium.bytes }
-    ensures { result ≡ has_front check.now (accepted_at slots.now candidate) }
+    ensures { result ≡ has_front check.now (candidate_bytes_of slots.now candidate) }
 {
     for i in 0..check.len() {
         if !has_byte::<M>(slots, candidate, i, check[i]) {

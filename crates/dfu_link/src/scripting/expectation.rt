@@ -1,4 +1,4 @@
-//! A line that is expected to be printed next.
+//! The line that a script expects to be printed next.
 
 ghost use Rattle.std.specs.Prelude.{◌≡◌, ◌≢◌, ◌<◌, ◌++◌, ◌∷◌, [], Some, None, true, false, length, OnOk, IfErr};
 ghost use Rattle.dfu_link.specs.inside.Expected.{expectation_of, PrintsNext, CannotExpect};
@@ -9,8 +9,8 @@ use dfu_host::Limits;
 use std::alloc::Global;
 use std::io::Write;
 
-/// A line that is expected to be printed next, without its line feed, and the number of the line that says so. The line that is printed
-/// next is put into memory first, to compare it.
+/// A line that is expected to be printed next, without its line feed, and the number of the `expect` line. The next printed line is put
+/// into memory first, to compare it.
 #[derive(Drop)]
 pub(crate) struct Expectation {
     pub number: u32,
@@ -18,8 +18,8 @@ pub(crate) struct Expectation {
     pub alloc: Global,
 }
 
-/// Context of the lines to come: the bytes that FILE means, if they are given, those with which an image begins that the program takes, the
-/// limits of later sessions, and the line that is expected. The fault of a line is noted in `stopped`.
+/// Context of the lines to come: the bytes that FILE means, if they are given, the first bytes of each image that the program takes, the
+/// limits of later sessions, and the expected line. The fault of a line is noted in `stopped`.
 #[derive(Drop)]
 pub(crate) struct ScriptContext<'g> {
     pub given: Option<&'g [u8]>,
@@ -29,7 +29,7 @@ pub(crate) struct ScriptContext<'g> {
     pub stopped: &'g Stopped,
 }
 
-/// Expects a line. Nothing was expected before.
+/// Sets `next` to the expectation of `text` by line `number`, if none is expected.
 ///
 /// # Errors
 ///
@@ -59,7 +59,7 @@ pub(crate) fn expect(
     Ok(())
 }
 
-/// Returns whether a text is this line.
+/// Returns whether a text is the expected line, with its line feed.
 fn is_line(expected: &[u8], text: &[u8]) -> bool
     ensures same { result ≡ true → text.now ≡ expected.now ++ 10 ∷ [] }
     ensures other { result ≡ false → text.now ≢ expected.now ++ 10 ∷ [] }
@@ -70,7 +70,7 @@ fn is_line(expected: &[u8], text: &[u8]) -> bool
     }
 }
 
-/// Writes a text if it is the line that is expected; another one but for its last byte.
+/// Writes a text: whole if it is the expected line, else without its last byte.
 fn write_expected<W: Write>(
     writer: &mut W,
     expected: &Expectation,
@@ -89,7 +89,7 @@ fn write_expected<W: Write>(
     Err(ScriptFault::Expected(expected.number))
 }
 
-/// Writes a text, which is printed next.
+/// Writes the text that is printed next.
 pub(crate) fn write_next<W: Write>(
     writer: &mut W,
     next: &mut Option<Expectation>,

@@ -8,26 +8,26 @@ use thiserror::Error;
 /// Faults that end a script before its last line is out. Lines are counted from 1, and skipped lines count too.
 #[derive(Clone, Copy, Debug, Error)]
 pub enum ScriptFault {
-    /// This line is not one of the language, or has over 65,536 bytes. Looked for in a line before
+    /// This line is not one of the language, or has over 65,536 bytes. A line is checked for this before
     /// LateConfig and BadConfig.
     BadLine(u32),
     /// This line sets something about the device after the first event line or `show`.
     LateConfig(u32),
-    /// The device can't be set up like this (`ConfigFault`), or the capacity is no multiple of the
-    /// unit or of the sector, or the image has more bytes than the capacity. Looked for at the first
-    /// event line or `show`, or at the end.
+    /// No device can be set up with these settings (`ConfigFault`), or the capacity is no multiple of the
+    /// unit or of the sector, or the image has more bytes than the capacity. Checked at the first event line
+    /// or `show`, or at the end.
     BadConfig,
-    /// This line expects another line to be printed than the one that came next. The line that came is out but for its line feed.
+    /// This line expects a line, and another one was printed next. That other line is out except its line feed.
     Expected(u32),
-    /// This line expects a line, and the next `expect` came before any was printed.
+    /// This line expects a line, and the next `expect` came before anything was printed.
     NonePrinted(u32),
     /// The text has over 16,777,216 bytes.
     TooLarge,
     /// An allocation was refused.
     NoMemory,
-    /// The reader failed.
+    /// The reader gave an error.
     Read,
-    /// The writer failed, or took nothing of what was left.
+    /// The writer gave an error, or took nothing of the rest.
     Write,
 }
 
@@ -56,7 +56,7 @@ impl fmt::Display for ScriptFault {
     }
 }
 
-/// A field of a line: what one of its words has to be.
+/// A field of a line: the form of one of its words.
 #[derive(Clone, Copy)]
 pub enum Field {
     /// Four hexadecimal digits.
@@ -83,13 +83,13 @@ pub enum Field {
     Bytes,
 }
 
-/// Faults for which a line is not of the language: the first of its words, from the left, that isn't what its place wants, or how many
-/// words it has to have. Words are counted from 1.
+/// Faults for which a line is not of the language: the first word, from the left, that its place does not allow, or the number of
+/// words that the line must have. Words are counted from 1.
 #[derive(Clone, Copy)]
 pub enum LineFault {
-    /// It has over 65,536 bytes.
+    /// The line has over 65,536 bytes.
     Long,
-    /// No line begins with its first word.
+    /// No line begins with the line's first word.
     Keyword,
     /// No word follows `go`.
     NoFate,
@@ -97,47 +97,48 @@ pub enum LineFault {
     Fate,
     /// Nothing follows `expect` and a space.
     NoText,
-    /// The word FILE, though no bytes are given.
+    /// FILE stands in the line, but no bytes are given.
     NoFile,
-    /// The word with this number isn't this field.
+    /// The word with this number does not have the form of this field.
     Word(Field, usize),
-    /// It has to have so many words.
+    /// The line must have this many words.
     Count(usize),
-    /// A comment follows its last word.
+    /// A comment follows the last word of the line.
     Comment,
 }
 
 /// Fault of a script that stopped, beside the fault of its run.
 #[derive(Clone, Copy)]
 pub enum Reason {
-    /// Of BadLine: the line has a byte that isn't 20h to 7Eh. It begins with a byte order mark, ends in a carriage return, or neither.
+    /// Of BadLine: the line has a byte outside 20h to 7Eh. `begins` says that the line begins with a byte order mark, `ends` that it
+    /// ends in a carriage return.
     Unprintable { begins: bool, ends: bool },
-    /// Of BadLine: what is wrong with the line, and how many words it has.
+    /// Of BadLine: the fault of the line, and the number of its words.
     Line(LineFault, usize),
-    /// Of BadConfig: why no device can be set up, and the number of the line that says it.
+    /// Of BadConfig: the reason for which no device can be set up, and the number of the line that sets it.
     Setup(SetupFault, u32),
 }
 
-/// Notes that a run of a script makes of its stop: nothing at first. It has no way to change the run, or what is printed of it.
+/// Notes on why a run of a script stopped; at first there are none. A note cannot change the run, or what is printed of it.
 #[derive(Drop)]
 pub struct Stopped {
     reason: Cell<Option<Reason>>,
 }
 
 impl Stopped {
-    /// Nothing was noted yet.
+    /// Returns a note of nothing.
     pub fn new() -> Stopped {
         Stopped {
             reason: Cell::new(None),
         }
     }
 
-    /// Returns the fault of the script, once it stopped at BadLine or BadConfig. Of a line over 65,536 bytes nothing is noted.
+    /// Returns the fault of the script, once it stopped at BadLine or BadConfig. A line of over 65,536 bytes has no note.
     pub fn reason(&self) -> Option<Reason> {
         self.reason.get()
     }
 
-    /// This is wrong with the script.
+    /// Notes the reason for which the script stopped.
     pub(crate) fn note_reason(&self, reason: Reason) {
         self.reason.set(Some(reason));
     }

@@ -4,7 +4,7 @@
 ghost use Rattle.std.specs.Prelude.{◌≡◌, ◌↔◌, IsTrue, is_some};
 ghost use Rattle.std.specs.List.{AllPass};
 ghost use Rattle.hex.specs.Hex.{is_hex_digit};
-ghost use Rattle.dfu_link.specs.Words.{Reads, hex_word_bytes, pair_of, words_of};
+ghost use Rattle.dfu_link.specs.Words.{ReadingMatches, hex_word_bytes, number_of_pair, words_of};
 ghost use Rattle.dfu_link.specs.LineContent.{given_bytes, hex_bytes, offered_bytes};
 ghost use Rattle.dfu_link.specs.Lines.{ReadMatches, number_field, short_at, hex_at, identifier_at};
 ghost use Rattle.dfu_link.specs.Fields.{small_of, named_bytes, attributes_of_word, unit_named, unit_of_word, sector_of, objection_of};
@@ -13,8 +13,11 @@ use crate::scripting::fault::{Field, LineFault};
 use crate::scripting::line::{HexText, Offered, Sector};
 use crate::scripting::words::{is_word, number, one_of, small, word_at};
 use dfu_device::Objection;
-use dfu_slots::{MAX_SECTOR, PAGE, Unit};
+use dfu_slots::{PAGE, Unit};
 use dfu_wire::identifier;
+
+// Most bytes of a sector in a script. The store takes more, but a script's refusals stay.
+const MAX_SCRIPT_SECTOR: u32 = 1 << 17;
 
 #[tactic(auto, using(std::proofs::lemmas::Bool::Decides::nat_tests))]
 fn is_digit(byte: u8) -> bool
@@ -38,9 +41,9 @@ fn is_hex_text(word: &[u8]) -> bool
     word.len() % 2 == 0 && are_digits(word)
 }
 
-/// An even number of hexadecimal digits of either case, or `-` for no bytes.
+/// Reads `word` as an even number of hexadecimal digits of either case, or `-` for no bytes; None if it is neither.
 pub(crate) fn hex_text(word: &[u8]) -> Option<HexText<'_>>
-    ensures { Reads hex_bytes result (hex_word_bytes word.now) }
+    ensures { ReadingMatches hex_bytes result (hex_word_bytes word.now) }
 {
     if is_hex_text(word) {
         Some(HexText { text: word })
@@ -49,11 +52,11 @@ pub(crate) fn hex_text(word: &[u8]) -> Option<HexText<'_>>
     }
 }
 
-/// The file that a word of an offer means: FILE the bytes that are given, which are not
-/// copied, any other for those that it spells.
+/// Returns the file that a word of an offer means. FILE means the given bytes, which are not copied; any
+/// other word means the bytes that it spells.
 #[tactic(auto, unfolding(crate::specs::Fields::named_bytes))]
 pub(crate) fn offered<'l, 'g>(given: Option<&'g [u8]>, word: &'l [u8]) -> Option<Offered<'l, 'g>>
-    ensures { Reads offered_bytes result (named_bytes (given_bytes given.entry) word.now) }
+    ensures { ReadingMatches offered_bytes result (named_bytes (given_bytes given.entry) word.now) }
 {
     if is_word(word, b"FILE") {
         match given {
@@ -66,9 +69,9 @@ pub(crate) fn offered<'l, 'g>(given: Option<&'g [u8]>, word: &'l [u8]) -> Option
     }
 }
 
-/// Two hexadecimal digits.
+/// Reads `word` as a number of two hexadecimal digits; None if it is anything else.
 pub(crate) fn pair(word: &[u8]) -> Option<u8>
-    ensures { Reads (λ n. n) result (pair_of word.now) }
+    ensures { ReadingMatches (λ n. n) result (number_of_pair word.now) }
 {
     let mut bytes = [0; 1];
     match hex::decode_to_slice(word, &mut bytes) {
@@ -77,25 +80,25 @@ pub(crate) fn pair(word: &[u8]) -> Option<u8>
     }
 }
 
-/// A number of at most 65,535.
+/// Reads `word` as a number of at most 65,535; None if it is anything else.
 #[tactic(auto, using(std::proofs::lemmas::Bool::Decides::nat_tests))]
 pub(crate) fn short(word: &[u8]) -> Option<u16>
-    ensures { Reads (λ n. n) result (small_of 65535 word.now) }
+    ensures { ReadingMatches (λ n. n) result (small_of 65535 word.now) }
 {
     let n = small(word, 65_535)?;
     Some(n as u16)
 }
 
-/// The attributes of a functional descriptor: two hexadecimal digits, 00 to 0f.
+/// Reads `word` as the attributes of a functional descriptor, two hexadecimal digits, 00 to 0f; None if it is anything else.
 #[tactic(auto, unfolding(crate::specs::Fields::attributes_of_word), using(std::proofs::lemmas::Bool::Decides::nat_tests))]
 pub(crate) fn attributes(word: &[u8]) -> Option<u8>
-    ensures { Reads (λ n. n) result (attributes_of_word word.now) }
+    ensures { ReadingMatches (λ n. n) result (attributes_of_word word.now) }
 {
     let n = pair(word)?;
     if n <= 15 { Some(n) } else { None }
 }
 
-/// The unit of so many bytes.
+/// Returns the unit of a number of bytes, if there is one.
 fn unit_named(bytes: u32) -> Option<Unit>
     ensures { result ≡ unit_named bytes }
 {
@@ -120,9 +123,9 @@ pub(crate) fn unit(word: &[u8]) -> Option<Unit>
 /// Returns the bytes that the medium erases at a time.
 #[tactic(auto, unfolding(crate::specs::Fields::sector_of), using(std::proofs::lemmas::Bool::Decides::nat_tests))]
 pub(crate) fn sector(word: &[u8]) -> Option<Sector>
-    ensures { Reads (λ s. s.bytes) result (sector_of word.now) }
+    ensures { ReadingMatches (λ s. s.bytes) result (sector_of word.now) }
 {
-    let n = small(word, MAX_SECTOR)?;
+    let n = small(word, MAX_SCRIPT_SECTOR)?;
     if n % PAGE == 0 {
         Some(Sector { bytes: n })
     } else {
@@ -140,7 +143,7 @@ pub(crate) fn objection(word: &[u8]) -> Option<Objection>
     })
 }
 
-/// A field of a line, as this function reads its word, and what is left of the line after it.
+/// Reads a field of a line by a function for its word, and gives the line after it.
 macro_rules! field {
     ($line:ident, $n:expr, $of:expr, $field:ident, $read:path $(, $most:expr)?) => {{
         let Some((word, rest)) = word_at($line) else {
@@ -155,7 +158,7 @@ macro_rules! field {
 
 pub(crate) use field;
 
-/// Word `n` of a line of `of` words, as a number, and the line after it.
+/// Takes word `n` of a line of `of` words, a number, from the front of `line`. Returns the number and the line after it.
 #[tactic(auto, unfolding(crate::specs::Lines::number_field))]
 pub(crate) fn number_at(line: &[u8], n: usize, of: usize) -> Result<(u32, &[u8]), LineFault>
     ensures { ReadMatches (λ x. (x.0, words_of x.1.now)) result (number_field n of (words_of line.now)) }
@@ -163,7 +166,7 @@ pub(crate) fn number_at(line: &[u8], n: usize, of: usize) -> Result<(u32, &[u8])
     Ok(field!(line, n, of, Number, number))
 }
 
-/// Word `n`, as a number of at most 65,535, and the line after it.
+/// Takes word `n`, a number of at most 65,535, from the front of `line`. Returns the number and the line after it.
 #[tactic(auto, unfolding(crate::specs::Lines::short_at))]
 pub(crate) fn short_at(line: &[u8], n: usize, of: usize) -> Result<(u16, &[u8]), LineFault>
     ensures { ReadMatches (λ x. (x.0, words_of x.1.now)) result (short_at n of (words_of line.now)) }
@@ -171,7 +174,7 @@ pub(crate) fn short_at(line: &[u8], n: usize, of: usize) -> Result<(u16, &[u8]),
     Ok(field!(line, n, of, Short, short))
 }
 
-/// Word `n`, as hexadecimal text, and the line after it.
+/// Takes word `n`, hexadecimal text, from the front of `line`. Returns the text and the line after it.
 #[tactic(auto, unfolding(crate::specs::Lines::hex_at))]
 pub(crate) fn hex_at(line: &[u8], n: usize, of: usize) -> Result<(HexText<'_>, &[u8]), LineFault>
     ensures { ReadMatches (λ x. (hex_bytes x.0, words_of x.1.now)) result (hex_at n of (words_of line.now)) }
@@ -179,7 +182,7 @@ pub(crate) fn hex_at(line: &[u8], n: usize, of: usize) -> Result<(HexText<'_>, &
     Ok(field!(line, n, of, Bytes, hex_text))
 }
 
-/// Word `n`, as four hexadecimal digits, and the line after it.
+/// Takes word `n`, four hexadecimal digits, from the front of `line`. Returns the number and the line after it.
 #[tactic(auto, unfolding(crate::specs::Lines::identifier_at))]
 pub(crate) fn identifier_at(line: &[u8], n: usize, of: usize) -> Result<(u16, &[u8]), LineFault>
     ensures { ReadMatches (λ x. (x.0, words_of x.1.now)) result (identifier_at n of (words_of line.now)) }

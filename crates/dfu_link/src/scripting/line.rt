@@ -15,7 +15,7 @@ pub(crate) struct HexText<'l> {
     ghost readable: { IsTrue (is_some (hex_word_bytes text.now)) },
 }
 
-/// Most bytes of an image.
+/// Largest number of bytes of an image.
 #[derive(Clone, Copy)]
 pub(crate) struct Room {
     pub bytes: u32,
@@ -23,7 +23,7 @@ pub(crate) struct Room {
     ghost most: { bytes ≤ 1048576 },
 }
 
-/// Bytes that the medium erases at a time; at 0 it is written over in place.
+/// Number of bytes that the medium erases at a time; with 0 the medium is overwritten in place.
 #[derive(Clone, Copy)]
 pub(crate) struct Sector {
     pub bytes: u32,
@@ -34,7 +34,7 @@ pub(crate) struct Sector {
 /// Setting of a configuration line.
 #[derive(Clone, Copy)]
 pub(crate) enum ConfigLine<'l> {
-    /// Who the device is.
+    /// Identifiers of the device.
     Ids(Ids),
     /// Fields of its functional descriptor, and the numbers that `Config::new` takes beside it.
     Device {
@@ -45,18 +45,18 @@ pub(crate) enum ConfigLine<'l> {
     },
     /// The unit in which the medium is written.
     Unit(Unit),
-    /// The sectors in which it is erased.
+    /// Sectors in which the medium is erased.
     Erase(Sector),
     /// Milliseconds that the medium takes to erase a sector, and to program 256 bytes.
     Pace {
         erase_ms: u16,
         program_ms: u16,
     },
-    /// Most bytes of an image.
+    /// Largest number of bytes of an image.
     Capacity(Room),
     /// The image that the device has at first.
     Image(HexText<'l>),
-    /// The bytes with which an image begins that the device's program takes.
+    /// The first bytes of each image that the device's program takes.
     Check(HexText<'l>),
 }
 
@@ -73,7 +73,7 @@ pub(crate) enum HarmKind {
 pub(crate) enum Offered<'l, 'g> {
     /// The line spells its bytes.
     Spelled(HexText<'l>),
-    /// They are those that are given to the script: the line names them by the word FILE.
+    /// The bytes that are given to the script, which a line names by the word FILE.
     Given(&'g [u8]),
 }
 
@@ -89,21 +89,21 @@ pub(crate) enum EventLine<'l, 'g> {
     Upload,
     /// The session is given up.
     Abort,
-    /// The host takes its next action, so often with this fate.
+    /// The host takes its next `times` actions, each with `fate`.
     Go {
         fate: Fate<'l>,
         times: u32,
     },
-    /// The host takes its next action: after so many writes that work one is harmed, and leaves the
-    /// first bytes of this tear, as many as fit into its range.
+    /// The host takes its next action. After `writes` writes that work one is harmed, and leaves the first
+    /// bytes of `tear`, as many as fit into its range.
     GoHarmed {
         harm: HarmKind,
         writes: u32,
         tear: HexText<'l>,
     },
-    /// The host takes actions that pass until it reports, or one is refused.
+    /// The host takes actions that pass, until it reports or one is refused.
     GoOn,
-    /// So many milliseconds pass.
+    /// This many milliseconds pass.
     Time(u32),
     /// The bus is reset.
     Reset,
@@ -116,7 +116,7 @@ pub(crate) enum EventLine<'l, 'g> {
 /// Meaning of a line.
 #[derive(Clone, Copy)]
 pub(crate) enum Line<'l, 'g> {
-    /// Nothing: it has no words, or is a comment.
+    /// Nothing: the line has no words, or is a comment.
     Blank,
     /// A configuration line.
     Set(ConfigLine<'l>),
@@ -126,6 +126,6 @@ pub(crate) enum Line<'l, 'g> {
     Do(EventLine<'l, 'g>),
     /// `show`.
     Show,
-    /// The next line that is printed is this text.
+    /// The next line that is printed must be this text.
     Expect(&'l [u8]),
 }

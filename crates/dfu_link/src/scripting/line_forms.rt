@@ -13,7 +13,7 @@ use crate::scripting::{fields, words};
 use dfu_sim::Purpose;
 use dfu_wire::{Functional, Ids};
 
-/// `ids VVVV PPPP DDDD`.
+/// Reads the words of `ids VVVV PPPP DDDD` after the first word.
 #[tactic(auto, unfolding(crate::specs::Lines::ids_content))]
 pub(crate) fn ids(line: &[u8]) -> Result<Line<'_, 'static>, LineFault>
     ensures { ReadMatches content_of_line result (ids_content (words_of line.now)) }
@@ -29,7 +29,7 @@ pub(crate) fn ids(line: &[u8]) -> Result<Line<'_, 'static>, LineFault>
     ended(Line::Set(ConfigLine::Ids(ids)), 4, rest)
 }
 
-/// `device FF DETACH TRANSFER LEAST BUSY MANIFEST`.
+/// Reads the words of `device FF DETACH TRANSFER LEAST BUSY MANIFEST` after the first word.
 #[tactic(auto, unfolding(crate::specs::Lines::device_content))]
 pub(crate) fn device(line: &[u8]) -> Result<Line<'_, 'static>, LineFault>
     ensures { ReadMatches content_of_line result (device_content (words_of line.now)) }
@@ -50,7 +50,7 @@ pub(crate) fn device(line: &[u8]) -> Result<Line<'_, 'static>, LineFault>
     ended(said, 7, rest)
 }
 
-/// `unit N`.
+/// Reads the words of `unit N` after the first word.
 #[tactic(auto, unfolding(crate::specs::Lines::unit_line))]
 pub(crate) fn unit(line: &[u8]) -> Result<Line<'_, 'static>, LineFault>
     ensures { ReadMatches content_of_line result (unit_line (words_of line.now)) }
@@ -59,7 +59,7 @@ pub(crate) fn unit(line: &[u8]) -> Result<Line<'_, 'static>, LineFault>
     ended(Line::Set(ConfigLine::Unit(unit)), 2, rest)
 }
 
-/// `erase N`.
+/// Reads the words of `erase N` after the first word.
 #[tactic(auto, unfolding(crate::specs::Lines::erase_of))]
 pub(crate) fn erase(line: &[u8]) -> Result<Line<'_, 'static>, LineFault>
     ensures { ReadMatches content_of_line result (erase_of (words_of line.now)) }
@@ -68,7 +68,7 @@ pub(crate) fn erase(line: &[u8]) -> Result<Line<'_, 'static>, LineFault>
     ended(Line::Set(ConfigLine::Erase(sector)), 2, rest)
 }
 
-/// `pace ERASE PROGRAM`.
+/// Reads the words of `pace ERASE PROGRAM` after the first word.
 #[tactic(auto, unfolding(crate::specs::Lines::pace_line))]
 pub(crate) fn pace(line: &[u8]) -> Result<Line<'_, 'static>, LineFault>
     ensures { ReadMatches content_of_line result (pace_line (words_of line.now)) }
@@ -82,7 +82,7 @@ pub(crate) fn pace(line: &[u8]) -> Result<Line<'_, 'static>, LineFault>
     ended(said, 3, rest)
 }
 
-/// `capacity N`.
+/// Reads the words of `capacity N` after the first word.
 #[tactic(auto, unfolding(crate::specs::Lines::capacity_content))]
 pub(crate) fn capacity(line: &[u8]) -> Result<Line<'_, 'static>, LineFault>
     ensures { ReadMatches content_of_line result (capacity_content (words_of line.now)) }
@@ -91,7 +91,7 @@ pub(crate) fn capacity(line: &[u8]) -> Result<Line<'_, 'static>, LineFault>
     ended(Line::Set(ConfigLine::Capacity(Room { bytes })), 2, rest)
 }
 
-/// `image HEX`.
+/// Reads the words of `image HEX` after the first word.
 #[tactic(auto, unfolding(crate::specs::Lines::image_content))]
 pub(crate) fn image(line: &[u8]) -> Result<Line<'_, 'static>, LineFault>
     ensures { ReadMatches content_of_line result (image_content (words_of line.now)) }
@@ -100,7 +100,7 @@ pub(crate) fn image(line: &[u8]) -> Result<Line<'_, 'static>, LineFault>
     ended(Line::Set(ConfigLine::Image(image)), 2, rest)
 }
 
-/// `check HEX`.
+/// Reads the words of `check HEX` after the first word.
 #[tactic(auto, unfolding(crate::specs::Lines::check_of))]
 pub(crate) fn check(line: &[u8]) -> Result<Line<'_, 'static>, LineFault>
     ensures { ReadMatches content_of_line result (check_of (words_of line.now)) }
@@ -109,7 +109,7 @@ pub(crate) fn check(line: &[u8]) -> Result<Line<'_, 'static>, LineFault>
     ended(Line::Set(ConfigLine::Check(front)), 2, rest)
 }
 
-/// `limits A R`.
+/// Reads the words of `limits A R` after the first word.
 #[tactic(auto, unfolding(crate::specs::Lines::limits_content))]
 pub(crate) fn limits(line: &[u8]) -> Result<Line<'_, 'static>, LineFault>
     ensures { ReadMatches content_of_line result (limits_content (words_of line.now)) }
@@ -130,7 +130,7 @@ fn no_file(word: &[u8], n: usize) -> LineFault
     }
 }
 
-/// A file that is offered, if these bytes are given.
+/// Returns the file that a line offers, by the bytes that FILE means.
 #[tactic(auto, unfolding(crate::specs::Lines::offered_file))]
 fn file_at<'l, 'g>(
     given: Option<&'g [u8]>,
@@ -149,7 +149,8 @@ fn file_at<'l, 'g>(
     }
 }
 
-/// `offer HEX`, `offer FILE`, `verify HEX` and `verify FILE`, if these bytes are given.
+/// Reads the words of `offer HEX`, `offer FILE`, `verify HEX` or `verify FILE` after the first word. `given` has the bytes that FILE
+/// means.
 #[tactic(auto, unfolding(crate::specs::Lines::offer_of))]
 pub(crate) fn offer<'l, 'g>(
     given: Option<&'g [u8]>,
@@ -162,7 +163,7 @@ pub(crate) fn offer<'l, 'g>(
     ended(Line::Do(EventLine::Offer { purpose, file }), 2, rest)
 }
 
-/// `time MS`.
+/// Reads the words of `time MS` after the first word.
 #[tactic(auto, unfolding(crate::specs::Lines::time_of))]
 pub(crate) fn time(line: &[u8]) -> Result<Line<'_, 'static>, LineFault>
     ensures { ReadMatches content_of_line result (time_of (words_of line.now)) }
@@ -171,7 +172,7 @@ pub(crate) fn time(line: &[u8]) -> Result<Line<'_, 'static>, LineFault>
     ended(Line::Do(EventLine::Time(ms)), 2, rest)
 }
 
-/// `refuse CODE`.
+/// Reads the words of `refuse CODE` after the first word.
 #[tactic(auto, unfolding(crate::specs::Lines::refuse_of))]
 pub(crate) fn refuse(line: &[u8]) -> Result<Line<'_, 'static>, LineFault>
     ensures { ReadMatches content_of_line result (refuse_of (words_of line.now)) }
@@ -180,7 +181,11 @@ pub(crate) fn refuse(line: &[u8]) -> Result<Line<'_, 'static>, LineFault>
     ended(Line::Do(EventLine::Refuse(objection)), 2, rest)
 }
 
-/// `expect TEXT`: the text is all that follows one space.
+/// Reads the text of `expect TEXT`: all that follows one space.
+///
+/// # Errors
+///
+/// NoText if no text follows.
 #[tactic(auto, unfolding(crate::specs::Lines::expect_of), using(std::proofs::lemmas::Bool::Decides::nat_tests))]
 pub(crate) fn expect(line: &[u8]) -> Result<Line<'_, 'static>, LineFault>
     ensures { ReadMatches content_of_line result (expect_of line.now) }

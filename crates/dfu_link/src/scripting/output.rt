@@ -1,7 +1,7 @@
 //! Text for a writer, and bytes as hexadecimal text.
 
 ghost use Rattle.std.specs.Prelude.{◌++◌, ◌≤◌, ◌∷◌, [], length};
-ghost use Rattle.dfu_link.specs.inside.Expected.{Puts};
+ghost use Rattle.dfu_link.specs.inside.Expected.{TextWritten};
 ghost use Rattle.hex.specs.Hex.{encode_lower};
 ghost use Rattle.dfu_link.specs.Texts.{hex_text};
 
@@ -9,10 +9,10 @@ use crate::scripting::fault::ScriptFault;
 use dfu_suffix::write_whole;
 use std::io::Write;
 
-/// Writes the whole text, or answers Write at the first error of the writer, or if it takes
-/// nothing of what is left.
+/// Writes a whole text, or returns Write at the first error of the writer, or once it takes nothing of the
+/// rest.
 pub(crate) fn write_out<W: Write>(writer: &mut W, text: &[u8]) -> Result<(), ScriptFault>
-    ensures { Puts text.now (W.contents writer.old) (W.contents writer.new) result }
+    ensures { TextWritten text.now (W.contents writer.old) (W.contents writer.new) result }
 {
     match write_whole(writer, text) {
         Ok(()) => Ok(()),
@@ -26,7 +26,7 @@ pub(crate) fn write_two<W: Write>(
     first: &str,
     last: &str,
 ) -> Result<(), ScriptFault>
-    ensures { Puts (first.now ++ last.now) (W.contents writer.old) (W.contents writer.new) result }
+    ensures { TextWritten (first.now ++ last.now) (W.contents writer.old) (W.contents writer.new) result }
 {
     write_out(writer, first.as_bytes())?;
     write_out(writer, last.as_bytes())
@@ -39,19 +39,19 @@ pub(crate) fn write_three<W: Write>(
     middle: &str,
     last: &str,
 ) -> Result<(), ScriptFault>
-    ensures { Puts (first.now ++ middle.now ++ last.now) (W.contents writer.old) (W.contents writer.new) result }
+    ensures { TextWritten (first.now ++ middle.now ++ last.now) (W.contents writer.old) (W.contents writer.new) result }
 {
     write_two(writer, first, middle)?;
     write_out(writer, last.as_bytes())
 }
 
-/// Bytes that are printed at once.
+/// Bytes that are printed in one write.
 pub(crate) const SHOWN_BYTES: usize = 256;
 
 /// Writes at most 256 bytes as digits.
 pub(crate) fn write_digits<W: Write>(writer: &mut W, bytes: &[u8]) -> Result<(), ScriptFault>
     requires { length bytes.now ≤ 256 }
-    ensures { Puts (encode_lower bytes.now) (W.contents writer.old) (W.contents writer.new) result }
+    ensures { TextWritten (encode_lower bytes.now) (W.contents writer.old) (W.contents writer.new) result }
 {
     let len = bytes.len();
     let mut digits = [0; 2 * SHOWN_BYTES];
@@ -63,7 +63,7 @@ pub(crate) fn write_digits<W: Write>(writer: &mut W, bytes: &[u8]) -> Result<(),
 
 /// Writes bytes as digits, piece by piece.
 fn write_all_digits<W: Write>(writer: &mut W, bytes: &[u8]) -> Result<(), ScriptFault>
-    ensures { Puts (encode_lower bytes.now) (W.contents writer.old) (W.contents writer.new) result }
+    ensures { TextWritten (encode_lower bytes.now) (W.contents writer.old) (W.contents writer.new) result }
 {
     let all = bytes.len();
     let mut at = 0;
@@ -75,9 +75,9 @@ fn write_all_digits<W: Write>(writer: &mut W, bytes: &[u8]) -> Result<(), Script
     Ok(())
 }
 
-/// Writes bytes as they are printed, and ends the line.
+/// Writes bytes as a script prints them, and ends the line.
 pub(crate) fn write_bytes<W: Write>(writer: &mut W, bytes: &[u8]) -> Result<(), ScriptFault>
-    ensures { Puts (hex_text bytes.now ++ 10 ∷ []) (W.contents writer.old) (W.contents writer.new) result }
+    ensures { TextWritten (hex_text bytes.now ++ 10 ∷ []) (W.contents writer.old) (W.contents writer.new) result }
 {
     if bytes.is_empty() {
         return write_two(writer, "-", "\n");

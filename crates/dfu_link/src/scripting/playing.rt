@@ -1,15 +1,15 @@
-//! The events of an event line, played.
+//! Plays the events of an event line.
 
 ghost use Rattle.std.specs.Prelude.{◌≡◌, ◌≢◌, ℕ, List, Option, None, Ok, true, false, [], ◌∷◌, replicate};
 ghost use Rattle.dfu_device.specs.Candidate.{candidate_in};
 ghost use Rattle.dfu_sim.specs.LinkView.{BenchMatchesFlash};
 ghost use Rattle.dfu_sim.specs.EventResults.{WorldEventResult};
-ghost use Rattle.dfu_sim.specs.Happening.{Goes, fate_of, harm_in, happening};
-ghost use Rattle.dfu_link.specs.ScriptRun.{is_accepted, checked, checked_fate};
+ghost use Rattle.dfu_sim.specs.Happening.{Goes, fate_of, harm_of_fate, happening};
+ghost use Rattle.dfu_link.specs.ScriptRun.{is_accepted, checked_event, checked_fate};
 ghost use Rattle.dfu_sim.specs.LinkView.{IsLive};
 ghost use Rattle.dfu_link.specs.LineContent.{Does, GoesOn, Offer, content_of_event, harmed_line};
-ghost use Rattle.dfu_link.specs.inside.Expected.{expectation_of, point_at, at_point};
-ghost use Rattle.dfu_link.specs.inside.Moving.{PlaysEvents, LineOutcome, file_bytes};
+ghost use Rattle.dfu_link.specs.inside.Expected.{expectation_of, point_of_parts, point_of_context};
+ghost use Rattle.dfu_link.specs.inside.Moving.{PlaysEvents, LineOutcome, offered_file_of};
 
 use crate::scripting::event_parts::{begins, harmed, offered};
 use crate::scripting::expectation::{Expectation, ScriptContext};
@@ -25,14 +25,14 @@ use dfu_slots::{Faulty, Medium};
 use std::alloc::Global;
 use std::io::Write;
 
-/// Lets an event come that is no action of the host, and writes what is printed of it.
+/// Performs `event`, which is no action of the host, on `world`, and writes the line that is printed of it to `writer`.
 fn play<'f, M: Faulty, W: Write>(
     world: &mut World<'f, M>,
     event: Event<'f, '_>,
     next: &mut Option<Expectation>,
     writer: &mut W,
 ) -> Result<(), ScriptFault>
-    ensures { (check : List ℕ) → checked check world.old.bench (happening event.entry) ≡ happening event.entry →
+    ensures { (check : List ℕ) → checked_event check world.old.bench (happening event.entry) ≡ happening event.entry →
         PlaysEvents check world.old.bench (expectation_of next.old) (happening event.entry ∷ []) (W.contents writer.old) world.new.bench
         (expectation_of next.new) (W.contents writer.new) result }
 {
@@ -40,8 +40,8 @@ fn play<'f, M: Faulty, W: Write>(
     say_next(writer, next, answer, world.uploaded())
 }
 
-/// Returns whether a program that takes only images that begin with these bytes has nothing against the image that was taken, or none was.
-/// If it checks no bytes, it doesn't look for one.
+/// Returns whether a program that takes only images that begin with `check` accepts what the device has taken: an image that begins so, or
+/// none. An empty check takes every image, and looks at none.
 fn is_accepted<M: Medium>(device: &Device<M>, check: &[u8]) -> bool
     ensures { result ≡ is_accepted check.now (candidate_in device.now.stage) }
 {
@@ -54,9 +54,9 @@ fn is_accepted<M: Medium>(device: &Device<M>, check: &[u8]) -> bool
     }
 }
 
-/// An action of this fate on a device whose program takes only images that begin with these bytes.
+/// Makes an event of an action, for a device whose program takes only images that begin with `check`.
 fn checked<'f, 't, M: Medium>(device: &Device<M>, check: &[u8], fate: Fate<'t>) -> Event<'f, 't>
-    ensures { happening result ≡ Goes (checked_fate check.now device.now (fate_of fate.entry)) (harm_in fate.entry) }
+    ensures { happening result ≡ Goes (checked_fate check.now device.now (fate_of fate.entry)) (harm_of_fate fate.entry) }
 {
     if is_accepted::<M>(device, check) {
         Event::Go(fate)
@@ -68,15 +68,16 @@ fn checked<'f, 't, M: Medium>(device: &Device<M>, check: &[u8], fate: Fate<'t>) 
     }
 }
 
-/// Lets the host take an action, and shows the link to who watches before and after it. The device's program refuses an image that does not
-/// begin with these bytes, if the action closes it. The line of the action is still to be written.
+/// Takes an action of the host with `fate`, and shows the link to `tracer` before and after it. The device's program refuses an image that
+/// does not begin with `check`, if the action closes the image. The caller still has to write the line of the action.
 fn take<'f, T: Tracer<M>, M: Faulty>(
     world: &mut World<'f, M>,
     fate: Fate<'_>,
     check: &[u8],
     tracer: &mut T,
 ) -> Result<Option<Report>, LinkFault>
-    ensures play { WorldEventResult world.old (checked check.now world.old.bench (Goes (fate_of fate.entry) (harm_in fate.entry))) world.new result }
+    ensures play { WorldEventResult world.old (checked_event check.now world.old.bench (Goes (fate_of fate.entry) (harm_of_fate fate.entry)))
+        world.new result }
     ensures active { BenchMatchesFlash world.new.bench }
 {
     let before = tracer.snapshot(world);
@@ -88,7 +89,7 @@ fn take<'f, T: Tracer<M>, M: Faulty>(
     answer
 }
 
-/// Returns whether nothing is printed of an event.
+/// Returns whether an event prints nothing.
 fn is_silent(answer: Result<Option<Report>, LinkFault>) -> bool
     ensures silent { result ≡ true → answer ≡ Ok None }
     ensures told { result ≡ false → answer ≢ Ok None }
@@ -99,7 +100,7 @@ fn is_silent(answer: Result<Option<Report>, LinkFault>) -> bool
     }
 }
 
-/// Lets the host take so many actions of one fate, and writes what is printed of each.
+/// Takes `times` actions of the host with `fate`, and writes the line that is printed of each to `writer`.
 fn play_actions<'f, T: Tracer<M>, M: Faulty, W: Write>(
     world: &mut World<'f, M>,
     fate: Fate<'_>,
@@ -110,7 +111,7 @@ fn play_actions<'f, T: Tracer<M>, M: Faulty, W: Write>(
     tracer: &mut T,
 ) -> Result<(), ScriptFault>
     ensures { PlaysEvents check.now world.old.bench (expectation_of next.old)
-        (replicate times (Goes (fate_of fate.entry) (harm_in fate.entry)))
+        (replicate times (Goes (fate_of fate.entry) (harm_of_fate fate.entry)))
         (W.contents writer.old) world.new.bench (expectation_of next.new) (W.contents writer.new) result }
 {
     for turn in 0..times {
@@ -123,8 +124,7 @@ fn play_actions<'f, T: Tracer<M>, M: Faulty, W: Write>(
     Ok(())
 }
 
-/// Lets the host take actions that pass until something is printed: the report of its session, or a
-/// refusal if none is live.
+/// Takes actions of the host that pass, up to one that prints a line: the report of its session, or a refusal if no session is live.
 fn pass_on<'f, T: Tracer<M>, M: Faulty, W: Write>(
     world: &mut World<'f, M>,
     check: &[u8],
@@ -133,8 +133,8 @@ fn pass_on<'f, T: Tracer<M>, M: Faulty, W: Write>(
     tracer: &mut T,
 ) -> Result<(), ScriptFault>
     ensures { (given : Option (List ℕ)) (limits : Limits) →
-        LineOutcome (point_at given check.now limits (expectation_of next.old) world.old.bench) GoesOn (W.contents writer.old)
-        (point_at given check.now limits (expectation_of next.new) world.new.bench) (W.contents writer.new) result }
+        LineOutcome (point_of_parts given check.now limits (expectation_of next.old) world.old.bench) GoesOn (W.contents writer.old)
+        (point_of_parts given check.now limits (expectation_of next.new) world.new.bench) (W.contents writer.new) result }
 {
     'passes: loop {
         let answer = take::<T, M>(world, Fate::Pass, check, tracer);
@@ -144,7 +144,8 @@ fn pass_on<'f, T: Tracer<M>, M: Faulty, W: Write>(
     }
 }
 
-/// Lets the host take an action in which a write is harmed, and writes what is printed of it. It takes memory for the tear.
+/// Takes an action of the host in which the write after `writes` others is harmed, as `harm` and `tear` say, and writes the line that is
+/// printed of it. The tear takes memory.
 fn play_harmed<'f, T: Tracer<M>, M: Faulty, W: Write>(
     alloc: Global,
     world: &mut World<'f, M>,
@@ -157,16 +158,16 @@ fn play_harmed<'f, T: Tracer<M>, M: Faulty, W: Write>(
     tracer: &mut T,
 ) -> Result<(), ScriptFault>
     ensures { (given : Option (List ℕ)) (limits : Limits) →
-        LineOutcome (point_at given check.now limits (expectation_of next.old) world.old.bench) (harmed_line harm writes tear.entry)
+        LineOutcome (point_of_parts given check.now limits (expectation_of next.old) world.old.bench) (harmed_line harm writes tear.entry)
         (W.contents writer.old)
-        (point_at given check.now limits (expectation_of next.new) world.new.bench) (W.contents writer.new) result }
+        (point_of_parts given check.now limits (expectation_of next.new) world.new.bench) (W.contents writer.new) result }
 {
     let torn = bytes_of(alloc, tear)?;
     let fate = harmed(harm, writes, &torn);
     play_actions::<T, M, W>(world, fate, 1, check, next, writer, tracer)
 }
 
-/// Plays the events of a line, and writes what is printed of them. It takes memory for a tear.
+/// Plays `events`, the events of a line, and writes the lines that are printed of them to `writer`. A tear takes memory.
 pub(crate) fn play_events<'f, T: Tracer<M>, M: Faulty, W: Write>(
     alloc: Global,
     world: &mut World<'f, M>,
@@ -176,9 +177,9 @@ pub(crate) fn play_events<'f, T: Tracer<M>, M: Faulty, W: Write>(
     writer: &mut W,
     tracer: &mut T,
 ) -> Result<(), ScriptFault>
-    requires { file.now ≡ file_bytes (content_of_event events) }
-    ensures { LineOutcome (at_point context.old world.old.bench) (content_of_event events.entry) (W.contents writer.old)
-        (at_point context.new world.new.bench)
+    requires { file.now ≡ offered_file_of (content_of_event events) }
+    ensures { LineOutcome (point_of_context context.old world.old.bench) (content_of_event events.entry) (W.contents writer.old)
+        (point_of_context context.new world.new.bench)
         (W.contents writer.new) result }
 {
     let limits = context.limits;
@@ -207,7 +208,7 @@ pub(crate) fn play_events<'f, T: Tracer<M>, M: Faulty, W: Write>(
     }
 }
 
-/// Refuses an offer, since a session is live, and writes that.
+/// Refuses an offer because a session is live, and writes the refusal.
 pub(crate) fn refuse_offer<'f, M: Faulty, W: Write>(
     world: &World<'f, M>,
     context: &mut ScriptContext<'_>,
@@ -215,10 +216,10 @@ pub(crate) fn refuse_offer<'f, M: Faulty, W: Write>(
 ) -> Result<(), ScriptFault>
     requires { IsLive world.now.bench.session }
     ensures { (purpose : Purpose) (file : List ℕ) →
-        LineOutcome (at_point context.old world.now.bench) (Does (Offer purpose file)) (W.contents writer.old)
-        (at_point context.new world.now.bench) (W.contents writer.new) result }
+        LineOutcome (point_of_context context.old world.now.bench) (Does (Offer purpose file)) (W.contents writer.old)
+        (point_of_context context.new world.now.bench) (W.contents writer.new) result }
 {
-    // Called for its clause `active`, which a refusal's bench needs; what it answers isn't used.
+    // Calls `device` for its clause `active`, which a refusal's bench needs.
     let _ = world.device();
     say_next(writer, &mut context.next, Err(LinkFault::HostBusy), &[])
 }

@@ -29,11 +29,11 @@ impl<R: Read + Drop> Model for Pieces<R> {
 
     ghost view = { λ p. pieces_state (slice_range p.bytes p.from p.to) (R.remaining p.reader) };
 
-    ghost invariant = { λ p. (p.from ≤ p.to) × (p.to ≤ 65536) × (p.ended ≡ true → IsAtEnd (R.remaining p.reader)) };
+    ghost invariant = { λ p. (p.from ≤ p.to) × (p.to ≤ 16384) × (p.ended ≡ true → IsAtEnd (R.remaining p.reader)) };
 }
 
 impl<R: Read + Drop> Pieces<R> {
-    /// A reader, with nothing read yet.
+    /// Makes pieces of a reader, with nothing read yet.
     pub(crate) fn new(reader: R) -> Pieces<R>
         ensures ready { result.ready ≡ [] }
         ensures left { result.left ≡ prepend_known [] (R.remaining reader) }
@@ -47,8 +47,8 @@ impl<R: Read + Drop> Pieces<R> {
         }
     }
 
-    /// Has a byte at hand, unless the reader has none left. It makes one read at most, and none once
-    /// the end was seen.
+    /// Makes sure that a byte is at hand, unless the reader has none left. The call makes at most one read,
+    /// and none after the end was seen.
     pub(crate) fn fill(&mut self) -> Result<(), ScriptFault>
         ensures left { Keeps self.old.left self.new.left }
         ensures front { IfSome self.new.left (λ left. length self.new.ready ≤ length left) }
@@ -69,14 +69,14 @@ impl<R: Read + Drop> Pieces<R> {
         }
     }
 
-    /// The bytes at hand.
+    /// Returns the bytes at hand.
     pub(crate) fn ready(&self) -> &[u8]
         ensures { result.now ≡ self.now.ready }
     {
         &self.bytes[self.from..self.to]
     }
 
-    /// Takes so many of them.
+    /// Takes `count` of the bytes at hand.
     pub(crate) fn advance(&mut self, count: usize)
         requires { count ≤ length self.old.ready }
         ensures ready { self.new.ready ≡ drop count self.old.ready }

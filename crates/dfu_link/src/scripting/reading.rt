@@ -1,9 +1,9 @@
-//! Reading of a line: by its first word, and after `go` by the fate.
+//! Reads a line by its first word, and after `go` by the fate.
 
-ghost use Rattle.dfu_link.specs.Words.{Reads, words_of};
-ghost use Rattle.dfu_sim.specs.Happening.{fate_of, harm_in};
+ghost use Rattle.dfu_link.specs.Words.{ReadingMatches, words_of};
+ghost use Rattle.dfu_sim.specs.Happening.{fate_of, harm_of_fate};
 ghost use Rattle.dfu_link.specs.LineContent.{given_bytes, content_of_line, Go, Does, harm_fate};
-ghost use Rattle.dfu_link.specs.Lines.{ReadMatches, ends, pass_of, slip_of, harmed_of, until_of, by_fate, go_of, by_keyword, read_line, line_of};
+ghost use Rattle.dfu_link.specs.Lines.{ReadMatches, line_ends, pass_of, slip_of, harmed_of, until_of, content_by_fate, go_of, by_keyword, read_line, line_of};
 
 use crate::scripting::fault::{Field, LineFault, Reason, Stopped};
 use crate::scripting::fields::{field, hex_at, number_at};
@@ -17,10 +17,10 @@ use crate::scripting::words::{
 };
 use dfu_sim::{Fate, Purpose};
 
-/// The most bytes of a line, without its 0Ah.
+/// Largest number of bytes of a line, without its 0Ah.
 pub(crate) const MAX_LINE: usize = 65_536;
 
-/// `go pass N`.
+/// Reads the words of `go pass N` after the second word.
 #[tactic(auto, unfolding(crate::specs::Lines::pass_of))]
 fn pass(line: &[u8]) -> Result<Line<'_, 'static>, LineFault>
     ensures { ReadMatches content_of_line result (pass_of (words_of line.now)) }
@@ -30,14 +30,15 @@ fn pass(line: &[u8]) -> Result<Line<'_, 'static>, LineFault>
     ended(Line::Do(EventLine::Go { fate, times }), 3, rest)
 }
 
-/// One action.
+/// Makes the line of one action.
 fn once<'l>(fate: Fate<'l>, of: usize, rest: &[u8]) -> Result<Line<'l, 'static>, LineFault>
-    ensures { ReadMatches content_of_line result (ends (Does (Go (fate_of fate.entry) (harm_in fate.entry) 1)) of (words_of rest.now)) }
+    ensures { ReadMatches content_of_line result (line_ends (Does (Go (fate_of fate.entry) (harm_of_fate fate.entry) 1)) of
+        (words_of rest.now)) }
 {
     ended(Line::Do(EventLine::Go { fate, times: 1 }), of, rest)
 }
 
-/// `go slip MS`.
+/// Reads the words of `go slip MS` after the second word.
 #[tactic(auto, unfolding(crate::specs::Lines::slip_of))]
 fn slip(line: &[u8]) -> Result<Line<'_, 'static>, LineFault>
     ensures { ReadMatches content_of_line result (slip_of (words_of line.now)) }
@@ -46,7 +47,7 @@ fn slip(line: &[u8]) -> Result<Line<'_, 'static>, LineFault>
     once(Fate::Slip(ms), 3, rest)
 }
 
-/// `go cut W HEX` and `go fail W HEX`.
+/// Reads the words of `go cut W HEX` or `go fail W HEX`, as `harm` says, after the second word.
 #[tactic(auto, unfolding(crate::specs::Lines::harmed_of))]
 fn harmed(harm: HarmKind, line: &[u8]) -> Result<Line<'_, 'static>, LineFault>
     ensures { ReadMatches content_of_line result (harmed_of (harm_fate harm) (words_of line.now)) }
@@ -57,7 +58,7 @@ fn harmed(harm: HarmKind, line: &[u8]) -> Result<Line<'_, 'static>, LineFault>
     ended(Line::Do(events), 4, rest)
 }
 
-/// `go until report`.
+/// Reads the words of `go until report` after the second word.
 #[tactic(auto, unfolding(crate::specs::Lines::until_of))]
 fn until(line: &[u8]) -> Result<Line<'_, 'static>, LineFault>
     ensures { ReadMatches content_of_line result (until_of (words_of line.now)) }
@@ -73,7 +74,7 @@ fn until(line: &[u8]) -> Result<Line<'_, 'static>, LineFault>
 
 /// Reads the words behind `go`, by the first of them.
 fn by_fate(keyword: FateKeyword, rest: &[u8]) -> Result<Line<'_, 'static>, LineFault>
-    ensures { ReadMatches content_of_line result (by_fate keyword (words_of rest.now)) }
+    ensures { ReadMatches content_of_line result (content_by_fate keyword (words_of rest.now)) }
 {
     match keyword {
         FateKeyword::Pass => pass(rest),
@@ -89,7 +90,7 @@ fn by_fate(keyword: FateKeyword, rest: &[u8]) -> Result<Line<'_, 'static>, LineF
     }
 }
 
-/// `go` with a fate, or `until`.
+/// Reads the words of a `go` line after the first word: a fate or `until`, and the words that belong to it.
 #[tactic(auto, unfolding(crate::specs::Lines::go_of))]
 fn go(line: &[u8]) -> Result<Line<'_, 'static>, LineFault>
     ensures { ReadMatches content_of_line result (go_of (words_of line.now)) }
@@ -136,7 +137,8 @@ fn by_keyword<'l, 'g>(
     }
 }
 
-/// Returns the meaning of a line if these bytes are given, or the fault of the line. A line over 65,536 bytes is not one of the language.
+/// Returns the meaning of a line, by the bytes that FILE means, or the fault of the line. A line of over 65,536 bytes is not one of the
+/// language.
 #[tactic(auto, unfolding(crate::specs::Lines::read_line))]
 fn read_line<'l, 'g>(given: Option<&'g [u8]>, line: &'l [u8]) -> Result<Line<'l, 'g>, LineFault>
     ensures { ReadMatches content_of_line result (read_line (given_bytes given.entry) line.now) }
@@ -158,10 +160,11 @@ fn read_line<'l, 'g>(given: Option<&'g [u8]>, line: &'l [u8]) -> Result<Line<'l,
     }
 }
 
-/// Returns the meaning of a line if these bytes are given, or nothing if it is not one of the language.
+/// Returns the meaning of a line, by the bytes that FILE means, or None if the line is not one of the
+/// language.
 #[tactic(auto, unfolding(crate::specs::Lines::line_of))]
 pub(crate) fn parse<'l, 'g>(given: Option<&'g [u8]>, line: &'l [u8]) -> Option<Line<'l, 'g>>
-    ensures { Reads content_of_line result (line_of (given_bytes given.entry) line.now) }
+    ensures { ReadingMatches content_of_line result (line_of (given_bytes given.entry) line.now) }
 {
     match read_line(given, line) {
         Ok(said) => Some(said),
@@ -183,7 +186,7 @@ fn count_words(line: &[u8]) -> usize {
     words
 }
 
-/// Notes what is wrong with a line that is not one of the language if these bytes are given.
+/// Notes the fault of a line that is not one of the language.
 pub(crate) fn note_line(stopped: &Stopped, given: Option<&[u8]>, line: &[u8]) {
     if !line.iter().all(|byte| matches!(*byte, b' '..=b'~')) {
         stopped.note_reason(Reason::Unprintable {

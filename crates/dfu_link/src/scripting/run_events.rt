@@ -1,16 +1,17 @@
 //! The lines of a script once the device is started.
 //!
 //! A `World` borrows the file that it was offered, so each file has a world of its own, and so have the lines without a file before and
-//! after it. It is made over the device and taken apart again: not for each line, since a world has kilobytes.
+//! after it. A world is made over the device and taken apart again for each of these, but not for each line, because a world has
+//! kilobytes.
 
 ghost use Rattle.std.specs.Prelude.{◌≡◌, ◌<◌, Ok, true, OnOk, IfOk, IfErr};
-ghost use Rattle.dfu_sim.specs.LinkView.{Nobody};
+ghost use Rattle.dfu_sim.specs.LinkView.{NoLiveSession};
 ghost use Rattle.dfu_link.specs.LineContent.{given_bytes};
-ghost use Rattle.dfu_link.specs.Falls.{LineFalls};
-ghost use Rattle.dfu_link.specs.ScriptRun.{at_rest};
-ghost use Rattle.dfu_link.specs.inside.Expected.{at_point};
-ghost use Rattle.dfu_link.specs.inside.Source.{Next, SourceLine, SourceState};
-ghost use Rattle.dfu_link.specs.inside.Moving.{LineEnds, LineDoneOrDeferred, LinkOutcome, IsFileOf, SourceExhausted, IsUnarmed, Plainly, PlainlyFalls, MovesAndFalls};
+ghost use Rattle.dfu_link.specs.Falls.{LineFails};
+ghost use Rattle.dfu_link.specs.ScriptRun.{link_at_rest};
+ghost use Rattle.dfu_link.specs.inside.Expected.{point_of_context};
+ghost use Rattle.dfu_link.specs.inside.Source.{NextLineOrEnd, SourceLine, SourceState};
+ghost use Rattle.dfu_link.specs.inside.Moving.{LineEnds, LineDoneOrDeferred, LinkOutcome, IsOfferedFileOf, SourceExhausted, IsUnarmed, LineDonePlainly, LineFailsPlainly, MovesThenFails};
 
 use crate::scripting::event_parts::file_of;
 use crate::scripting::expectation::{ScriptContext, expect};
@@ -28,7 +29,7 @@ use dfu_slots::{Faulty, Medium};
 use std::alloc::Global;
 use std::io::{Read, Write};
 
-/// Does a line but for its events, which it gives.
+/// Performs line `line` with number `number`, except its events, which it returns.
 fn plain_line<'l, 'g, M: Medium, W: Write>(
     alloc: Global,
     device: &Device<M>,
@@ -37,9 +38,9 @@ fn plain_line<'l, 'g, M: Medium, W: Write>(
     context: &mut ScriptContext<'g>,
     writer: &mut W,
 ) -> Result<Option<EventLine<'l, 'g>>, ScriptFault>
-    ensures ok { IfOk result (λ events. Plainly device.now context.old number line.now (W.contents writer.old) events context.new
+    ensures ok { IfOk result (λ events. LineDonePlainly device.now context.old number line.now (W.contents writer.old) events context.new
         (W.contents writer.new)) }
-    ensures fault { IfErr result (λ f. PlainlyFalls device.now context.old number line.now (W.contents writer.old)
+    ensures fault { IfErr result (λ f. LineFailsPlainly device.now context.old number line.now (W.contents writer.old)
         (W.contents writer.new) f) }
 {
     match parse(context.given, line) {
@@ -65,7 +66,7 @@ fn plain_line<'l, 'g, M: Medium, W: Write>(
     }
 }
 
-/// Does the line for which a link was made. The link holds the file that it offers, if it offers one.
+/// Performs `line`, for which the link `world` was made. The link holds `file`, the file that the line offers, if it offers one.
 fn first_line<'f, T: Tracer<M>, M: Faulty, W: Write>(
     alloc: Global,
     world: &mut World<'f, M>,
@@ -76,8 +77,8 @@ fn first_line<'f, T: Tracer<M>, M: Faulty, W: Write>(
     writer: &mut W,
     tracer: &mut T,
 ) -> Result<(), ScriptFault>
-    requires { IsFileOf (given_bytes context.old.given) line.now file.now }
-    ensures { LineEnds number (at_point context.old world.old.bench) line.now (W.contents writer.old) (at_point context.new world.new.bench)
+    requires { IsOfferedFileOf (given_bytes context.old.given) line.now file.now }
+    ensures { LineEnds number (point_of_context context.old world.old.bench) line.now (W.contents writer.old) (point_of_context context.new world.new.bench)
         (W.contents writer.new) result }
 {
     match plain_line::<M, W>(alloc, world.device(), line, number, context, writer)? {
@@ -88,7 +89,7 @@ fn first_line<'f, T: Tracer<M>, M: Faulty, W: Write>(
     }
 }
 
-/// Does a later line. It answers whether that is left, since it offers a file and no session is live.
+/// Performs `line`, a later one. Returns true if the line is left, because it offers a file and no session is live.
 fn later_line<'f, T: Tracer<M>, M: Faulty, W: Write>(
     alloc: Global,
     world: &mut World<'f, M>,
@@ -98,9 +99,9 @@ fn later_line<'f, T: Tracer<M>, M: Faulty, W: Write>(
     writer: &mut W,
     tracer: &mut T,
 ) -> Result<bool, ScriptFault>
-    ensures ok { IfOk result (λ left. LineDoneOrDeferred number (at_point context.old world.old.bench) line.now (W.contents writer.old)
-        (at_point context.new world.new.bench) (W.contents writer.new) left) }
-    ensures fault { IfErr result (λ f. LineFalls (at_point context.old world.old.bench) number line.now (W.contents writer.old)
+    ensures ok { IfOk result (λ left. LineDoneOrDeferred number (point_of_context context.old world.old.bench) line.now (W.contents writer.old)
+        (point_of_context context.new world.new.bench) (W.contents writer.new) left) }
+    ensures fault { IfErr result (λ f. LineFails (point_of_context context.old world.old.bench) number line.now (W.contents writer.old)
         (W.contents writer.new) f) }
 {
     let plain = plain_line::<M, W>(alloc, world.device(), line, number, context, writer)?;
@@ -122,16 +123,16 @@ fn later_line<'f, T: Tracer<M>, M: Faulty, W: Write>(
     }
 }
 
-/// Returns whether a link holds a file of which no session is live any more.
+/// Returns whether a link holds a file whose session is over.
 fn is_over<M: Faulty>(world: &World<'_, M>, file: &[u8]) -> bool
-    ensures { result ≡ true → world.now.bench.session ≡ Nobody }
+    ensures { result ≡ true → world.now.bench.session ≡ NoLiveSession }
 {
     !world.is_live() && !file.is_empty()
 }
 
-/// Does the line that the source gave on a link that was made for it, and those after it, until one offers a file while no session is live.
-/// A link that holds a file is left once its session is over. With no line left the line of the image is written. The answer says whether
-/// the source has given a line that is left.
+/// Performs the line that `source` gave, on the link `world` that was made for it, and the lines after it, until one offers a file while
+/// no session is live. A link that holds a file is left once its session is over. If no line is left, the line of the image is written.
+/// Returns true if the source has given a line that is left.
 fn run_link<'f, T: Tracer<M>, R: Read + Drop, M: Faulty, W: Write>(
     alloc: Global,
     world: &mut World<'f, M>,
@@ -141,12 +142,12 @@ fn run_link<'f, T: Tracer<M>, R: Read + Drop, M: Faulty, W: Write>(
     writer: &mut W,
     tracer: &mut T,
 ) -> Result<bool, ScriptFault>
-    requires { IsFileOf (given_bytes context.old.given) source.old.line file.now }
+    requires { IsOfferedFileOf (given_bytes context.old.given) source.old.line file.now }
     ensures less { result ≡ Ok true → source.new.room < source.old.room }
-    ensures rest { result ≡ Ok true → world.new.bench.session ≡ Nobody }
-    ensures ok { IfOk result (λ left. (s : SourceState) → SourceLine s source.old → LinkOutcome (at_point context.old world.old.bench) s
-        (W.contents writer.old) (at_point context.new world.new.bench) source.new (W.contents writer.new) left) }
-    ensures fault { IfErr result (λ f. (s : SourceState) → SourceLine s source.old → MovesAndFalls (at_point context.old world.old.bench) s
+    ensures rest { result ≡ Ok true → world.new.bench.session ≡ NoLiveSession }
+    ensures ok { IfOk result (λ left. (s : SourceState) → SourceLine s source.old → LinkOutcome (point_of_context context.old world.old.bench) s
+        (W.contents writer.old) (point_of_context context.new world.new.bench) source.new (W.contents writer.new) left) }
+    ensures fault { IfErr result (λ f. (s : SourceState) → SourceLine s source.old → MovesThenFails (point_of_context context.old world.old.bench) s
         (W.contents writer.old) (W.contents writer.new) f) }
 {
     first_line::<T, M, W>(
@@ -181,7 +182,7 @@ fn run_link<'f, T: Tracer<M>, R: Read + Drop, M: Faulty, W: Write>(
     }
 }
 
-/// Does the line that the source gave and all after it, each on the link of the file that was offered last or on one that holds no file,
+/// Performs the line that `source` gave and all after it, each on the link of the file that was offered last or on one that holds no file,
 /// and writes the line of the image.
 fn run_links<T: Tracer<M>, R: Read + Drop, M: Faulty, W: Write>(
     alloc: Global,
@@ -192,10 +193,10 @@ fn run_links<T: Tracer<M>, R: Read + Drop, M: Faulty, W: Write>(
     tracer: &mut T,
 ) -> Result<(), ScriptFault>
     requires { IsUnarmed device }
-    ensures ok { OnOk result ((s : SourceState) → SourceLine s source.old → SourceExhausted (at_point context.old (at_rest device)) s
+    ensures ok { OnOk result ((s : SourceState) → SourceLine s source.old → SourceExhausted (point_of_context context.old (link_at_rest device)) s
         (W.contents writer.old) (W.contents writer.new)) }
     ensures fault { IfErr result (λ f. (s : SourceState) → SourceLine s source.old
-        → MovesAndFalls (at_point context.old (at_rest device)) s (W.contents writer.old) (W.contents writer.new) f) }
+        → MovesThenFails (point_of_context context.old (link_at_rest device)) s (W.contents writer.old) (W.contents writer.new) f) }
 {
     let mut device = device;
     'links: loop {
@@ -212,8 +213,7 @@ fn run_links<T: Tracer<M>, R: Read + Drop, M: Faulty, W: Write>(
     }
 }
 
-/// Does the lines from the one that the source gave on, if it did, and then writes the line of the
-/// image.
+/// Performs the lines from the current one of `source` on, if `given` says that it gave one, and then writes the line of the image.
 pub(crate) fn run_on<T: Tracer<M>, R: Read + Drop, M: Faulty, W: Write>(
     alloc: Global,
     device: Device<M>,
@@ -224,10 +224,11 @@ pub(crate) fn run_on<T: Tracer<M>, R: Read + Drop, M: Faulty, W: Write>(
     tracer: &mut T,
 ) -> Result<(), ScriptFault>
     requires { IsUnarmed device }
-    ensures ok { OnOk result ((s : SourceState) → Next s given source.old → SourceExhausted (at_point context.entry (at_rest device)) s
+    ensures ok { OnOk result ((s : SourceState) → NextLineOrEnd s given source.old
+        → SourceExhausted (point_of_context context.entry (link_at_rest device)) s
         (W.contents writer.old) (W.contents writer.new)) }
-    ensures fault { IfErr result (λ f. (s : SourceState) → Next s given source.old
-        → MovesAndFalls (at_point context.entry (at_rest device)) s
+    ensures fault { IfErr result (λ f. (s : SourceState) → NextLineOrEnd s given source.old
+        → MovesThenFails (point_of_context context.entry (link_at_rest device)) s
         (W.contents writer.old) (W.contents writer.new) f) }
 {
     let mut context = context;

@@ -22,7 +22,7 @@ use dfu_slots::SimMedium;
 use std::alloc::Global;
 use std::io::{Read, Write};
 
-/// Does the lines up to the first event line or `show`, and answers whether there is one.
+/// Performs the lines of `source` up to the first event line or `show`. Returns true if there is one.
 fn configure<R: Read + Drop>(
     alloc: Global,
     setup: &mut ScriptConfig<'_>,
@@ -53,7 +53,7 @@ fn configure<R: Read + Drop>(
     }
 }
 
-/// Runs what a reader gives, with FILE for these bytes.
+/// Runs the script that a reader gives; FILE means the bytes of `given`.
 pub(super) fn run_lines<T: Tracer<SimMedium>, R: Read + Drop, W: Write>(
     alloc: Global,
     given: Option<&[u8]>,
@@ -83,12 +83,12 @@ pub(super) fn run_lines<T: Tracer<SimMedium>, R: Read + Drop, W: Write>(
 /// set set up a device, event lines let events come to a link of that device and a host, and what
 /// is printed of them is written; last comes the line of the device's image.
 ///
-/// In `offer` and `verify` the word FILE means the bytes that are given, of which nothing is
-/// copied. If none are given, it is no word of the language.
+/// In `offer` and `verify` the word FILE means the given bytes, which are not copied. If none are given, FILE
+/// is no word of the language.
 ///
 /// The fault of the script is noted in `stopped` if it stops at BadLine or BadConfig.
 ///
-/// It keeps one line, one piece of 65,536 bytes that was read, and the file of the session that is
+/// The call keeps one line, one piece of 65,536 bytes that was read, and the file of the session that is
 /// live, however long the text is.
 ///
 /// # Errors
@@ -105,7 +105,7 @@ pub fn script_with<R: Read + Drop, W: Write>(
     writer: &mut W,
     stopped: &Stopped,
 ) -> Result<(), ScriptFault>
-    // With Ok what was written is a run of what was read; with a fault, which one comes when, and what is out then.
+    // With Ok the written text is a run of the read text; a fault says where the run stopped, and what is out then.
     ensures ended { IfSome (R.remaining reader)
         (λ text. ScriptEnding (given_bytes given.entry) text (W.contents writer.old) (W.contents writer.new) result) }
     // The headline, of all that is printed or as far as the script goes: each image is the factory image or a payload offered so far. If
@@ -114,7 +114,8 @@ pub fn script_with<R: Read + Drop, W: Write>(
     ensures printed { IfSome (R.remaining reader)
         (λ text. HasPrinted (given_bytes given.entry) text (W.contents writer.old) (W.contents writer.new) result) }
 {
-    // Called for its law, which `printed` needs: no image but the one that is shown is active.
+    // Calls the law for its clause, which `printed` needs: the image that a bench shows is the only active
+    // one.
     image_shown();
     run_lines::<NoTrace, R, W>(alloc, given, reader, writer, &mut NoTrace, stopped)
 }
@@ -123,10 +124,10 @@ pub fn script_with<R: Read + Drop, W: Write>(
 /// printed of it. The line has the number of the action, the phase of the host, what it asks for, the fate, what
 /// the device answers, the state of the device before and after, the writes of the medium, and the milliseconds
 /// since the start, once it is over. Such a line begins with `# `, and no line of `script_with` begins with `#`.
-/// It answers beside the result whether each line of the trace is out.
+/// The call also returns whether each line of the trace is out.
 ///
-/// It takes memory for one line of the trace at a time. If there is none for a line, or `trace` fails, the
-/// script goes on, and no further line is written.
+/// One line of the trace at a time takes memory. If there is none for a line, or `trace` fails, the script goes
+/// on, and no further line is written.
 ///
 /// # Errors
 ///
@@ -144,7 +145,8 @@ pub fn script_traced_with<R: Read + Drop, W: Write, N: Write>(
     ensures printed { IfSome (R.remaining reader)
         (λ text. HasPrinted (given_bytes given.entry) text (W.contents writer.old) (W.contents writer.new) result.0) }
 {
-    // Called for its law, which `printed` needs: no image but the one that is shown is active.
+    // Calls the law for its clause, which `printed` needs: the image that a bench shows is the only active
+    // one.
     image_shown();
     let mut trace_writer = TraceWriter::new(alloc, trace);
     let answer = run_lines::<TraceWriter<'_, N>, R, W>(
@@ -158,7 +160,7 @@ pub fn script_traced_with<R: Read + Drop, W: Write, N: Write>(
     (answer, !trace_writer.is_broken)
 }
 
-/// Runs a script as `script_with` does, with no bytes given: FILE is no word of the language.
+/// Runs a script as `script_with` does, with no bytes given, so FILE is no word of the language.
 ///
 /// # Errors
 ///
@@ -168,7 +170,7 @@ pub fn script<R: Read + Drop, W: Write>(
     reader: R,
     writer: &mut W,
 ) -> Result<(), ScriptFault>
-    // With Ok what was written is a run of what was read; with a fault, which one comes when, and what is out then.
+    // With Ok the written text is a run of the read text; a fault says where the run stopped, and what is out then.
     ensures ended { IfSome (R.remaining reader)
         (λ text. ScriptEnding None text (W.contents writer.old) (W.contents writer.new) result) }
     // The headline, of all that is printed or as far as the script goes: each image is the factory image or a payload offered so far. If

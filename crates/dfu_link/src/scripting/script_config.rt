@@ -2,7 +2,7 @@
 
 ghost use Rattle.std.specs.Prelude.{◌≡◌, OnOk, IfErr};
 ghost use Rattle.dfu_link.specs.LineContent.{config_line_of, given_bytes};
-ghost use Rattle.dfu_link.specs.ScriptRun.{set, beginning};
+ghost use Rattle.dfu_link.specs.ScriptRun.{settings_with, initial_settings};
 ghost use Rattle.dfu_link.specs.inside.SetupView.{settings_of, check_bytes};
 
 use crate::scripting::fault::ScriptFault;
@@ -13,7 +13,7 @@ use dfu_slots::Unit;
 use dfu_wire::{Functional, Ids};
 use std::alloc::Global;
 
-/// The numbers of the lines that set something last, each 0 if none does.
+/// The numbers of the last lines that set something, each 0 if no line does.
 #[derive(Clone, Copy)]
 pub(crate) struct SetLines {
     pub device: u32,
@@ -46,9 +46,9 @@ pub(crate) struct ScriptConfig<'g> {
     pub lines: SetLines,
 }
 
-/// Returns the settings that hold if no line sets anything else.
+/// Returns the settings of a script without configuration lines.
 pub(crate) fn beginning(given: Option<&[u8]>) -> ScriptConfig<'_>
-    ensures { settings_of result ≡ beginning (given_bytes given.entry) }
+    ensures { settings_of result ≡ initial_settings (given_bytes given.entry) }
 {
     ScriptConfig {
         ids: Ids {
@@ -82,14 +82,14 @@ pub(crate) fn beginning(given: Option<&[u8]>) -> ScriptConfig<'_>
     }
 }
 
-/// Does what the configuration line with this number says. It takes memory for an image, and for the bytes of a check.
+/// Sets in `setup` what the configuration line `setting` with number `number` says. An image and the bytes of a check take memory.
 pub(crate) fn set(
     alloc: Global,
     setup: &mut ScriptConfig<'_>,
     setting: ConfigLine<'_>,
     number: u32,
 ) -> Result<(), ScriptFault>
-    ensures ok { OnOk result (settings_of setup.new ≡ set (settings_of setup.old) (config_line_of setting.entry)) }
+    ensures ok { OnOk result (settings_of setup.new ≡ settings_with (settings_of setup.old) (config_line_of setting.entry)) }
     ensures fault { IfErr result (λ f. f ≡ ScriptFault.NoMemory) }
 {
     match setting {
@@ -129,7 +129,7 @@ pub(crate) fn set_limits(setup: &mut ScriptConfig<'_>, limits: Limits)
     setup.limits = limits;
 }
 
-/// The bytes with which an image begins that the program takes.
+/// Returns the first bytes of each image that the program takes.
 pub(crate) fn check_in<'s>(setup: &'s ScriptConfig<'_>) -> &'s [u8]
     ensures { result.now ≡ check_bytes setup.now.check }
 {

@@ -1,4 +1,4 @@
-//! Faults for which no device can be set up like this.
+//! Faults of settings with which no device can be set up.
 
 ghost use Rattle.std.specs.Prelude.{IfSome};
 ghost use Rattle.dfu_link.specs.inside.SetupFaults.{HasRoomFault};
@@ -8,15 +8,15 @@ use crate::scripting::script_config::ScriptConfig;
 use crate::scripting::starting::{cuts_sector, device_config, first_image};
 use dfu_device::ConfigFault;
 
-/// The most milliseconds of a poll time, which has 24 bits.
+/// Largest number of milliseconds of a poll time, which has 24 bits.
 const MAX_POLL: u32 = 16_777_215;
 
-/// Faults for which no device can be set up, in the order in which they are looked for.
+/// A fault for which no device can be set up. The faults are checked in this order.
 #[derive(Clone, Copy)]
 pub enum SetupFault {
     /// The transfer size isn't 1 to 4,096 bytes.
     Transfer,
-    /// The milliseconds of a block, or those to put an image in place, are over 16,777,215.
+    /// The milliseconds of a block, or of putting an image in place, are over 16,777,215.
     Poll,
     /// The milliseconds to put an image in place are 0, on a device that isn't tolerant of manifestation.
     NoTime,
@@ -30,7 +30,7 @@ pub enum SetupFault {
     Image,
 }
 
-/// The fault of what the device is set up with.
+/// Returns the fault of a device's settings.
 fn device_fault(setup: &ScriptConfig<'_>, fault: ConfigFault) -> SetupFault {
     match fault {
         ConfigFault::BadTransfer => SetupFault::Transfer,
@@ -45,7 +45,7 @@ fn device_fault(setup: &ScriptConfig<'_>, fault: ConfigFault) -> SetupFault {
     }
 }
 
-/// The fault of the room for images.
+/// Returns the fault of the room for images, if it has one.
 fn room_fault(setup: &ScriptConfig<'_>) -> Option<SetupFault>
     ensures { IfSome result (λ fault. HasRoomFault fault (settings_of setup.now)) }
 {
@@ -62,7 +62,7 @@ fn room_fault(setup: &ScriptConfig<'_>) -> Option<SetupFault>
     None
 }
 
-/// The first fault of what is set, if it has one.
+/// Returns the first fault of the settings, if they have one.
 pub(crate) fn setup_fault(setup: &ScriptConfig<'_>) -> Option<SetupFault> {
     match device_config(setup) {
         Ok(_) => room_fault(setup),
@@ -70,7 +70,7 @@ pub(crate) fn setup_fault(setup: &ScriptConfig<'_>) -> Option<SetupFault> {
     }
 }
 
-/// The number of the line that says it: of two lines the later one, and 0 if no line sets what is wrong.
+/// Returns the number of the line that sets the fault: of two lines the later one, and 0 if no line sets it.
 pub(crate) fn line_of_fault(setup: &ScriptConfig<'_>, fault: SetupFault) -> u32 {
     let lines = setup.lines;
     match fault {

@@ -3,7 +3,7 @@
 ghost use Rattle.std.specs.Prelude.{◌+◌, ◌≤◌, ◌++◌, ◌∷◌, [], length, slice_range};
 ghost use Rattle.hex.specs.Hex.{encode_lower};
 ghost use Rattle.dfu_slots.specs.StoreView.{image_of};
-ghost use Rattle.dfu_link.specs.inside.Expected.{expectation_of, Puts, PrintsNext};
+ghost use Rattle.dfu_link.specs.inside.Expected.{expectation_of, TextWritten, PrintsNext};
 ghost use Rattle.dfu_link.specs.Texts.{hex_text, image_line, state_text, show_line};
 
 use crate::scripting::expectation::{Expectation, write_next};
@@ -13,7 +13,7 @@ use dfu_device::Device;
 use dfu_slots::{Medium, Slots};
 use std::io::Write;
 
-/// Writes the bytes of the image from `at` on, so many as fit in a piece of `len` bytes.
+/// Writes the bytes of the image from `at` on, at most `len` of them.
 fn write_piece<M: Medium, W: Write>(
     writer: &mut W,
     slots: &Slots<M>,
@@ -22,7 +22,8 @@ fn write_piece<M: Medium, W: Write>(
 ) -> Result<(), ScriptFault>
     requires piece { len ≤ 256 }
     requires within { at + len ≤ length (image_of slots.now) }
-    ensures { Puts (encode_lower (slice_range (image_of slots.now) at (at + len))) (W.contents writer.old) (W.contents writer.new) result }
+    ensures { TextWritten (encode_lower (slice_range (image_of slots.now) at (at + len))) (W.contents writer.old)
+        (W.contents writer.new) result }
 {
     let len = len as usize;
     let mut bytes = [0; SHOWN_BYTES];
@@ -32,7 +33,7 @@ fn write_piece<M: Medium, W: Write>(
 
 /// Writes an image as hexadecimal text, piece by piece.
 fn write_pieces<M: Medium, W: Write>(writer: &mut W, slots: &Slots<M>) -> Result<(), ScriptFault>
-    ensures { Puts (encode_lower (image_of slots.now)) (W.contents writer.old) (W.contents writer.new) result }
+    ensures { TextWritten (encode_lower (image_of slots.now)) (W.contents writer.old) (W.contents writer.new) result }
 {
     let all = slots.active_len();
     let mut at = 0;
@@ -46,7 +47,7 @@ fn write_pieces<M: Medium, W: Write>(writer: &mut W, slots: &Slots<M>) -> Result
 
 /// Writes the image of a slot store, and ends the line.
 fn write_hex<M: Medium, W: Write>(writer: &mut W, slots: &Slots<M>) -> Result<(), ScriptFault>
-    ensures { Puts (hex_text (image_of slots.now) ++ 10 ∷ []) (W.contents writer.old) (W.contents writer.new) result }
+    ensures { TextWritten (hex_text (image_of slots.now) ++ 10 ∷ []) (W.contents writer.old) (W.contents writer.new) result }
 {
     if slots.active_len() == 0 {
         return write_two(writer, "-", "\n");
@@ -60,7 +61,7 @@ pub(crate) fn write_image<M: Medium, W: Write>(
     writer: &mut W,
     device: &Device<M>,
 ) -> Result<(), ScriptFault>
-    ensures { Puts (image_line device.now) (W.contents writer.old) (W.contents writer.new) result }
+    ensures { TextWritten (image_line device.now) (W.contents writer.old) (W.contents writer.new) result }
 {
     write_out(writer, b"image ")?;
     write_hex(writer, device.slots())
@@ -68,7 +69,7 @@ pub(crate) fn write_image<M: Medium, W: Write>(
 
 /// Writes the device's state and its status code.
 fn write_state<M: Medium, W: Write>(writer: &mut W, device: &Device<M>) -> Result<(), ScriptFault>
-    ensures { Puts (state_text device.now) (W.contents writer.old) (W.contents writer.new) result }
+    ensures { TextWritten (state_text device.now) (W.contents writer.old) (W.contents writer.new) result }
 {
     let state = device.state();
     let code = device.code();
@@ -81,13 +82,13 @@ pub(crate) fn write_show<M: Medium, W: Write>(
     writer: &mut W,
     device: &Device<M>,
 ) -> Result<(), ScriptFault>
-    ensures { Puts (show_line device.now) (W.contents writer.old) (W.contents writer.new) result }
+    ensures { TextWritten (show_line device.now) (W.contents writer.old) (W.contents writer.new) result }
 {
     write_state(writer, device)?;
     write_image(writer, device)
 }
 
-/// Writes the line of the device's image next. If a line is expected, this one is put into memory first.
+/// Writes the line of the device's image next. If a line is expected, the line is put into memory first.
 pub(crate) fn image_next<M: Medium, W: Write>(
     writer: &mut W,
     next: &mut Option<Expectation>,
@@ -106,7 +107,7 @@ pub(crate) fn image_next<M: Medium, W: Write>(
     write_next(writer, next, &line)
 }
 
-/// Writes the line of `show` next. If a line is expected, this one is put into memory first.
+/// Writes the line of `show` next. If a line is expected, the line is put into memory first.
 pub(crate) fn show_next<M: Medium, W: Write>(
     writer: &mut W,
     next: &mut Option<Expectation>,

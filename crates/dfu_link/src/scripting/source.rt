@@ -1,10 +1,10 @@
-//! The lines of a script, one after the other.
+//! The lines of a script, in their order.
 
 ghost use Rattle.std.specs.Prelude.{◌≡◌, ◌≤◌, ◌<◌, ◌+◌, ◌++◌, ℕ, List, Option, [], length, vec_capacity, IfOk, IfErr, Ok, true};
 ghost use Rattle.std.specs.Io.KnownBytes.{prepend_known};
 ghost use Rattle.std.specs.List.{position};
 ghost use Rattle.dfu_link.specs.Words.{is_newline};
-ghost use Rattle.dfu_link.specs.inside.Source.{Next, StopsSource, PieceRead, source_state};
+ghost use Rattle.dfu_link.specs.inside.Source.{NextLineOrEnd, StopsSource, PieceRead, source_state};
 
 use crate::scripting::fault::ScriptFault;
 use crate::scripting::reader::Pieces;
@@ -13,7 +13,7 @@ use std::alloc::Global;
 use std::io::Read;
 use std::marker::Model;
 
-/// The most bytes of a text.
+/// Largest number of bytes of a text.
 const MAX_TEXT: u32 = 16_777_216;
 
 /// Text that a reader gives, line by line. It holds the line that was given last, in a buffer that is reserved once, and of the text no
@@ -40,21 +40,21 @@ impl<R: Read + Drop> Model for Source<R> {
     ghost invariant = { λ s. (s.number + s.room ≤ 16777216) × (65537 ≤ vec_capacity s.line) };
 }
 
-/// Returns the place at which a line ends.
+/// Returns the place of the first newline.
 fn newline_at(text: &[u8]) -> Option<usize>
     ensures { result ≡ position is_newline text.now }
 {
     text.iter().position(|byte| *byte == b'\n')
 }
 
-/// Number of bytes that were taken, and whether the last of them is the 0Ah of the line.
+/// The number of bytes that were taken, and true if the last one is the 0Ah of the line.
 #[derive(Clone, Copy)]
 struct Taken {
     bytes: u32,
     ended: bool,
 }
 
-/// Puts a piece to the end of a line that has room for it.
+/// Appends a piece to a line that has room for it.
 fn put(line: &mut Vec<u8>, piece: &[u8])
     requires room { length line.old.items + length piece.now ≤ 65537 }
     requires capacity { 65537 ≤ vec_capacity line.old }
@@ -66,8 +66,8 @@ fn put(line: &mut Vec<u8>, piece: &[u8])
     };
 }
 
-/// Takes of the bytes at hand those of the line, up to its 0Ah: at most so many, and no more than
-/// one that the line may not have.
+/// Takes the bytes of the line among those at hand, up to its 0Ah: at most `most`, and at most one more than
+/// a line may have.
 fn take_piece<R: Read + Drop>(pieces: &mut Pieces<R>, most: u32, line: &mut Vec<u8>) -> Taken
     requires ready { 0 < length pieces.old.ready }
     requires most { 0 < most }
@@ -102,7 +102,7 @@ fn take_piece<R: Read + Drop>(pieces: &mut Pieces<R>, most: u32, line: &mut Vec<
     }
 }
 
-/// Reads a line after so many others, and answers whether there was one.
+/// Reads the line after `before` others, and returns whether there was one.
 fn read_line<R: Read + Drop>(
     pieces: &mut Pieces<R>,
     room: &mut u32,
@@ -112,7 +112,7 @@ fn read_line<R: Read + Drop>(
     requires empty { line.old.items ≡ [] }
     requires capacity { 65537 ≤ vec_capacity line.old }
     requires number { before + room.old ≤ 16777216 }
-    ensures ok { IfOk result (λ more. Next (source_state pieces.old.left room.old before line.old.items) more
+    ensures ok { IfOk result (λ more. NextLineOrEnd (source_state pieces.old.left room.old before line.old.items) more
         (source_state pieces.new.left room.new (before + 1) line.new.items)) }
     ensures fault { IfErr result (λ f. (given : Option (List ℕ))
         → StopsSource given (source_state pieces.old.left room.old before line.old.items) f) }
@@ -140,7 +140,7 @@ fn read_line<R: Read + Drop>(
 }
 
 impl<R: Read + Drop> Source<R> {
-    /// All that a reader gives, with nothing read yet.
+    /// Makes a source of all that a reader gives, with nothing read yet.
     pub(crate) fn new(alloc: Global, reader: R) -> Result<Source<R>, ScriptFault>
         ensures ok { IfOk result (λ s. (s.left ≡ prepend_known [] (R.remaining reader)) × (s.room ≡ 16777216) × (s.number ≡ 0)) }
         ensures fault { IfErr result (λ f. f ≡ ScriptFault.NoMemory) }
@@ -156,28 +156,28 @@ impl<R: Read + Drop> Source<R> {
         })
     }
 
-    /// The line that was given last, without its 0Ah.
+    /// Returns the line that was given last, without its 0Ah.
     pub(crate) fn line(&self) -> &[u8]
         ensures { result.now ≡ self.now.line }
     {
         &self.line
     }
 
-    /// The number of that line, counted from 1.
+    /// Returns the number of the line that was given last, counted from 1.
     pub(crate) fn number(&self) -> u32
         ensures { result ≡ self.now.number }
     {
         self.number
     }
 
-    /// Goes on to the next line, and answers whether there is one.
+    /// Moves to the next line. Returns true if there is one.
     ///
     /// # Errors
     ///
-    /// BadLine if the line has over 65,536 bytes, TooLarge if the byte past the limit of the
-    /// text comes before that and before its 0Ah, Read if the reader fails.
+    /// BadLine if the line has over 65,536 bytes, TooLarge if the byte past the limit of the text comes before that and before its 0Ah,
+    /// Read if the reader fails.
     pub(crate) fn next(&mut self) -> Result<bool, ScriptFault>
-        ensures ok { IfOk result (λ more. Next self.old more self.new) }
+        ensures ok { IfOk result (λ more. NextLineOrEnd self.old more self.new) }
         ensures fault { IfErr result (λ f. (given : Option (List ℕ)) → StopsSource given self.old f) }
         ensures room { self.new.room ≤ self.old.room }
     {

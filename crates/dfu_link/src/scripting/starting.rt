@@ -2,13 +2,13 @@
 
 ghost use Rattle.std.specs.Prelude.{◌≡◌, ◌≢◌, ◌<◌, ◌+◌, ◌*◌, ◌%◌, IfOk, IfErr, true, false};
 ghost use Rattle.dfu_slots.specs.Units.{gate_room, IsMultiple};
-ghost use Rattle.dfu_device.specs.Setting.{FirstFault, IsAllowed, of_this_version};
+ghost use Rattle.dfu_device.specs.Setting.{FirstFault, IsAllowedSetting, functional_of_this_version};
 ghost use Rattle.dfu_link.specs.LineContent.{hex_bytes};
 ghost use Rattle.dfu_link.specs.ScriptRun.{DeviceStarts};
-ghost use Rattle.dfu_link.specs.Falls.{StartFalls};
+ghost use Rattle.dfu_link.specs.Falls.{StartFails};
 ghost use Rattle.dfu_link.specs.inside.Moving.{IsUnarmed};
 ghost use Rattle.dfu_link.specs.inside.SetupView.{setting_of_device, settings_of, setup_grain, image_bytes, pace_of};
-ghost use Rattle.dfu_link.specs.inside.Forming.{Formed, FormFalls};
+ghost use Rattle.dfu_link.specs.inside.Forming.{FormattedStore, FormatFails};
 
 use crate::scripting::fault::{Reason, ScriptFault, Stopped};
 use crate::scripting::line::{HexText, Room, Sector};
@@ -19,7 +19,7 @@ use dfu_device::{Config, ConfigFault, Device, Pace};
 use dfu_slots::{FormatFault, SimMedium, Slots, Unit};
 use std::alloc::Global;
 
-/// The bytes of a hexadecimal text.
+/// Returns the bytes that a hexadecimal text spells.
 pub(crate) fn bytes_of(alloc: Global, text: HexText<'_>) -> Result<Vec<u8>, ScriptFault>
     ensures ok { IfOk result (λ v. v.items ≡ hex_bytes text.entry) }
     ensures fault { IfErr result (λ f. f ≡ ScriptFault.NoMemory) }
@@ -33,7 +33,7 @@ pub(crate) fn bytes_of(alloc: Global, text: HexText<'_>) -> Result<Vec<u8>, Scri
     }
 }
 
-/// The image at first.
+/// Returns the image that the device has at first.
 pub(crate) fn first_image<'s>(setup: &'s ScriptConfig<'_>) -> &'s [u8]
     ensures { result.now ≡ image_bytes setup.now.image }
 {
@@ -43,7 +43,7 @@ pub(crate) fn first_image<'s>(setup: &'s ScriptConfig<'_>) -> &'s [u8]
     }
 }
 
-/// Returns the bytes of a medium of two slots that is written in this unit and erased in these sectors, with so much room.
+/// Returns the length in bytes of a medium of two slots, by its unit, its sectors and its room for images.
 fn medium_len(unit: Unit, sector: Sector, room: Room) -> u32
     ensures value { result ≡ 2 * (2 * gate_room (setup_grain unit sector) + room.bytes) }
     ensures whole { IsMultiple unit room.bytes → IsMultiple unit result }
@@ -51,7 +51,7 @@ fn medium_len(unit: Unit, sector: Sector, room: Room) -> u32
     2 * (2 * unit.size().max(16).max(sector.bytes) + room.bytes)
 }
 
-/// Returns whether so much room has no whole sectors.
+/// Returns whether a room has no whole sectors.
 pub(crate) fn cuts_sector(sector: Sector, room: Room) -> bool
     ensures cuts { result ≡ true → (0 < sector.bytes) × (room.bytes % sector.bytes ≢ 0) }
     ensures whole { result ≡ false → 0 < sector.bytes → room.bytes % sector.bytes ≡ 0 }
@@ -59,7 +59,7 @@ pub(crate) fn cuts_sector(sector: Sector, room: Room) -> bool
     sector.bytes > 0 && room.bytes % sector.bytes != 0
 }
 
-/// A medium in memory, formatted with the image.
+/// Makes a medium in memory, formatted with the image.
 fn form(
     alloc: Global,
     unit: Unit,
@@ -67,8 +67,8 @@ fn form(
     room: Room,
     image: &[u8],
 ) -> Result<Slots<SimMedium>, ScriptFault>
-    ensures ok { IfOk result (λ slots. Formed (setup_grain unit sector) room.bytes image.now slots) }
-    ensures fault { IfErr result (λ f. FormFalls (setup_grain unit sector) room.bytes image.now f) }
+    ensures ok { IfOk result (λ slots. FormattedStore (setup_grain unit sector) room.bytes image.now slots) }
+    ensures fault { IfErr result (λ f. FormatFails (setup_grain unit sector) room.bytes image.now f) }
 {
     if room.bytes % unit.size() != 0 {
         return Err(ScriptFault::BadConfig);
@@ -102,10 +102,10 @@ fn pace_of(setup: &ScriptConfig<'_>) -> Pace
     }
 }
 
-/// The configuration of the device, or the first fault of what it is set up with.
+/// Returns the configuration of the device, or the first fault of its settings.
 pub(crate) fn device_config(setup: &ScriptConfig<'_>) -> Result<Config, ConfigFault>
-    ensures ok { IfOk result (λ c. c ≡ record (setting_of_device setup.now) { functional = of_this_version setup.now.functional }) }
-    ensures allowed { IfOk result (λ c. IsAllowed c) }
+    ensures ok { IfOk result (λ c. c ≡ record (setting_of_device setup.now) { functional = functional_of_this_version setup.now.functional }) }
+    ensures allowed { IfOk result (λ c. IsAllowedSetting c) }
     ensures err { IfErr result (λ e. FirstFault e (setting_of_device setup.now)) }
 {
     let config = Config::new(
@@ -122,7 +122,7 @@ pub(crate) fn device_config(setup: &ScriptConfig<'_>) -> Result<Config, ConfigFa
 fn start_device(alloc: Global, setup: &ScriptConfig<'_>) -> Result<Device<SimMedium>, ScriptFault>
     ensures ok { IfOk result (λ d. DeviceStarts (settings_of setup.now) d) }
     ensures unarmed { IfOk result (λ d. IsUnarmed d) }
-    ensures fault { IfErr result (λ f. StartFalls (settings_of setup.now) f) }
+    ensures fault { IfErr result (λ f. StartFails (settings_of setup.now) f) }
 {
     let Ok(config) = device_config(setup) else {
         return Err(ScriptFault::BadConfig);
@@ -137,7 +137,7 @@ fn start_device(alloc: Global, setup: &ScriptConfig<'_>) -> Result<Device<SimMed
     Ok(Device::start(config, slots))
 }
 
-/// Starts the device, in appIDLE on a formatted medium in memory; why none can be set up like this is noted.
+/// Starts the device, in appIDLE on a formatted medium in memory. If none can be set up, the reason is noted.
 pub(crate) fn start(
     alloc: Global,
     setup: &ScriptConfig<'_>,
@@ -145,7 +145,7 @@ pub(crate) fn start(
 ) -> Result<Device<SimMedium>, ScriptFault>
     ensures ok { IfOk result (λ d. DeviceStarts (settings_of setup.now) d) }
     ensures unarmed { IfOk result (λ d. IsUnarmed d) }
-    ensures fault { IfErr result (λ f. StartFalls (settings_of setup.now) f) }
+    ensures fault { IfErr result (λ f. StartFails (settings_of setup.now) f) }
 {
     if let Some(fault) = setup_fault(setup) {
         stopped.note_reason(Reason::Setup(fault, line_of_fault(setup, fault)));

@@ -3,9 +3,9 @@
 ghost use Rattle.std.specs.Prelude.{◌≡◌, ◌≤◌, ◌+◌, ◌*◌, Some, None, IfSome};
 ghost use Rattle.std.specs.List.{position};
 ghost use Rattle.std.specs.Str.{bytes_eq};
-ghost use Rattle.dfu_link.specs.Words.{Reads, is_space, is_no_space, words_of, first_word, text_behind, number_of};
+ghost use Rattle.dfu_link.specs.Words.{ReadingMatches, is_space, is_no_space, words_of, first_word, text_behind, number_of};
 ghost use Rattle.dfu_link.specs.LineContent.{content_of_line};
-ghost use Rattle.dfu_link.specs.Lines.{ReadMatches, is_comment, ends};
+ghost use Rattle.dfu_link.specs.Lines.{ReadMatches, is_comment, line_ends};
 ghost use Rattle.dfu_link.specs.Fields.{small_of, count_of};
 ghost use Rattle.dfu_link.specs.Keywords.{keyword_of, later_keyword_of, fate_keyword_of};
 
@@ -26,9 +26,9 @@ fn start_at(line: &[u8]) -> Option<usize>
     line.iter().position(|byte| *byte != b' ')
 }
 
-/// The first word, and the line after it. Nothing if there is no word.
+/// Returns the first word, and the line after it; None if the line has no word.
 pub(crate) fn word_at(line: &[u8]) -> Option<(&[u8], &[u8])>
-    ensures { Reads (λ x. (x.0.now, words_of x.1.now)) result (first_word (words_of line.now)) }
+    ensures { ReadingMatches (λ x. (x.0.now, words_of x.1.now)) result (first_word (words_of line.now)) }
 {
     let start = start_at(line)?;
     let (_, line) = line.split_at(start);
@@ -41,7 +41,7 @@ pub(crate) fn word_at(line: &[u8]) -> Option<(&[u8], &[u8])>
 /// Returns the text behind the first word and one space.
 #[tactic(auto, unfolding(crate::specs::Words::text_behind))]
 pub(crate) fn text_behind(line: &[u8]) -> Option<&[u8]>
-    ensures { Reads (λ x. x.now) result (text_behind line.now) }
+    ensures { ReadingMatches (λ x. x.now) result (text_behind line.now) }
 {
     let start = start_at(line)?;
     let (_, line) = line.split_at(start);
@@ -50,14 +50,14 @@ pub(crate) fn text_behind(line: &[u8]) -> Option<&[u8]>
     Some(text)
 }
 
-/// Returns whether a word is this text.
+/// Returns whether a word is the text.
 pub(crate) fn is_word(word: &[u8], text: &[u8]) -> bool
     ensures { result ≡ bytes_eq word.now text.now }
 {
     word == text
 }
 
-/// Returns whether a line with this first word is a comment.
+/// Returns whether a line with `word` as its first word is a comment.
 pub(crate) fn is_comment(word: &[u8]) -> bool
     ensures { result ≡ is_comment word.now }
 {
@@ -67,13 +67,14 @@ pub(crate) fn is_comment(word: &[u8]) -> bool
     }
 }
 
-/// Returns the meaning of the line, if it has no further word; it has to have `of`.
+/// Returns the meaning of a line that has no further word. Else its fault: a comment follows, or the line must
+/// have `of` words.
 pub(crate) fn ended<'l, 'g>(
     said: Line<'l, 'g>,
     of: usize,
     rest: &[u8],
 ) -> Result<Line<'l, 'g>, LineFault>
-    ensures { ReadMatches content_of_line result (ends (content_of_line said.entry) of (words_of rest.now)) }
+    ensures { ReadMatches content_of_line result (line_ends (content_of_line said.entry) of (words_of rest.now)) }
 {
     match word_at(rest) {
         None => Ok(said),
@@ -87,9 +88,9 @@ pub(crate) fn ended<'l, 'g>(
     }
 }
 
-/// A number of 1 to 10 decimal digits, at most 4,294,967,295.
+/// Returns the number of 1 to 10 decimal digits, at most 4,294,967,295.
 pub(crate) fn number(word: &[u8]) -> Option<u32>
-    ensures { Reads (λ n. n) result (number_of word.now) }
+    ensures { ReadingMatches (λ n. n) result (number_of word.now) }
 {
     if word.is_empty() || word.len() > 10 {
         return None;
@@ -107,20 +108,20 @@ pub(crate) fn number(word: &[u8]) -> Option<u32>
     }
 }
 
-/// A number of at most `most`.
+/// Returns a number of at most `most`.
 #[tactic(auto, unfolding(crate::specs::Fields::small_of), using(std::proofs::lemmas::Bool::Decides::nat_tests))]
 pub(crate) fn small(word: &[u8], most: u32) -> Option<u32>
-    ensures read { Reads (λ n. n) result (small_of most word.now) }
+    ensures read { ReadingMatches (λ n. n) result (small_of most word.now) }
     ensures most { IfSome result (λ n. n ≤ most) }
 {
     let n = number(word)?;
     if n <= most { Some(n) } else { None }
 }
 
-/// A number from 1 to `most`.
+/// Returns a number from 1 to `most`.
 #[tactic(auto, unfolding(crate::specs::Fields::count_of), using(std::proofs::lemmas::Bool::Decides::nat_tests))]
 pub(crate) fn count(word: &[u8], most: u32) -> Option<u32>
-    ensures read { Reads (λ n. n) result (count_of most word.now) }
+    ensures read { ReadingMatches (λ n. n) result (count_of most word.now) }
     ensures some { IfSome result (λ n. 1 ≤ n) }
     ensures most { IfSome result (λ n. n ≤ most) }
 {
@@ -128,7 +129,7 @@ pub(crate) fn count(word: &[u8], most: u32) -> Option<u32>
     if n > 0 { Some(n) } else { None }
 }
 
-/// The variant whose word this is, in the order of the table, or else the last value.
+/// Gives the variant of a word, in the order of the table, or else the last value.
 macro_rules! one_of {
     ($word:ident, $of:ident, $none:expr, { $text:literal => $variant:ident, $($texts:literal => $variants:ident,)* }) => {
         if is_word($word, $text) {
@@ -183,7 +184,7 @@ pub(crate) enum FateKeyword {
     Until,
 }
 
-/// The first word of a line that says nothing of the device and its medium.
+/// Reads `word`, the first word of a line that says nothing of the device and its medium; None for any other word.
 #[tactic(auto, unfolding(crate::specs::Keywords::later_keyword_of))]
 fn read_later(word: &[u8]) -> Option<Keyword>
     ensures { result ≡ later_keyword_of word.now }
@@ -205,7 +206,7 @@ fn read_later(word: &[u8]) -> Option<Keyword>
     })
 }
 
-/// The keyword that the first word of a line is, if it is one.
+/// Returns the keyword that the first word of a line is, if it is one.
 #[tactic(auto, unfolding(crate::specs::Keywords::keyword_of))]
 pub(crate) fn read_keyword(word: &[u8]) -> Option<Keyword>
     ensures { result ≡ keyword_of word.now }
@@ -221,7 +222,7 @@ pub(crate) fn read_keyword(word: &[u8]) -> Option<Keyword>
     })
 }
 
-/// The keyword that the word after `go` is, if it is one.
+/// Returns the keyword that the word after `go` is, if it is one.
 #[tactic(auto, unfolding(crate::specs::Keywords::fate_keyword_of))]
 pub(crate) fn read_fate(word: &[u8]) -> Option<FateKeyword>
     ensures { result ≡ fate_keyword_of word.now }

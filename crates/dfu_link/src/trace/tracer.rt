@@ -1,4 +1,4 @@
-//! A trace of a script: a line for each action of the host. Its writer has no way to change the run, or what is printed of it.
+//! A trace of a script has a line for each action of the host. Its writer cannot change the run, or what is printed of it.
 
 use crate::trace::words::Words;
 use dfu_device::Answer;
@@ -19,7 +19,7 @@ fn time_of(action: Action<'_>, fate: Fate<'_>) -> u32 {
     }
 }
 
-/// Numbers of a line of the trace beside the action: its own, and the milliseconds since the start.
+/// Numbers of a line of the trace: the number of its action, and the milliseconds since the start.
 #[derive(Clone, Copy)]
 pub(crate) struct Count {
     pub number: u64,
@@ -36,7 +36,7 @@ pub(crate) struct Snapshot<'f> {
     pub writes: u64,
 }
 
-/// The request of an action.
+/// Returns the request of `action`; NotDfu if it sends none.
 fn request_in(action: Action<'_>) -> Request {
     match action {
         Action::Send { setup, .. } => Setup::decode(&setup).request(),
@@ -59,7 +59,7 @@ fn push_bytes(line: &mut Words, request: Request, out: &[u8]) {
     }
 }
 
-/// Adds what came back.
+/// Adds the response to the action.
 fn push_back(line: &mut Words, action: Action<'_>, answered: Option<(Answer, &[u8])>) {
     match answered {
         Some((Answer::Ack, _)) => line.push("ack"),
@@ -69,7 +69,7 @@ fn push_back(line: &mut Words, action: Action<'_>, answered: Option<(Answer, &[u
     }
 }
 
-/// Adds what the device answered.
+/// Adds the answer of the device.
 fn push_answer(
     line: &mut Words,
     action: Action<'_>,
@@ -88,7 +88,7 @@ fn push_state_name(line: &mut Words, state: State) {
     line.push(state.name());
 }
 
-/// Adds the action: its number, the phase of the host, what it asks for, and the fate.
+/// Adds the action: its number, the phase of the host, its request, wait or reset, and the fate.
 fn push_asked(line: &mut Words, number: u64, before: &Snapshot<'_>, fate: Fate<'_>) {
     line.push_number("# ", number);
     line.push(" ");
@@ -99,7 +99,8 @@ fn push_asked(line: &mut Words, number: u64, before: &Snapshot<'_>, fate: Fate<'
     line.push_fate(fate);
 }
 
-/// Adds what came of it: the answer, the state of the device before and after, the writes of its medium, and the time.
+/// Adds the result of the action: the answer, the state of the device before and after, the writes of its medium, and
+/// the time.
 fn push_told(
     line: &mut Words,
     ms: u64,
@@ -118,7 +119,7 @@ fn push_told(
     line.push(" ms\n");
 }
 
-/// The line of an action, from its number to the time, if there was memory for it.
+/// Returns the line of an action, from its number to the time, if there was memory for it.
 fn step_line(
     alloc: Global,
     count: Count,
@@ -134,17 +135,17 @@ fn step_line(
 
 /// A tracer of a run.
 pub(crate) trait Tracer<M: Faulty> {
-    /// A link before an action of its host, if a session is live.
+    /// Returns the state of a link before an action of its host, if a session is live.
     fn snapshot<'f>(&self, world: &World<'f, M>) -> Option<Snapshot<'f>>;
 
-    /// Writes the action, which had this fate, and after which the link is this.
+    /// Writes an action with its fate, and with the link after it.
     fn write_action(&mut self, before: &Snapshot<'_>, fate: Fate<'_>, world: &World<'_, M>);
 
-    /// So many milliseconds passed between two actions.
+    /// Adds the milliseconds that passed between two actions.
     fn add_time(&mut self, ms: u32);
 }
 
-/// No trace is written.
+/// A tracer that writes no trace.
 #[derive(Drop)]
 pub(crate) struct NoTrace;
 
@@ -158,7 +159,7 @@ impl<M: Faulty> Tracer<M> for NoTrace {
     fn add_time(&mut self, _: u32) {}
 }
 
-/// A trace: it writes a line for each action. Once one could not be written no further line is.
+/// A trace writes a line for each action. Once a line could not be written, no further line is.
 #[derive(Drop)]
 pub(crate) struct TraceWriter<'n, N> {
     pub writer: &'n mut N,
@@ -168,7 +169,7 @@ pub(crate) struct TraceWriter<'n, N> {
 }
 
 impl<'n, N> TraceWriter<'n, N> {
-    /// A trace, with no line written yet.
+    /// Returns a trace to `writer`, before its first line.
     pub(crate) fn new(alloc: Global, writer: &'n mut N) -> TraceWriter<'n, N> {
         TraceWriter {
             writer,

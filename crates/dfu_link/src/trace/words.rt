@@ -6,7 +6,7 @@ use dfu_slots::{LastWrites, WriteEnd, WriteNote};
 use dfu_wire::{Request, Setup, State, Status};
 use std::alloc::{AllocError, Global};
 
-/// A request's name in the standard (USB DFU 1.1, section 3), or `other`.
+/// Returns the name of `request` in the standard (USB DFU 1.1, section 3), or `other`.
 fn asked_text(request: Request) -> &'static str {
     match request {
         Request::OtherClass | Request::NotDfu => "other",
@@ -14,7 +14,7 @@ fn asked_text(request: Request) -> &'static str {
     }
 }
 
-/// Returns the text before a write, after another one or not, that erases or not.
+/// Returns the text before a write that comes after another one or not, and erases or not.
 fn before_write(is_behind: bool, erases: bool) -> &'static str {
     match (is_behind, erases) {
         (false, false) => "",
@@ -33,7 +33,7 @@ fn end_text(end: WriteEnd) -> &'static str {
     }
 }
 
-/// The word of a phase.
+/// Returns the word of `phase`.
 fn phase_text(phase: Phase) -> &'static str {
     match phase {
         Phase::Find => "Find",
@@ -64,7 +64,7 @@ fn phase_text(phase: Phase) -> &'static str {
     }
 }
 
-/// The number of the block or part that a phase is at.
+/// Returns the number of a phase's block or part.
 fn part_of(phase: Phase) -> Option<u64> {
     match phase {
         Phase::Block(number) => Some(number as u64),
@@ -77,7 +77,7 @@ fn part_of(phase: Phase) -> Option<u64> {
     }
 }
 
-/// The word of a fate, as a script has it.
+/// Returns the word of `fate`, as a script has it.
 fn fate_text(fate: Fate<'_>) -> &'static str {
     match fate {
         Fate::Pass => "pass",
@@ -92,7 +92,7 @@ fn fate_text(fate: Fate<'_>) -> &'static str {
     }
 }
 
-/// The state that these bytes are.
+/// Returns the state that the bytes spell, if they spell one.
 fn state_in(bytes: &[u8]) -> Option<State> {
     match bytes {
         [byte] => State::from_byte(*byte).ok(),
@@ -100,7 +100,7 @@ fn state_in(bytes: &[u8]) -> Option<State> {
     }
 }
 
-/// The words of a line of a trace, put together in a text. Once there was no memory for one, no further one is added.
+/// The words of a line of a trace, in one text. Once a word found no memory, no further word is added.
 #[derive(Drop)]
 pub(crate) struct Words {
     text: String,
@@ -109,7 +109,7 @@ pub(crate) struct Words {
 }
 
 impl Words {
-    /// No words yet.
+    /// Makes a text without words.
     pub(crate) fn new(alloc: Global) -> Words {
         Words {
             text: String::new(alloc),
@@ -118,7 +118,7 @@ impl Words {
         }
     }
 
-    /// The text of the words, if there was memory for all of them.
+    /// Returns the text of the words, if there was memory for all of them.
     pub(crate) fn into_text(self) -> Option<String> {
         if self.is_whole { Some(self.text) } else { None }
     }
@@ -146,7 +146,7 @@ impl Words {
         self.push_digits(number.to_string(self.alloc));
     }
 
-    /// Adds a phase, with the number of the block or part that it is at.
+    /// Adds a phase, with the number of its block or part, if it has one.
     pub(crate) fn push_phase(&mut self, phase: Phase) {
         self.push(phase_text(phase));
         if let Some(number) = part_of(phase) {
@@ -161,7 +161,7 @@ impl Words {
         self.push_number(" ", u64::from(setup.length));
     }
 
-    /// Adds what a host asks for: a request, a wait with its milliseconds, or a reset.
+    /// Adds an action of the host: a request, a wait with its milliseconds, or a reset.
     pub(crate) fn push_action(&mut self, action: Action<'_>) {
         match action {
             Action::Send { setup, .. } => self.push_request(&Setup::decode(&setup)),
@@ -171,13 +171,13 @@ impl Words {
         }
     }
 
-    /// Adds how many bytes there are.
+    /// Adds a number of bytes.
     pub(crate) fn push_count(&mut self, bytes: &[u8]) {
         self.push_number("", bytes.len() as u64);
         self.push(" bytes");
     }
 
-    /// Adds the status that bytes are, or how many they are.
+    /// Adds the status of bytes, or their number if they are no status.
     pub(crate) fn push_status(&mut self, bytes: &[u8]) {
         let Ok(status) = Status::decode(bytes) else {
             self.push_count(bytes);
@@ -189,7 +189,7 @@ impl Words {
         self.push(status.state().name());
     }
 
-    /// Adds the state that bytes are, or how many they are.
+    /// Adds the state of bytes, or their number if they are no state.
     pub(crate) fn push_state(&mut self, bytes: &[u8]) {
         match state_in(bytes) {
             Some(state) => self.push(state.name()),
@@ -197,7 +197,7 @@ impl Words {
         }
     }
 
-    /// Adds bytes as a script has them.
+    /// Adds bytes as a script spells them.
     fn push_hex(&mut self, bytes: &[u8]) {
         if bytes.is_empty() {
             self.push("-");
@@ -213,7 +213,7 @@ impl Words {
         self.push_hex(tear);
     }
 
-    /// Adds a fate as a script has it.
+    /// Adds a fate as a script spells it.
     pub(crate) fn push_fate(&mut self, fate: Fate<'_>) {
         self.push(fate_text(fate));
         match fate {
@@ -225,14 +225,14 @@ impl Words {
         }
     }
 
-    /// Adds a write, after another one or not.
+    /// Adds a write; `is_behind` says that another write is before it.
     fn push_write(&mut self, is_behind: bool, note: WriteNote) {
         self.push_number(before_write(is_behind, note.erases), u64::from(note.len));
         self.push_number(" at ", u64::from(note.at));
         self.push(end_text(note.end));
     }
 
-    /// Adds the writes that a medium made since it had made so many: the last 16 of them.
+    /// Adds the writes that a medium made since its count was `since`: the last 16 of them.
     pub(crate) fn push_writes(&mut self, noted: &LastWrites, since: u64) {
         let made = noted.count.saturating_sub(since);
         if made == 0 {

@@ -8,8 +8,8 @@ use Rattle.dfu_conformance.specs.MayAnswer.{CanAnswer}
 use Rattle.dfu_conformance.specs.Verdict.{ArePlacesAfter}
 use Rattle.dfu_output.specs.judge.Texts.{departure_text, is_single}
 
--- Progress of the judging of a log: how many lines were ended, the line that is not, the events that came, those since the last departure,
--- after how many one state was left, and what is printed.
+-- Course of the judging of a log: the number of lines that were ended, the line that is not, the events that came, those since the last
+-- departure, the number of events after which one state was left, and what is printed.
 pub record LogCourse : Type 0 where
   pub number : ℕ
   pub line : List ℕ
@@ -19,37 +19,40 @@ pub record LogCourse : Type 0 where
   pub out : List ℕ
 
 -- No byte was judged.
-abbrev pub at_first : LogCourse
-at_first = record { number = 0; line = []; events = []; since = []; single = 0; out = [] }
+abbrev pub course_at_start : LogCourse
+course_at_start = record { number = 0; line = []; events = []; since = []; single = 0; out = [] }
 
 -- A line is ended.
 abbrev pub course_line_ended : LogCourse → LogCourse
 course_line_ended c = record c { number = c.number + 1; line = [] }
 
--- An event goes on if a device without habits may have answered all since the last departure; it counts if one state is left then.
-abbrev pub going_on : LogCourse → LogEvent → List Bool → LogCourse
-going_on c e at = record c { events = c.events ++ e ∷ []; since = c.since ++ e ∷ []; single = c.single + cond (is_single at) 1 0 }
+-- Course after an event that a device without habits may have answered, with all events since the last departure; the event counts if one
+-- state is left.
+abbrev pub course_after_event : LogCourse → LogEvent → List Bool → LogCourse
+course_after_event c e at = record c { events = c.events ++ e ∷ []; since = c.since ++ e ∷ []; single = c.single + cond (is_single at) 1 0 }
 
--- An event departs if none may have, and its lines are printed; from then on the device may be anywhere.
-abbrev pub departing : LogCourse → Departure → LogCourse
-departing c d = record c { events = c.events ++ d.event ∷ []; since = []; out = c.out ++ departure_text c.number d }
+-- Course after a departure: its lines are printed, and from then on the device may be anywhere.
+abbrev pub course_after_departure : LogCourse → Departure → LogCourse
+course_after_departure c d = record c { events = c.events ++ d.event ∷ []; since = []; out = c.out ++ departure_text c.number d }
 
--- An event at the line that was ended last leads to this.
+-- An event at the line that was ended last leads to the course `d`.
 pub data EventLeads (c : LogCourse) (e : LogEvent) : LogCourse → Type 0 where
-  goes_on : (at : List Bool) → CanAnswer 0 (c.since ++ e ∷ []) → ArePlacesAfter 0 (c.since ++ e ∷ []) at → EventLeads c e (going_on c e at)
+  goes_on : (at : List Bool) → CanAnswer 0 (c.since ++ e ∷ []) → ArePlacesAfter 0 (c.since ++ e ∷ []) at
+      → EventLeads c e (course_after_event c e at)
   departs : (d : Departure) → d.event ≡ e → (CanAnswer 0 (c.since ++ e ∷ []) → ⊥) → ArePlacesAfter 0 c.since d.before
-      → EventLeads c e (departing c d)
+      → EventLeads c e (course_after_departure c d)
 
--- The end of a line leads to this: it says nothing, or something of another interface or class, or that an event came.
+-- The end of a line leads to the next course: the line says nothing, or something of another interface or class, or that an event came.
 pub data LineEndLeads (interface : ℕ) (c : LogCourse) : LogCourse → Type 0 where
-  says_nothing : LineMeaning interface c.line (Some Blank) → LineEndLeads interface c (course_line_ended c)
-  says_elsewhere : LineMeaning interface c.line (Some Elsewhere) → LineEndLeads interface c (course_line_ended c)
-  says_event : {d : LogCourse} (e : LogEvent) → LineMeaning interface c.line (Some (Came e)) → EventLeads (course_line_ended c) e d →
+  line_says_nothing : LineMeaning interface c.line (Some Blank) → LineEndLeads interface c (course_line_ended c)
+  line_is_for_another : LineMeaning interface c.line (Some Elsewhere) → LineEndLeads interface c (course_line_ended c)
+  line_says_event : {d : LogCourse} (e : LogEvent) → LineMeaning interface c.line (Some (Came e)) → EventLeads (course_line_ended c) e d →
       LineEndLeads interface c d
 
 -- A text is judged so far: each byte goes to its line, which has at most 262,158, and each 0Ah ends one.
-pub data Judges (interface : ℕ) : List ℕ → LogCourse → Type 0 where
-  begins : Judges interface [] at_first
-  goes : {text : List ℕ} {c : LogCourse} (byte : ℕ) → Judges interface text c → byte ≢ 10 → length c.line < 262158
-      → Judges interface (text ++ byte ∷ []) (record c { line = c.line ++ byte ∷ [] })
-  ends : {text : List ℕ} {c d : LogCourse} → Judges interface text c → LineEndLeads interface c d → Judges interface (text ++ 10 ∷ []) d
+pub data CourseOfText (interface : ℕ) : List ℕ → LogCourse → Type 0 where
+  begins : CourseOfText interface [] course_at_start
+  goes : {text : List ℕ} {c : LogCourse} (byte : ℕ) → CourseOfText interface text c → byte ≢ 10 → length c.line < 262158
+      → CourseOfText interface (text ++ byte ∷ []) (record c { line = c.line ++ byte ∷ [] })
+  ends : {text : List ℕ} {c d : LogCourse} → CourseOfText interface text c → LineEndLeads interface c d
+      → CourseOfText interface (text ++ 10 ∷ []) d

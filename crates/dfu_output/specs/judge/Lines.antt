@@ -8,7 +8,7 @@ use Rattle.dfu_conformance.specs.Line.{LineMeaning, why_unread}
 use Rattle.dfu_output.specs.declared.judge.fault.LogFault.{LogFault}
 use Rattle.dfu_output.specs.declared.judge.fault.LogFault.TheVariants.{BadLine, TooLarge}
 
--- The line that is not ended, how many bytes may still come, and how many lines were ended.
+-- State of the lines: the line that is not ended, the number of bytes that may still come, and the number of lines that were ended.
 pub record LinesState : Type 0 where
   pub line : List ℕ
   pub room : ℕ
@@ -42,22 +42,22 @@ pub record ByteEndsLine (interface : ℕ) (s t : LinesState) (byte : ℕ) (says 
   pub line : t.line ≡ []
   pub number : t.number ≡ s.number + 1
 
--- A byte was taken: it went to its line, or ended it.
+-- The byte was accepted: it went to its line, or ended it.
 abbrev pub ByteAccepted : (interface : ℕ) (s t : LinesState) (byte : ℕ) → Option Line → Type 0
 ByteAccepted interface s t byte None = ByteInLine s t byte
 ByteAccepted interface s t byte (Some says) = ByteEndsLine interface s t byte says
 
 -- The next byte is a 0Ah.
-abbrev pub is_line_end : List ℕ → Bool
-is_line_end [] = false
-is_line_end (byte ∷ bytes) = byte == 10
+abbrev pub next_is_line_feed : List ℕ → Bool
+next_is_line_feed [] = false
+next_is_line_feed (byte ∷ bytes) = byte == 10
 
--- A line is not a line of a log: it is ended and can't be read, or it has 262,158 bytes and goes on.
+-- The line is no line of a log: it is ended and can't be read, or it has 262,158 bytes and goes on.
 abbrev pub IsBadLine : (interface : ℕ) (line rest : List ℕ) → LineFault → Type 0
-IsBadLine interface line rest Long = (length line ≡ 262158) × (is_line_end rest ≡ false)
-IsBadLine interface line rest why = LineMeaning interface line None × (why ≡ why_unread line) × (is_line_end rest ≡ true)
+IsBadLine interface line rest Long = (length line ≡ 262158) × (next_is_line_feed rest ≡ false)
+IsBadLine interface line rest why = LineMeaning interface line None × (why ≡ why_unread line) × (next_is_line_feed rest ≡ true)
 
--- The first of these bytes isn't taken for this reason: there is no room for it in the log, or its line can't be one of a log.
+-- The first of the bytes isn't taken, for this fault: the log has no room for it, or its line can't be one of a log.
 abbrev pub CannotRead : (interface : ℕ) → LinesState → (rest : List ℕ) → LogFault → Type 0
 CannotRead interface s rest (BadLine n why) = (n ≡ s.number + 1) × IsBadLine interface s.line rest why
 CannotRead interface s rest TooLarge = s.room ≡ 0

@@ -1,4 +1,4 @@
--- The names that a line of `dfu judge` has.
+-- Names in the lines of `dfu judge`.
 use Rattle.std.specs.Prelude.{ℕ, List, [], codes}
 use Rattle.dfu_conformance.specs.declared.row.StandardState.{StandardState}
 use Rattle.dfu_conformance.specs.declared.row.StandardState.TheVariants as place
@@ -13,7 +13,7 @@ use Rattle.dfu_conformance.specs.declared.row.Reading.TheVariants as reading
 use Rattle.dfu_conformance.specs.declared.row.When.{When}
 use Rattle.dfu_conformance.specs.declared.row.When.TheVariants.{Always, CanDownload, CanUpload, Tolerant, NotTolerant, WillDetach, By}
 
--- The name of the state of the standard that a place is.
+-- Name of the state of the standard at a place.
 abbrev pub place_name : StandardState → List ℕ
 place_name place.AppIdle = codes "appIDLE"
 place_name place.AppDetach = codes "appDETACH"
@@ -53,7 +53,7 @@ answer_name answer.Full = codes "full"
 answer_name answer.Short = codes "short"
 answer_name answer.Silent = codes "nothing"
 
--- The name of where the standard has a row.
+-- Name of the part of the standard that has a row.
 abbrev pub source_name : Source → List ℕ
 source_name source.A = codes "appendix-A"
 source_name source.Open = codes "open"
@@ -68,7 +68,7 @@ reading_name reading.DetachAtOnce = codes "detach-at-once"
 reading_name reading.DetachLeaves = codes "detach-leaves"
 reading_name reading.ErrorWithoutCode = codes "error-without-code"
 
--- For which devices a row is, with a space before it, and nothing if it is for every one.
+-- The devices for which a row is, with a space before their name; nothing if the row is for every device.
 abbrev pub when_name : When → List ℕ
 when_name Always = []
 when_name CanDownload = codes " download"

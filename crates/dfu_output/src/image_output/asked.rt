@@ -10,15 +10,15 @@ use dfu_formats::images::{Format, hex_digit};
 pub enum FormatChoice {
     /// Without a word: as it is, with a reason if it looks like a file of a format.
     Unsaid,
-    /// As it is.
+    /// FILE is taken as it is.
     Raw,
     /// As a file of the format that it looks like, or as it is if nothing is known against a raw image; else not at all.
     Auto,
-    /// As a file of this format.
+    /// FILE is taken as a file of this format.
     As(Format),
 }
 
-/// The byte in two hexadecimal digits of either case.
+/// Returns the byte that `word` says in two hexadecimal digits of either case; None if `word` is anything else.
 #[tactic(auto, using(std::proofs::lemmas::Bool::Decides::nat_tests))]
 pub fn fill_in(word: &str) -> Option<u8>
     ensures { result ≡ fill_in word.now }

@@ -11,7 +11,7 @@ use crate::image_output::lines::format_name;
 use dfu_formats::images::{Ending, ImageFault, ImageFileFault, LayFault, NotImage};
 use std::alloc::{AllocError, Global};
 
-/// A fault of a file by its name, with its line, block, segment or address.
+/// Returns the field of `fault`: the name of the fault, with its line, block, segment or address.
 #[tactic(auto, unfolding(crate::specs::ImageLines::unread_text))]
 fn unread_field(fault: ImageFault) -> Field<'static>
     ensures { result.0.now ++ value_text result.1 ≡ unread_text fault }
@@ -66,11 +66,12 @@ fn fault_text(alloc: Global, fault: ImageFileFault) -> Result<String, AllocError
     }
 }
 
-/// The line for a file that makes no image: `refused NAME`, and after some names a number or addresses in eight hexadecimal digits.
+/// Returns the line for a file that makes no image because of `fault`: `refused NAME`, and after some names a number or addresses in eight
+/// hexadecimal digits.
 ///
 /// # Errors
 ///
-/// There is no memory for it.
+/// AllocError if there is no memory for the line.
 #[tactic(auto, unfolding(crate::specs::ImageLines::refused_line))]
 pub fn refused_line(alloc: Global, fault: ImageFileFault) -> Result<String, AllocError>
     ensures { IfOk result (λ t. string_bytes t ≡ refused_line fault) }
@@ -79,7 +80,7 @@ pub fn refused_line(alloc: Global, fault: ImageFileFault) -> Result<String, Allo
     line_of(alloc, "refused ", &[("", Text(&text))])
 }
 
-/// The word for what a name says.
+/// Returns the word for `ending`: the name of its format, or `dfu`.
 pub(crate) fn ending_name(ending: Ending) -> &'static str
     ensures { result.now ≡ ending_name ending }
 {
@@ -89,7 +90,7 @@ pub(crate) fn ending_name(ending: Ending) -> &'static str
     }
 }
 
-/// The word for a file of which no image is taken.
+/// Returns the field with the word for `other`, a file of which no image is taken.
 fn not_image_field(other: NotImage) -> Field<'static>
     ensures { result.0.now ++ value_text result.1 ≡ not_image_word other }
 {
@@ -102,12 +103,12 @@ fn not_image_field(other: NotImage) -> Field<'static>
     }
 }
 
-/// The line for a file of which no image is taken: `refused NotAnImage WORD`, with the word dfuse, zip, gzip, text, named-dfu, or named-
-/// and the name of a format.
+/// Returns the line for a file of which no image is taken: `refused NotAnImage WORD`, with the word dfuse, zip, gzip, text, named-dfu, or
+/// named- and the name of a format.
 ///
 /// # Errors
 ///
-/// There is no memory for it.
+/// AllocError if there is no memory for the line.
 #[tactic(auto, unfolding(crate::specs::ImageLines::not_image_line))]
 pub fn not_image_line(alloc: Global, other: NotImage) -> Result<String, AllocError>
     ensures { IfOk result (λ t. string_bytes t ≡ not_image_line other) }

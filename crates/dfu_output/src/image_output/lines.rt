@@ -9,7 +9,7 @@ use crate::fields::line_of;
 use dfu_formats::images::Format;
 use std::alloc::{AllocError, Global};
 
-/// The name of a format, as `--format` has it.
+/// Returns the name of `format`, as `--format` has it.
 pub fn format_name(format: Format) -> &'static str
     ensures { result.now ≡ format_name format }
 {
@@ -21,18 +21,18 @@ pub fn format_name(format: Format) -> &'static str
     }
 }
 
-/// The line for an image: `format FORMAT address AAAAAAAA`, with the address of its first byte.
+/// Returns the line for an image: `format FORMAT address 0xAAAAAAAA`, with `address`, that of its first byte.
 ///
 /// # Errors
 ///
-/// There is no memory for it.
+/// AllocError if there is no memory for the line.
 #[tactic(auto, unfolding(crate::specs::ImageLines::image_format_line))]
 pub fn image_line(alloc: Global, format: Format, address: u32) -> Result<String, AllocError>
     ensures { IfOk result (λ t. string_bytes t ≡ image_format_line format address) }
 {
     let fields = [
         ("", Text(format_name(format))),
-        (" address ", Hex8(address as u64)),
+        (" address 0x", Hex8(address as u64)),
     ];
     line_of(alloc, "format ", &fields)
 }

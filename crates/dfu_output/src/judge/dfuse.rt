@@ -6,11 +6,11 @@ ghost use Rattle.dfu_conformance.specs.declared.standard.TheConstants.{STANDARD}
 ghost use Rattle.dfu_conformance.specs.declared.habits.TheConstants.{HABITS};
 ghost use Rattle.dfu_conformance.specs.declared.dfuse.rows.TheConstants.{DFUSE};
 ghost use Rattle.dfu_output.specs.judge.Dfuse.{dfuse_allowed_text, dfuse_departure_text, may_stall_text, event_request_name, stalled_text};
-ghost use Rattle.dfu_output.specs.judge.Texts.{each};
+ghost use Rattle.dfu_output.specs.judge.Texts.{texts_of_each};
 
+use crate::fields::{field, push};
 use crate::judge::names::asked_name;
 use crate::judge::texts::{departs_line, push_if_allowed};
-use crate::numbers::{field, push};
 use dfu_conformance::dfuse::{DFUSE, is_of_dfuse, is_told};
 use dfu_conformance::{Departure, HABITS, LogEvent, Row, STANDARD};
 use std::alloc::{AllocError, Global};
@@ -25,9 +25,9 @@ fn push_if_dfuse(line: &mut String, departure: &Departure, row: &Row) -> Result<
     push_if_allowed(line, departure, row)
 }
 
-/// Adds a line for each of these rows that is for a DfuSe device and says what was allowed.
+/// Adds to `line` a line for each of `rows` that is for a DfuSe device and says what was allowed.
 fn push_rows(line: &mut String, departure: &Departure, rows: &[Row]) -> Result<(), AllocError>
-    ensures { OnOk result (string_bytes line.new ≡ string_bytes line.old ++ each (dfuse_allowed_text departure.now) rows.now) }
+    ensures { OnOk result (string_bytes line.new ≡ string_bytes line.old ++ texts_of_each (dfuse_allowed_text departure.now) rows.now) }
 {
     for row in rows {
         push_if_dfuse(line, departure, row)?;
@@ -35,7 +35,7 @@ fn push_rows(line: &mut String, departure: &Departure, rows: &[Row]) -> Result<(
     Ok(())
 }
 
-/// The name of what was asked; of a request that is not as section 3 has it, `other`.
+/// Returns the name of what `event` asked for; `other` if its request is not as section 3 has it.
 fn request_name(event: &LogEvent) -> &'static str
     ensures { result.now ≡ event_request_name event.now }
 {
@@ -67,8 +67,8 @@ fn push_stalled(line: &mut String, event: &LogEvent) -> Result<(), AllocError>
 
 /// Adds all that a DfuSe device was allowed.
 fn push_dfuse(line: &mut String, departure: &Departure) -> Result<(), AllocError>
-    ensures { OnOk result (string_bytes line.new ≡ string_bytes line.old ++ each (dfuse_allowed_text departure.now) STANDARD
-        ++ each (dfuse_allowed_text departure.now) HABITS ++ each (dfuse_allowed_text departure.now) DFUSE
+    ensures { OnOk result (string_bytes line.new ≡ string_bytes line.old ++ texts_of_each (dfuse_allowed_text departure.now) STANDARD
+        ++ texts_of_each (dfuse_allowed_text departure.now) HABITS ++ texts_of_each (dfuse_allowed_text departure.now) DFUSE
         ++ stalled_text departure.now.event) }
 {
     push_rows(line, departure, &STANDARD)?;
@@ -78,7 +78,11 @@ fn push_dfuse(line: &mut String, departure: &Departure) -> Result<(), AllocError
     Ok(())
 }
 
-/// The lines of a departure from DfuSe at a line of a log.
+/// Returns the lines of `departure` from DfuSe at line `number` of a log.
+///
+/// # Errors
+///
+/// AllocError if there is no memory for the lines.
 #[tactic(auto, unfolding(crate::specs::judge::Dfuse::dfuse_departure_text))]
 pub fn dfuse_departure_text(
     alloc: Global,

@@ -12,12 +12,12 @@ use dfu_suffix::SuffixFault;
 use std::alloc::{AllocError, Global};
 use std::io::Write;
 
-/// Fault for which a log was judged no further.
+/// The fault for which a log was judged no further.
 #[derive(Clone, Copy)]
 pub enum LogFault {
     /// A line is not a line of a log.
     BadLine {
-        /// Its number, counted from 1.
+        /// Number of the line, counted from 1.
         number: u64,
         /// Fault of the line.
         why: LineFault,

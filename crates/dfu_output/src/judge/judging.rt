@@ -2,9 +2,9 @@
 
 ghost use Rattle.std.specs.Prelude.{◌≡◌, ◌+◌, ◌<◌, ◌≤◌, ◌++◌, ◌∷◌, [], IfErr, IfOk, IfSome, List, None, OnOk, length, take, ℕ};
 ghost use Rattle.dfu_conformance.specs.Verdict.{IsVerdict, ArePlacesAfter};
-ghost use Rattle.dfu_output.specs.judge.Course.{LogCourse, Judges, at_first};
+ghost use Rattle.dfu_output.specs.judge.Course.{LogCourse, CourseOfText, course_at_start};
 ghost use Rattle.dfu_output.specs.judge.Judging.{CannotJudge, readings_of};
-ghost use Rattle.dfu_output.specs.judge.inside.JudgeState.{LogEventResult, IsAt, JudgedText};
+ghost use Rattle.dfu_output.specs.judge.inside.JudgeState.{LogEventResult, IsStateAfter, JudgedText};
 
 use crate::judge::fault::LogFault;
 use crate::judge::lines::LogLines;
@@ -42,9 +42,9 @@ impl Model for Judging {
 }
 
 impl Judging {
-    /// A log before its first byte; `None` if an allocation was refused.
+    /// Returns the judging of a log before its first byte; None if an allocation was refused.
     pub(crate) fn new(alloc: Global) -> Option<Judging>
-        ensures { IfSome result (λ s. IsAt s [] at_first) }
+        ensures { IfSome result (λ s. IsStateAfter s [] course_at_start) }
     {
         let lines = LogLines::new(alloc)?;
         Some(Judging {
@@ -62,10 +62,10 @@ impl Judging {
         self.lines.number()
     }
 
-    /// An event comes.
+    /// Takes the next event of the log. Returns the departure if the device departs from the standard at `event`.
     fn come(&mut self, event: &LogEvent) -> Option<Departure>
         requires slack { self.old.events + self.old.lines.room < 1099511627776 }
-        ensures came { (text : List ℕ) (c : LogCourse) → IsAt self.old text c → LogEventResult text c event.now result self.new }
+        ensures came { (text : List ℕ) (c : LogCourse) → IsStateAfter self.old text c → LogEventResult text c event.now result self.new }
         ensures lines { self.new.lines ≡ self.old.lines }
     {
         self.events += 1;
@@ -80,25 +80,26 @@ impl Judging {
         }
     }
 
-    /// The first of these bytes come, up to a 0Ah: as many as there is room for. It returns how many came.
+    /// Takes the first bytes of `bytes`, up to a 0Ah and without it, as far as there is room for them. Returns the number of bytes taken.
     pub(crate) fn take_inner(&mut self, bytes: &[u8]) -> usize
         ensures within { result ≤ length bytes.now }
-        ensures goes { (interface : ℕ) (text : List ℕ) (c : LogCourse) → IsAt self.old text c → Judges interface text c
+        ensures goes { (interface : ℕ) (text : List ℕ) (c : LogCourse) → IsStateAfter self.old text c → CourseOfText interface text c
             → JudgedText interface (text ++ take result bytes.now) c None self.new }
         ensures room { self.new.lines.room + result ≡ self.old.lines.room }
     {
         self.lines.take_inner(bytes)
     }
 
-    /// A byte comes. If it ends a line at which the device departs, it returns the departure.
+    /// Takes the next byte of the log, at `interface`. Returns the departure if `byte` ends a line at which the device departs from the
+    /// standard.
     ///
     /// # Errors
     ///
     /// TooLarge if 1,099,511,627,776 bytes came before it; BadLine if it makes a line too long, or ends one that can't be read.
     pub(crate) fn take(&mut self, interface: u8, byte: u8) -> Result<Option<Departure>, LogFault>
-        ensures ok { (text : List ℕ) (c : LogCourse) → IsAt self.old text c → Judges interface text c
+        ensures ok { (text : List ℕ) (c : LogCourse) → IsStateAfter self.old text c → CourseOfText interface text c
             → IfOk result (λ o. JudgedText interface (text ++ byte ∷ []) c o self.new) }
-        ensures err { (text : List ℕ) (c : LogCourse) → IsAt self.old text c
+        ensures err { (text : List ℕ) (c : LogCourse) → IsStateAfter self.old text c
             → IfErr result (λ f. (tail : List ℕ) → CannotJudge interface text c (byte ∷ tail) f) }
         ensures room { OnOk result (self.new.lines.room + 1 ≡ self.old.lines.room) }
     {
@@ -113,9 +114,9 @@ impl Judging {
         }
     }
 
-    /// The verdict on all events that came, the places where the device may be by it, and the counts.
+    /// Returns the verdict on all events that were taken, and for each place whether the device may be there by the verdict.
     pub(crate) fn verdict(&self) -> (Verdict, [bool; 12])
-        ensures { (text : List ℕ) (c : LogCourse) → IsAt self.now text c
+        ensures { (text : List ℕ) (c : LogCourse) → IsStateAfter self.now text c
             → IsVerdict result.0 c.events × ArePlacesAfter (readings_of result.0) c.events result.1 }
     {
         let verdict = self.judge.verdict();

@@ -9,10 +9,10 @@ use dfu_conformance::{Line, LineFault, read_line, why_unread};
 use std::alloc::Global;
 use std::marker::Model;
 
-/// The most bytes of a line, without its 0Ah: no line that is read has more, but a comment.
+/// Largest number of bytes of a line, without its 0Ah: no line that is read has more, but a comment.
 const MAX_LINE: usize = 262_158;
 
-/// The most bytes of a log, with the end of its last line.
+/// Largest number of bytes of a log, with the end of its last line.
 const MAX_LOG: u64 = 1_099_511_627_776;
 
 /// A log that is read. It holds a line, in a buffer that is reserved once.
@@ -66,7 +66,7 @@ fn put_all(line: &mut Vec<u8>, bytes: &[u8])
     };
 }
 
-/// Returns how many of these bytes precede the first 0Ah; at most so many.
+/// Returns the number of `bytes` before the first 0Ah, at most `most`.
 fn inner_length(bytes: &[u8], most: usize) -> usize
     ensures within { result ≤ length bytes.now }
     ensures most { result ≤ most }
@@ -82,7 +82,7 @@ fn inner_length(bytes: &[u8], most: usize) -> usize
 }
 
 impl LogLines {
-    /// A log before its first byte; `None` if an allocation was refused.
+    /// Returns the lines of a log before its first byte; None if an allocation was refused.
     pub fn new(alloc: Global) -> Option<LogLines>
         ensures { IfSome result (λ s. s ≡ record { line = []; room = 1099511627776; number = 0 }) }
     {
@@ -103,7 +103,11 @@ impl LogLines {
         self.number
     }
 
-    /// A byte comes that ends no line.
+    /// Takes the next byte of the line, which is not 0Ah.
+    ///
+    /// # Errors
+    ///
+    /// BadLine if `byte` makes the line too long.
     fn keep(&mut self, byte: u8) -> Result<(), LogFault>
         requires some { 0 < self.old.room }
         requires inner { byte ≢ 10 }
@@ -123,7 +127,7 @@ impl LogLines {
         Ok(())
     }
 
-    /// The first of these bytes come, up to a 0Ah: as many as there is room for. It returns how many came.
+    /// Takes the first bytes of `bytes`, up to a 0Ah and without it, as far as there is room for them. Returns the number of bytes taken.
     pub(crate) fn take_inner(&mut self, bytes: &[u8]) -> usize
         ensures within { result ≤ length bytes.now }
         ensures goes { BytesInLine self.old self.new (take result bytes.now) }
@@ -136,7 +140,11 @@ impl LogLines {
         count
     }
 
-    /// A line is ended.
+    /// Ends the line. Returns what the line says, for a device at `interface`.
+    ///
+    /// # Errors
+    ///
+    /// BadLine if the line can't be read.
     fn end_line(&mut self, interface: u8) -> Result<Line, LogFault>
         requires some { 0 < self.old.room }
         ensures ok { IfOk result (λ says. ByteEndsLine interface self.old self.new 10 says) }
@@ -156,7 +164,7 @@ impl LogLines {
         Ok(line)
     }
 
-    /// A byte comes. If it ends a line, it returns what the line says.
+    /// Takes the next byte of the log. Returns what the line says if `byte` ends a line, for a device at `interface`.
     ///
     /// # Errors
     ///

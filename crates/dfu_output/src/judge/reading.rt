@@ -4,7 +4,7 @@ ghost use Rattle.std.specs.Prelude.{◌≡◌, ◌+◌, ◌<◌, ◌≤◌, ◌+
 ghost use Rattle.std.specs.Io.KnownBytes.{Appends};
 ghost use Rattle.dfu_output.specs.judge.Judging.{CannotReport, LogStops, WritesJudgment, WritesOfLog, WritesVerdict, exit_of};
 ghost use Rattle.dfu_output.specs.judge.Texts.{departure_text};
-ghost use Rattle.dfu_output.specs.judge.inside.JudgeState.{Going};
+ghost use Rattle.dfu_output.specs.judge.inside.JudgeState.{JudgedSoFar};
 
 use crate::exit::{Exit, fault_text, write_out};
 use crate::judge::fault::{LogFault, stop_text};
@@ -34,7 +34,7 @@ fn tell<W: Write>(
     }
 }
 
-/// A byte of the log comes, and a departure is written.
+/// Takes the next byte of the log, at `interface`, and writes a departure at the line that `byte` ends to `writer`.
 fn step<W: Write>(
     alloc: Global,
     interface: u8,
@@ -42,9 +42,9 @@ fn step<W: Write>(
     byte: u8,
     writer: &mut W,
 ) -> Result<(), LogFault>
-    ensures ok { (old : Option (List ℕ)) (text : List ℕ) → Going interface old (W.contents writer.old) text judging.old
-        → OnOk result (Going interface old (W.contents writer.new) (text ++ byte ∷ []) judging.new) }
-    ensures err { (old : Option (List ℕ)) (text : List ℕ) → Going interface old (W.contents writer.old) text judging.old
+    ensures ok { (old : Option (List ℕ)) (text : List ℕ) → JudgedSoFar interface old (W.contents writer.old) text judging.old
+        → OnOk result (JudgedSoFar interface old (W.contents writer.new) (text ++ byte ∷ []) judging.new) }
+    ensures err { (old : Option (List ℕ)) (text : List ℕ) → JudgedSoFar interface old (W.contents writer.old) text judging.old
         → IfErr result (λ f. (tail : List ℕ) → LogStops interface old (W.contents writer.new) (text ++ byte ∷ tail) f) }
     ensures room { OnOk result (judging.new.lines.room + 1 ≡ judging.old.lines.room) }
 {
@@ -58,7 +58,8 @@ fn step<W: Write>(
     }
 }
 
-/// The first bytes of a rest of the log come: those before a 0Ah, and it. It returns how many came.
+/// Takes the first bytes of `rest`, the next bytes of the log: those before a 0Ah, and the 0Ah. Writes a departure to `writer`. Returns
+/// the number of bytes taken, at least 1.
 fn advance<W: Write>(
     alloc: Global,
     interface: u8,
@@ -68,9 +69,9 @@ fn advance<W: Write>(
 ) -> Result<usize, LogFault>
     requires { 0 < length rest.now }
     ensures within { IfOk result (λ n. (0 < n) × (n ≤ length rest.now)) }
-    ensures ok { (old : Option (List ℕ)) (text : List ℕ) → Going interface old (W.contents writer.old) text judging.old
-        → IfOk result (λ n. Going interface old (W.contents writer.new) (text ++ take n rest.now) judging.new) }
-    ensures err { (old : Option (List ℕ)) (text : List ℕ) → Going interface old (W.contents writer.old) text judging.old
+    ensures ok { (old : Option (List ℕ)) (text : List ℕ) → JudgedSoFar interface old (W.contents writer.old) text judging.old
+        → IfOk result (λ n. JudgedSoFar interface old (W.contents writer.new) (text ++ take n rest.now) judging.new) }
+    ensures err { (old : Option (List ℕ)) (text : List ℕ) → JudgedSoFar interface old (W.contents writer.old) text judging.old
         → IfErr result (λ f. (tail : List ℕ) → LogStops interface old (W.contents writer.new) ((text ++ rest.now) ++ tail) f) }
     ensures room { IfOk result (λ n. judging.new.lines.room + n ≡ judging.old.lines.room) }
 {
@@ -84,7 +85,7 @@ fn advance<W: Write>(
     }
 }
 
-/// A piece of the log comes.
+/// Takes all bytes of `piece`, the next bytes of the log, and writes the departures to `writer`.
 fn feed<W: Write>(
     alloc: Global,
     interface: u8,
@@ -92,9 +93,9 @@ fn feed<W: Write>(
     piece: &[u8],
     writer: &mut W,
 ) -> Result<(), LogFault>
-    ensures ok { (old : Option (List ℕ)) (text : List ℕ) → Going interface old (W.contents writer.old) text judging.old
-        → OnOk result (Going interface old (W.contents writer.new) (text ++ piece.now) judging.new) }
-    ensures err { (old : Option (List ℕ)) (text : List ℕ) → Going interface old (W.contents writer.old) text judging.old
+    ensures ok { (old : Option (List ℕ)) (text : List ℕ) → JudgedSoFar interface old (W.contents writer.old) text judging.old
+        → OnOk result (JudgedSoFar interface old (W.contents writer.new) (text ++ piece.now) judging.new) }
+    ensures err { (old : Option (List ℕ)) (text : List ℕ) → JudgedSoFar interface old (W.contents writer.old) text judging.old
         → IfErr result (λ f. (tail : List ℕ) → LogStops interface old (W.contents writer.new) ((text ++ piece.now) ++ tail) f) }
     ensures room { OnOk result (judging.new.lines.room + length piece.now ≡ judging.old.lines.room) }
 {
@@ -108,7 +109,7 @@ fn feed<W: Write>(
     Ok(())
 }
 
-/// All of a log comes, and the end of its last line.
+/// Takes all bytes that `reader` gives, and the end of the last line, and writes the departures to `writer`.
 fn judge_all<R: Read + Drop, W: Write>(
     alloc: Global,
     interface: u8,
@@ -116,9 +117,9 @@ fn judge_all<R: Read + Drop, W: Write>(
     judging: &mut Judging,
     writer: &mut W,
 ) -> Result<(), LogFault>
-    ensures ok { (old : Option (List ℕ)) → Going interface old (W.contents writer.old) [] judging.old → IfSome (R.remaining reader)
-        (λ text. OnOk result (Going interface old (W.contents writer.new) (text ++ 10 ∷ []) judging.new)) }
-    ensures err { (old : Option (List ℕ)) → Going interface old (W.contents writer.old) [] judging.old → IfSome (R.remaining reader)
+    ensures ok { (old : Option (List ℕ)) → JudgedSoFar interface old (W.contents writer.old) [] judging.old → IfSome (R.remaining reader)
+        (λ text. OnOk result (JudgedSoFar interface old (W.contents writer.new) (text ++ 10 ∷ []) judging.new)) }
+    ensures err { (old : Option (List ℕ)) → JudgedSoFar interface old (W.contents writer.old) [] judging.old → IfSome (R.remaining reader)
         (λ text. IfErr result (λ f. LogStops interface old (W.contents writer.new) (text ++ 10 ∷ []) f)) }
 {
     let mut piece = [0u8; READ_BYTES];
@@ -149,7 +150,8 @@ fn exit_of(verdict: Verdict) -> Exit
 
 /// Writes the verdict on all events that came.
 fn verdict_out<W: Write>(alloc: Global, judging: &Judging, writer: &mut W) -> Exit
-    ensures { (interface : ℕ) (old : Option (List ℕ)) (text : List ℕ) (g : Going interface old (W.contents writer.old) text judging.now)
+    ensures { (interface : ℕ) (old : Option (List ℕ)) (text : List ℕ)
+        (g : JudgedSoFar interface old (W.contents writer.old) text judging.now)
         → WritesVerdict g.course old (W.contents writer.new) result }
 {
     let (verdict, at) = judging.verdict();
@@ -160,7 +162,7 @@ fn verdict_out<W: Write>(alloc: Global, judging: &Judging, writer: &mut W) -> Ex
     }
 }
 
-/// Does what `judge_text` does, and returns the end and the fault at which judging stopped.
+/// Does what `judge_text` does, and returns the end, and the fault at which judging stopped, if there is one.
 pub fn judge_with_fault<R: Read + Drop, W: Write>(
     alloc: Global,
     interface: u8,

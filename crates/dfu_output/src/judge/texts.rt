@@ -3,19 +3,18 @@
 ghost use Rattle.std.specs.Prelude.{◌≡◌, ◌<◌, ◌≤◌, ◌++◌, ◌∷◌, IfOk, OnOk, [], codes, cond};
 ghost use Rattle.std.specs.String.{string_bytes};
 ghost use Rattle.dfu_conformance.specs.Candidates.{reading_bit};
-ghost use Rattle.dfu_output.specs.Fields.{with_fields};
-ghost use Rattle.dfu_output.specs.judge.Texts.{allowed_text, departs_text, departure_text, each, is_single, may_be_in, reading_text, readings_text, row_line, spaced_state, states_text, unchanged_text, verdict_text};
+ghost use Rattle.dfu_output.specs.Fields.{text_with_fields};
+ghost use Rattle.dfu_output.specs.judge.Texts.{allowed_text, departs_text, departure_text, texts_of_each, is_single, may_be_in, reading_text, readings_text, row_line, spaced_state, states_text, unchanged_text, verdict_text};
 
 use crate::fields::Value::{Number, Text};
-use crate::fields::{Field, line_of, push_fields, text_of};
+use crate::fields::{Field, field, line_of, push, push_fields, text_of};
 use crate::judge::names::{
     READINGS, STATES, answer_name, asked_name, place_name, reading_name, source_name, when_name,
 };
-use crate::numbers::{field, push};
 use dfu_conformance::{Departure, LogEvent, Reading, Row, STANDARD, StandardState, Verdict};
 use std::alloc::{AllocError, Global};
 
-/// Returns whether a device may be in this state, if these are the places at which it may be.
+/// Returns true if a device may be in the state of `place`, if `at` has the places at which it may be.
 pub(crate) fn may_be_in(at: &[bool; 12], place: StandardState) -> bool
     ensures { result ≡ may_be_in at.now place }
 {
@@ -25,7 +24,7 @@ pub(crate) fn may_be_in(at: &[bool; 12], place: StandardState) -> bool
     }
 }
 
-/// 1, or 0.
+/// Returns 1 if `yes`, and else 0.
 fn one_if(yes: bool) -> usize
     ensures value { result ≡ cond yes 1 0 }
     ensures fits { result ≤ 1 }
@@ -75,7 +74,7 @@ fn push_reading(line: &mut String, readings: u8, reading: Reading) -> Result<(),
     field(line, " ", reading_name(reading))
 }
 
-/// The bit of a habit in the number of a set.
+/// Returns the index of the bit of `reading` in the number of a set of habits, 0 to 5.
 fn reading_bit(reading: Reading) -> u8
     ensures value { result ≡ reading_bit reading }
     ensures fits { result < 6 }
@@ -129,7 +128,7 @@ pub(crate) fn push_if_allowed(
 
 /// Adds a line for each row that says what was allowed.
 fn push_allowed(line: &mut String, departure: &Departure) -> Result<(), AllocError>
-    ensures { OnOk result (string_bytes line.new ≡ string_bytes line.old ++ each (allowed_text departure.now) STANDARD) }
+    ensures { OnOk result (string_bytes line.new ≡ string_bytes line.old ++ texts_of_each (allowed_text departure.now) STANDARD) }
 {
     for row in &STANDARD {
         push_if_allowed(line, departure, row)?;
@@ -156,7 +155,7 @@ fn end_states(line: &mut String, label: &str, at: &[bool; 12]) -> Result<(), All
     push(line, "\n")
 }
 
-/// The first line of a departure at a line of a log.
+/// Returns the first line of `departure` at line `number` of a log.
 #[tactic(auto, using(std::proofs::lemmas::List::append_assoc), unfolding(crate::specs::judge::Texts::departs_text))]
 pub(crate) fn departs_line(
     alloc: Global,
@@ -171,7 +170,11 @@ pub(crate) fn departs_line(
     Ok(line)
 }
 
-/// The lines of a departure at a line of a log.
+/// Returns the lines of `departure` at line `number` of a log.
+///
+/// # Errors
+///
+/// AllocError if there is no memory for the lines.
 #[tactic(auto, unfolding(crate::specs::judge::Texts::departure_text))]
 pub(crate) fn departure_text(
     alloc: Global,
@@ -195,14 +198,15 @@ fn end_kept(
     at: &[bool; 12],
 ) -> Result<(), AllocError>
     ensures { OnOk result (string_bytes line.new
-        ≡ with_fields (string_bytes line.old ++ readings_text readings) counts.now ++ ((codes " states" ++ states_text at.now) ++ 10 ∷ [])) }
+        ≡ text_with_fields (string_bytes line.old ++ readings_text readings) counts.now ++ ((codes " states" ++ states_text at.now) ++ 10 ∷ [])) }
 {
     push_readings(line, readings)?;
     push_fields(alloc, line, counts)?;
     end_states(line, " states", at)
 }
 
-/// The line of a device that is kept, with these habits and counts.
+/// Returns the line of a device that keeps to the standard with the habits of `readings`: `first`, the habits, `counts`, and the places of
+/// `at`.
 fn kept_line(
     alloc: Global,
     first: &str,
@@ -211,14 +215,18 @@ fn kept_line(
     at: &[bool; 12],
 ) -> Result<String, AllocError>
     ensures { IfOk result (λ t. string_bytes t
-        ≡ with_fields (first.now ++ readings_text readings) counts.now ++ ((codes " states" ++ states_text at.now) ++ 10 ∷ [])) }
+        ≡ text_with_fields (first.now ++ readings_text readings) counts.now ++ ((codes " states" ++ states_text at.now) ++ 10 ∷ [])) }
 {
     let mut line = String::from_str(alloc, first)?;
     end_kept(alloc, &mut line, readings, counts, at)?;
     Ok(line)
 }
 
-/// The line of a verdict.
+/// Returns the line of `verdict`, with the places `at` where the device may be, and the counts `events` and `single`.
+///
+/// # Errors
+///
+/// AllocError if there is no memory for the line.
 #[tactic(auto, using(std::proofs::lemmas::List::append_assoc), unfolding(crate::specs::judge::Texts::verdict_text))]
 pub fn verdict_text(
     alloc: Global,

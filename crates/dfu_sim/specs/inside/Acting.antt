@@ -1,4 +1,4 @@
--- Effects of the link's small functions, each as its part of a play.
+-- Effects of the small functions of the link, each a part of a play.
 use Rattle.std.specs.Prelude.{◌≡◌, ℕ, IsTrue, List, Option, Some, None, Result, Ok, Err}
 use Rattle.dfu_suffix.specs.Grammar.{Content}
 use Rattle.dfu_device.specs.Setting.{Setting}
@@ -7,7 +7,7 @@ use Rattle.dfu_host.specs.declared.report.Report.{Report}
 use Rattle.dfu_host.specs.declared.report.Report.TheVariants.{Uploaded}
 use Rattle.dfu_host.specs.declared.seen.Seen.{Seen}
 use Rattle.dfu_host.specs.declared.seen.Seen.TheVariants as seen
-use Rattle.dfu_host.specs.Host.{HostState, after, started, wants_memory}
+use Rattle.dfu_host.specs.Host.{HostState, after, host_for_goal, wants_memory}
 use Rattle.dfu_host.specs.Phases.{Phase, Over, OverUploaded, Heard, NoRoom}
 use Rattle.dfu_host.specs.Table.{deed}
 use Rattle.dfu_sim.specs.declared.offering.Purpose.{Purpose}
@@ -18,53 +18,53 @@ use Rattle.dfu_sim.specs.declared.delivery.MediumFault.TheVariants.{NoWrite, Cut
 use Rattle.dfu_sim.specs.Delivery.{Delivery}
 use Rattle.dfu_sim.specs.declared.fault.LinkFault.{LinkFault}
 use Rattle.dfu_sim.specs.declared.fault.LinkFault.TheVariants.{NoHost}
-use Rattle.dfu_sim.specs.Happening.{Harm, harmed}
-use Rattle.dfu_sim.specs.LinkView.{Session, Nobody, Hosted}
+use Rattle.dfu_sim.specs.Happening.{WriteHarm, harmed}
+use Rattle.dfu_sim.specs.LinkView.{Session, NoLiveSession, HostSession}
 use Rattle.dfu_sim.specs.Opening.{goal_of_purpose}
-use Rattle.dfu_sim.specs.Play.{silent, Took, settled}
+use Rattle.dfu_sim.specs.Play.{silent, HostOutcome, settled_session}
 use Rattle.dfu_sim.specs.Bytes.{HeardOfResponse}
 use Rattle.dfu_sim.specs.Refusing.{IsOffered}
 
--- The delivery that the code goes by.
-abbrev pub delivery_in : GivenDelivery → Delivery
-delivery_in g = record { handling = g.handling; refusing = g.refusing; back = g.back; harming = g.harming }
+-- Delivery of the table for a delivery of the code.
+abbrev pub delivery_of_given : GivenDelivery → Delivery
+delivery_of_given g = record { handling = g.handling; refusing = g.refusing; back = g.back; harming = g.harming }
 
--- Harm of a write in it.
-abbrev pub harm_at : GivenDelivery → Harm
+-- Harm to a write in a delivery of the code.
+abbrev pub harm_at : GivenDelivery → WriteHarm
 harm_at g = harmed g.writes g.tear.now
 
--- Result that a host sees at the end of a wait or a reset: after a cut, that the device was restarted.
-abbrev pub seen_over : MediumFault → Seen → Seen
-seen_over NoWrite s = s
-seen_over CutsPower s = seen.Restarted
-seen_over FailsWrite s = s
-seen_over LiesInWrite s = s
+-- Result that a host sees after a wait or a reset: after a cut of the power, the restart.
+abbrev pub seen_after_action : MediumFault → Seen → Seen
+seen_after_action NoWrite s = s
+seen_after_action CutsPower s = seen.Restarted
+seen_after_action FailsWrite s = s
+seen_after_action LiesInWrite s = s
 
--- A host took what it heard of what came back. It finds no memory only if its phase wants some.
-pub record HostHeardResult (h : HostState) (b : Response) (out : List ℕ) (h' : HostState) : Type 0 where
+-- A host took the response that came back. It is told of missing memory only if its phase needs memory.
+pub record HostTakesResponse (h : HostState) (b : Response) (out : List ℕ) (h' : HostState) : Type 0 where
   pub heard : Heard
   pub hears : HeardOfResponse (deed h.task h.phase) b out heard
   pub room : heard ≡ NoRoom → IsTrue (wants_memory h.phase)
   pub same : h' ≡ after h heard
 
--- The report of a host that is done.
-abbrev pub report_of : Phase → Option Report
-report_of (Over report) = Some report
-report_of (OverUploaded kept) = Some Uploaded
-report_of phase = None
+-- The report of a host that is done, or none.
+abbrev pub report_of_phase : Phase → Option Report
+report_of_phase (Over report) = Some report
+report_of_phase (OverUploaded kept) = Some Uploaded
+report_of_phase phase = None
 
--- A session goes on, or is over with its report.
-abbrev pub ended : Session → Took
-ended Nobody = record { session = Nobody; answer = silent }
-ended (Hosted h) = settled h h.phase
+-- A session goes on, or ends with its report.
+abbrev pub session_outcome : Session → HostOutcome
+session_outcome NoLiveSession = record { session = NoLiveSession; answer = silent }
+session_outcome (HostSession h) = settled_session h h.phase
 
--- Answer of an abort: it is refused if no session is live.
+-- Answer of an abort: NoHost if no session is live.
 abbrev pub abort_answer : Session → Result (Option Report) LinkFault
-abort_answer Nobody = Err NoHost
-abort_answer (Hosted h) = Ok None
+abort_answer NoLiveSession = Err NoHost
+abort_answer (HostSession h) = Ok None
 
--- A session begins with a file that is offered for this.
+-- A session begins with the offer of a file for a purpose.
 pub record SessionOpened (s : Setting) (purpose : Purpose) (file : List ℕ) (limits : Limits) (h : HostState) : Type 0 where
   pub content : Content
   pub offered : IsOffered s purpose file content.payload
-  pub host : h ≡ started s.functional (goal_of_purpose purpose content.payload) limits
+  pub host : h ≡ host_for_goal s.functional (goal_of_purpose purpose content.payload) limits

@@ -1,10 +1,10 @@
--- Facts of a store's places that it keeps.
+-- Places of the two slots that a store remembers.
 use Rattle.std.specs.Prelude.{◌≡◌, ℕ}
 use Rattle.dfu_slots.specs.Image.{gate_of, active_at, spare_at}
 use Rattle.dfu_slots.specs.StoreView.{SlotsState}
 use Rattle.dfu_slots.specs.Store.{IsStore}
 
--- It is a store, and these are the places of its active slot and of its spare.
+-- A store whose active slot and spare begin at these places.
 pub record IsStoreAt (s : SlotsState) (active spare : ℕ) : Type 0 where
   pub store : IsStore s
   pub active_there : active ≡ active_at (gate_of s.medium) s.medium.bytes

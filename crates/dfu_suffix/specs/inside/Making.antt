@@ -4,30 +4,30 @@ use Rattle.std.specs.Int.{w32, to_le_bytes}
 use Rattle.std.specs.declared.alloc.Global.{Global}
 use Rattle.dfu_suffix.specs.Register.{register}
 use Rattle.dfu_suffix.specs.Grammar.{fields_before_crc}
-use Rattle.dfu_suffix.specs.Adding.{HasSuffix, NeedsSuffix, IsAdded}
+use Rattle.dfu_suffix.specs.Adding.{HasSuffix, NeedsSuffix, IsFileWithSuffix}
 use Rattle.dfu_wire.specs.declared.ids.Ids.{Ids}
 use Rattle.dfu_suffix.specs.declared.gathering.GatherFault.{GatherFault}
 use Rattle.dfu_suffix.specs.declared.gathering.GatherFault.TheVariants as gather
 use Rattle.dfu_suffix.specs.declared.fault.SuffixFault.{SuffixFault}
 use Rattle.dfu_suffix.specs.declared.fault.SuffixFault.TheVariants.{AlreadySuffixed, TooLarge, NoMemory, Read}
 
--- A suffix that is added has these fields before dwCRC: bcdDFU is 0100h, and there are no extra bytes.
+-- Fields of an added suffix before dwCRC: bcdDFU is 0100h, and there are no extra bytes.
 unfoldable pub added_fields : Ids → List ℕ
 added_fields ids = fields_before_crc ids 0x0100 []
 
--- The suffix that this payload gets is its fields, and then the register over the payload and them.
+-- The suffix of a payload: the fields, and then the register over the payload and the fields.
 abbrev pub added_suffix : List ℕ → Ids → List ℕ
 added_suffix payload ids = added_fields ids ++ to_le_bytes w32 (register (payload ++ added_fields ids))
 
--- At Ok the file was made in memory; TooLarge and AlreadySuffixed say why no file is made; Read and NoMemory
--- say nothing of the bytes.
-abbrev pub Makes : List ℕ → Ids → Result (Vec ℕ Global) SuffixFault → Type 0
-Makes all ids (Ok v) = NeedsSuffix all × IsAdded all ids v.items
-Makes all ids (Err TooLarge) = 16777200 < length all
-Makes all ids (Err AlreadySuffixed) = (length all ≤ 16777200) × HasSuffix all
-Makes all ids (Err Read) = ⊤
-Makes all ids (Err NoMemory) = ⊤
-Makes all ids (Err fault) = ⊥
+-- At `Ok` the file was made in memory; `TooLarge` and `AlreadySuffixed` say why no file is made; `Read` and `NoMemory` say nothing of the
+-- bytes.
+abbrev pub MakeResult : List ℕ → Ids → Result (Vec ℕ Global) SuffixFault → Type 0
+MakeResult all ids (Ok v) = NeedsSuffix all × IsFileWithSuffix all ids v.items
+MakeResult all ids (Err TooLarge) = 16777200 < length all
+MakeResult all ids (Err AlreadySuffixed) = (length all ≤ 16777200) × HasSuffix all
+MakeResult all ids (Err Read) = ⊤
+MakeResult all ids (Err NoMemory) = ⊤
+MakeResult all ids (Err fault) = ⊥
 
 -- A fault of gathering is a fault of adding, under the same name.
 abbrev pub gathering_fault : GatherFault → SuffixFault

@@ -5,7 +5,7 @@ use Rattle.dfu_suffix.specs.Grammar.{Content, tail_of, has_fault, fault_order}
 use Rattle.dfu_wire.specs.declared.ids.Ids.{Ids}
 use Rattle.dfu_suffix.specs.declared.fault.SuffixFault.{SuffixFault}
 
--- The last 16 bytes say these identifiers.
+-- Identifiers in the last 16 bytes.
 abbrev pub tail_ids : List ℕ → Ids
 tail_ids tail = record {
   device = little_number 2 (drop 0 tail);
@@ -13,7 +13,7 @@ tail_ids tail = record {
   vendor = little_number 2 (drop 4 tail);
 }
 
--- The last 16 bytes say this content of bytes that have no fault.
+-- Content that the last 16 bytes give of bytes without a fault.
 abbrev pub content_of : List ℕ → Content
 content_of bytes = record {
   payload = take (length bytes - slice_index (tail_of bytes) 11) bytes;
@@ -22,11 +22,11 @@ content_of bytes = record {
   suffix = slice_index (tail_of bytes) 11;
 }
 
--- The answer is the fault if there is one, and else the content.
+-- The fault if there is one, and else the content.
 abbrev pub content_or : Option SuffixFault → Content → Result Content SuffixFault
 content_or (Some fault) content = Err fault
 content_or None content = Ok content
 
--- Reading bytes answers their first fault, or what they say.
-unfoldable pub reading : List ℕ → Result Content SuffixFault
-reading bytes = content_or (find (has_fault bytes) fault_order) (content_of bytes)
+-- The content of the bytes, or their first fault.
+unfoldable pub read_content : List ℕ → Result Content SuffixFault
+read_content bytes = content_or (find (has_fault bytes) fault_order) (content_of bytes)

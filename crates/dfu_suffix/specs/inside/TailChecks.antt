@@ -7,7 +7,7 @@ use Rattle.dfu_suffix.specs.declared.summary.Summary.{Summary}
 use Rattle.dfu_suffix.specs.declared.fault.SuffixFault.{SuffixFault}
 use Rattle.dfu_suffix.specs.declared.fault.SuffixFault.TheVariants.{TooShort, NoSignature, BadLength, DfuSe, BadCrc}
 
--- The last 16 of so many bytes say this summary.
+-- Summary in the last 16 bytes of `count` bytes.
 abbrev pub summary_of_tail : List ℕ → ℕ → Summary
 summary_of_tail tail count = record {
   payload = count - slice_index tail 11;
@@ -17,7 +17,7 @@ summary_of_tail tail count = record {
   crc = little_number 4 (drop 12 tail);
 }
 
--- The last 16 of so many bytes say a summary, or a fault that has nothing to do with the register or the limit.
+-- Summary in the last 16 bytes of `count` bytes, or a fault that shows without the register and the limit.
 unfoldable pub tail_summary : List ℕ → ℕ → Result Summary SuffixFault
 tail_summary tail count =
     if nat_lt count 16 then Err TooShort
@@ -26,11 +26,11 @@ tail_summary tail count =
     else if little_number 2 (drop 6 tail) == 0x011A then Err DfuSe
     else Ok (summary_of_tail tail count)
 
--- The answer stays, unless it is not a fault and the register isn't intact: then the fault is BadCrc.
-abbrev pub sealed : {T : Type 0} → Bool → Result T SuffixFault → Result T SuffixFault
-sealed intact (Ok said) = if intact then Ok said else Err BadCrc
-sealed intact (Err fault) = Err fault
+-- The answer stays, unless it has no fault and the register isn't intact: then the fault is BadCrc.
+abbrev pub sealed_result : {T : Type 0} → Bool → Result T SuffixFault → Result T SuffixFault
+sealed_result intact (Ok said) = if intact then Ok said else Err BadCrc
+sealed_result intact (Err fault) = Err fault
 
--- A file that isn't too large is judged by its last 16 bytes, its length, and the register over all of it.
+-- Answer for a file within the limit, by its last 16 bytes, its length, and the register over all of it.
 abbrev pub register_checked : List ℕ → ℕ → ℕ → Result Summary SuffixFault
-register_checked tail count register = sealed (register == 0) (tail_summary tail count)
+register_checked tail count register = sealed_result (register == 0) (tail_summary tail count)

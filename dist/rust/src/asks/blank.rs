@@ -4,11 +4,18 @@
 
 use crate::asks::Mapped;
 use crate::asks::gates::gate_room;
-use crate::slots::is_sized;
+use crate::slots::{flash_byte_at, is_sized};
 
 // Returns whether so many bytes from there on are FFh.
 fn is_erased(flash: &[u8], at: usize, len: usize) -> bool {
-    flash[at..at + len].iter().all(|byte| *byte == 0xff)
+    let mut rest = &flash[at..at + len];
+    while !rest.is_empty() {
+        if flash_byte_at(rest, 0) != 0xff {
+            return false;
+        }
+        rest = &rest[1..];
+    }
+    true
 }
 
 impl<'m> Mapped<'m> {

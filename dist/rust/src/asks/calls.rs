@@ -7,9 +7,10 @@ use crate::asks::{Asking, Mapped, Refusal, Reply};
 use crate::device::{asked_row, decide_time};
 use crate::wire::{Code, State};
 
-/// The setup as a device takes it whose interface has this number (bInterfaceNumber): with wIndex 0 if that is its wIndex (USB DFU 1.1,
-/// section 3), and else with another one, of which a device stalls each request and stays as it is. A program whose interface is not
-/// number 0 makes so of each setup what it hands in, to `handle` and to the calls that ask or refuse beforehand.
+/// Returns `setup` as a device takes it whose interface has number `interface` (bInterfaceNumber): with wIndex 0 if the setup has that
+/// number as its wIndex (USB DFU 1.1, section 3), and else with another wIndex, so that the device stalls the request and stays as it is.
+/// A program whose interface is not number 0 must pass each setup through this call before it hands the setup to `handle` or to the calls
+/// that ask or refuse beforehand.
 pub fn addressed(interface: u8, setup: &[u8; 8]) -> [u8; 8] {
     let mut own = *setup;
     own[4] = u8::from(setup[4] != interface);
@@ -17,12 +18,12 @@ pub fn addressed(interface: u8, setup: &[u8; 8]) -> [u8; 8] {
 }
 
 impl Asking {
-    /// The state of the standard (USB DFU 1.1, section 6.1.2, bState).
+    /// Returns the state of the standard (USB DFU 1.1, section 6.1.2, bState).
     pub fn state(&self) -> State {
         self.mode.state()
     }
 
-    /// The status code (USB DFU 1.1, section 6.1.2, bStatus).
+    /// Returns the status code (USB DFU 1.1, section 6.1.2, bStatus).
     pub fn code(&self) -> Code {
         self.mode.code()
     }
@@ -57,14 +58,13 @@ impl Asking {
         self.carry_out(decision, Some(asked), body, block, held, medium, view, out)
     }
 
-    /// Answers a setup with its body, as `Device::handle`; or the row writes, and its writes are asked for now.
+    /// Answers `setup` with its `body`, as `Device::handle`; or if the row writes, asks for the first write.
     ///
     /// # Errors
     ///
-    /// `Asked` if writes are due; `NoRoom` if the buffer has less room than an answer may need, which is 6 bytes or the transfer
-    /// size, whichever is more; `NoMedium` if the noted header is not in an open slot of the flash; `NoDevice` if what is kept
-    /// is not a device on it, or the block's memory has less room than the transfer size. They are checked in this order, and
-    /// nothing changes then.
+    /// `Asked` if writes are due; `NoRoom` if `out` has less room than an answer may need, which is 6 bytes or the transfer size,
+    /// whichever is more; `NoMedium` if the noted header is not in an open slot of the flash; `NoDevice` if the kept state is not a device
+    /// on the flash, or `block` has less room than the transfer size. They are checked in this order, and nothing changes then.
     pub fn handle(
         &mut self,
         block: &mut [u8],
@@ -84,7 +84,7 @@ impl Asking {
         Ok(self.respond(block, held, &medium, &view, setup, body, out))
     }
 
-    /// This many milliseconds pass, as `Device::elapse`; or the row writes, and its writes are asked for now.
+    /// Lets `ms` milliseconds pass, as `Device::elapse`; or if the row writes, asks for the first write.
     ///
     /// # Errors
     ///
@@ -111,7 +111,7 @@ impl Asking {
         Ok(self.carry_out(decision, None, &[], block, held, &medium, &view, &mut out))
     }
 
-    /// The bus is reset, as `Device::usb_reset`.
+    /// Takes a reset of the bus, as `Device::usb_reset`.
     ///
     /// # Errors
     ///

@@ -1,6 +1,6 @@
 // Of crates/dfu_asks/src/carry.rt, whose contracts are taken away.
 
-//! Decisions that are carried out, or are begun.
+//! Performs the decisions of a device, or begins the writes that they need.
 
 use crate::asks::noted::View;
 use crate::asks::{Asking, Mapped, Reply};
@@ -33,7 +33,7 @@ fn put_image(medium: &Mapped<'_>, view: &View, place: u32, size: u16, out: &mut 
 }
 
 impl Asking {
-    /// Puts a reply at the front of a buffer, if so many bytes of a status or of a state are asked for.
+    /// Writes `reply` to the front of `out`, if `asked` bytes of a status or of a state are asked for.
     pub(crate) fn give(
         &self,
         reply: crate::device::Reply,
@@ -54,8 +54,8 @@ impl Asking {
         }
     }
 
-    /// Carries out what is decided on a request with this body, which asks for so many bytes of a status or of a state, or on a time;
-    /// or if that writes, asks for its first write.
+    /// Performs `decision`, on a request with `body` that asks for `asked` bytes of a status or of a state, or on a time; or if that
+    /// writes, asks for its first write.
     pub(crate) fn carry_out(
         &mut self,
         decision: Decision,

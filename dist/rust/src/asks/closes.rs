@@ -1,11 +1,11 @@
 // Of crates/dfu_asks/src/closes.rt, whose contracts are taken away.
 
-//! Tells before a setup is handed in whether it closes a download, because the program's own check of the image comes then.
+//! The calls that tell, before a setup is handed in, if it closes a download, because the program's own check of the image comes then.
 
 use crate::asks::{Asking, Refusal};
 use crate::device::{Config, DeviceState, is_close};
 
-/// Returns whether this setup closes the download of a device of this configuration in this mode, as `Asking::closes`.
+/// Returns true if `setup` closes the download of a device with `config` in `mode`, as `Asking::closes`.
 pub fn mode_closes(config: &Config, mode: DeviceState, setup: &[u8; 8]) -> bool {
     if !mode.may_close(config.least()) {
         return false;
@@ -14,10 +14,10 @@ pub fn mode_closes(config: &Config, mode: DeviceState, setup: &[u8; 8]) -> bool 
 }
 
 impl Asking {
-    /// Returns whether this setup closes a download: a DNLOAD with wLength 0 in dfuDNLOAD-IDLE, once as many bytes were taken as an image
-    /// has at least (USB DFU 1.1, section 6.1.1.1). If true, `handle` would acknowledge it, and from then on all bytes taken wait to be put
-    /// in place, so a program that checks images does it now, and `refuse_close` would refuse the image; if false, `handle` would do
-    /// nothing of the kind.
+    /// Returns true if `setup` closes a download: a DNLOAD with wLength 0 in dfuDNLOAD-IDLE, once as many bytes were taken as an image has
+    /// at least (USB DFU 1.1, section 6.1.1.1). If true, `handle` would acknowledge the setup, and from then on all bytes taken wait to be
+    /// put in place, so a program that checks images must check now, and `refuse_close` would refuse the image; if false, `handle` would
+    /// do nothing of the kind.
     ///
     /// # Errors
     ///

@@ -5,7 +5,7 @@
 use crate::asks::next_piece::{MAX_PROGRAM, next_piece};
 use crate::asks::pending_writes::WriteInputs;
 use crate::asks::{Asking, FlashOp, PendingWrites};
-use crate::slots::{OPEN_GATE, Source};
+use crate::slots::{OPEN_GATE, Source, flash_byte_at};
 
 /// A search for the next piece of a series of writes, and the piece once it is found.
 #[derive(Clone, Copy, Debug, PartialEq, Eq)]
@@ -20,11 +20,11 @@ pub(crate) struct Cut<'a> {
     pub(crate) piece: FlashOp,
     /// Source of its bytes, if it programs.
     pub(crate) source: Source,
-    /// Bytes of the source that come before it.
+    /// Number of bytes of the source before the piece.
     pub(crate) from: usize,
 }
 
-/// The search after so many bytes of writes that are made of this.
+/// Returns the search for what comes after `done` bytes of the writes that are made of `stock`.
 pub(crate) fn cut_at<'a>(stock: WriteInputs<'a>, done: u32) -> Cut<'a> {
     Cut {
         stock,
@@ -43,9 +43,9 @@ pub(crate) fn cut_at<'a>(stock: WriteInputs<'a>, done: u32) -> Cut<'a> {
 /// Bytes that lie in two slices, and bytes of one value after them.
 #[derive(Clone, Copy, Debug, PartialEq, Eq)]
 struct Runs<'a> {
-    /// The first of them.
+    /// The bytes of the first slice.
     front: &'a [u8],
-    /// Those after it.
+    /// The bytes of the second slice.
     back: &'a [u8],
     /// Number of bytes that come then.
     rest: usize,
@@ -84,7 +84,7 @@ fn sides_of<'a>(cut: &'a Cut<'_>, gate: &'a [u8; 1]) -> (&'a [u8], &'a [u8]) {
     }
 }
 
-/// The bytes of a piece, if this is an open gate.
+/// Returns the bytes of the piece that `cut` has found, with `gate` as the byte of an open gate.
 fn runs_of<'a>(cut: &'a Cut<'_>, gate: &'a [u8; 1]) -> Runs<'a> {
     let len = cut.piece.len;
     if cut.piece.erases {
@@ -99,20 +99,20 @@ fn runs_of<'a>(cut: &'a Cut<'_>, gate: &'a [u8; 1]) -> Runs<'a> {
     runs_in(front, back, cut.from, len)
 }
 
-// Returns whether two slices have the same bytes: that is less code than `==`.
+// Returns whether bytes of flash are those of a slice: that is less code than `==`.
 fn are_same(one: &[u8], other: &[u8]) -> bool {
     for i in 0..one.len() {
-        if one[i] != other[i] {
+        if flash_byte_at(one, i) != other[i] {
             return false;
         }
     }
     true
 }
 
-// Returns whether each byte of a slice is this one.
+// Returns whether each of these bytes of flash is this one.
 fn are_all(bytes: &[u8], byte: u8) -> bool {
     for i in 0..bytes.len() {
-        if bytes[i] != byte {
+        if flash_byte_at(bytes, i) != byte {
             return false;
         }
     }
@@ -120,7 +120,7 @@ fn are_all(bytes: &[u8], byte: u8) -> bool {
 }
 
 impl Runs<'_> {
-    /// Returns whether these are its bytes.
+    /// Returns true if `bytes` of flash are the bytes of the piece.
     pub(crate) fn are(self, bytes: &[u8]) -> bool {
         let middle = self.front.len();
         let end = middle + self.back.len();
@@ -134,7 +134,7 @@ impl Runs<'_> {
     }
 }
 
-/// Puts the bytes of a piece at the front of a buffer; of an erase at most 256, each FFh.
+/// Writes the bytes of the piece that `cut` found to the front of `out`; of an erase at most 256, each FFh.
 pub(crate) fn fill(cut: &Cut<'_>, out: &mut [u8; MAX_PROGRAM]) {
     let runs = runs_of(cut, &[OPEN_GATE]);
     let middle = runs.front.len();
@@ -145,7 +145,7 @@ pub(crate) fn fill(cut: &Cut<'_>, out: &mut [u8; MAX_PROGRAM]) {
     out[end..len].fill(runs.pad);
 }
 
-/// Returns whether the bytes of a piece are on the flash; after an erase they are FFh.
+/// Returns true if the bytes of the piece that `cut` found are on `flash`; after an erase they are FFh.
 pub(crate) fn stands(flash: &[u8], cut: &Cut<'_>) -> bool {
     let piece = cut.piece;
     if piece.at + piece.len as u64 > flash.len() as u64 {
@@ -156,7 +156,7 @@ pub(crate) fn stands(flash: &[u8], cut: &Cut<'_>) -> bool {
 }
 
 impl Asking {
-    /// The bytes held back, of the memory that they are in.
+    /// Returns the bytes held back, of `held`, the memory that they are in.
     pub(crate) fn held_in<'a>(&self, held: &'a [u8]) -> &'a [u8] {
         &held[..self.held_len.min(held.len())]
     }
@@ -172,7 +172,7 @@ impl Asking {
         }
     }
 
-    /// Returns the bytes of the next piece of this work, and whether they are on this flash; or 0 if no piece is left.
+    /// Returns the number of bytes of the next piece of `work`, and true if the bytes are on `flash`; or 0 if no piece is left.
     pub(crate) fn look_at(
         &self,
         work: &PendingWrites,

@@ -1,6 +1,6 @@
 // Of crates/dfu_asks/src/due.rt, whose contracts are taken away.
 
-//! When time changes the state of a device.
+//! The time after which the state of a device changes by itself.
 
 use crate::asks::Asking;
 use crate::device::{Config, DeviceState, poll_ms};
@@ -10,8 +10,8 @@ fn left(limit: u32, passed: u32) -> u32 {
     limit.saturating_sub(passed).max(1)
 }
 
-/// In how many milliseconds the state of a device of this configuration in this mode changes, with a block of so many bytes, at least 1;
-/// None if no time changes it.
+/// Returns the number of milliseconds, at least 1, after which the state of a device with `config` in `mode` changes, with a block of
+/// `block_len` bytes; None if no time changes it.
 pub fn mode_due(config: &Config, mode: DeviceState, block_len: usize) -> Option<u32> {
     match mode {
         DeviceState::AppDetach { timer, passed } => {
@@ -31,9 +31,10 @@ pub fn mode_due(config: &Config, mode: DeviceState, block_len: usize) -> Option<
 }
 
 impl Asking {
-    /// In how many milliseconds `elapse` changes the state, at least 1: fewer leave it as it is, and that many or more change it. In
-    /// appDETACH it is the rest of wDetachTimeOut or of the host's time, whichever is less, or 1 with bitWillDetach (USB DFU 1.1, section
-    /// 5.1); in dfuDNBUSY and dfuMANIFEST the rest of the time that the host was asked to wait (section 6.1.2, bwPollTimeout).
+    /// Returns the number of milliseconds, at least 1, after which `elapse` changes the state: fewer leave it as it is, and that many or
+    /// more change it. In appDETACH it is the rest of wDetachTimeOut or of the host's time, whichever is less, or 1 with bitWillDetach
+    /// (USB DFU 1.1, section 5.1); in dfuDNBUSY and dfuMANIFEST the rest of the time that the host was asked to wait (section 6.1.2,
+    /// bwPollTimeout).
     ///
     /// None if no time changes the device: in every other state.
     pub fn due(&self) -> Option<u32> {

@@ -91,7 +91,7 @@ impl Asking {
         (rest, self.put_end.saturating_add(len as u32))
     }
 
-    /// All is written.
+    /// Ends the writes, all of which were made.
     pub(crate) fn finish(&mut self, block: &[u8], held: &mut [u8], flash: &[u8]) {
         note(&mut self.noted, self.mode, flash, self.unit, self.sector);
         let (held_len, put_end) = self.rest_after(block, held);
@@ -102,7 +102,7 @@ impl Asking {
         self.work = None;
     }
 
-    /// A write had this fault.
+    /// Ends the writes, of which one had `fault`.
     pub(crate) fn break_off(&mut self, fault: WriteFault, flash: &[u8]) {
         note(&mut self.noted, self.mode, flash, self.unit, self.sector);
         self.held_len = 0;
@@ -111,7 +111,7 @@ impl Asking {
         self.work = None;
     }
 
-    /// Answers the GETSTATUS that asked for so many bytes, if one did, with its bytes at the front of a buffer.
+    /// Writes the answer to the GETSTATUS that asked for `asked` bytes, if one did, to the front of `out`.
     pub(crate) fn answer(&self, asked: Option<u16>, out: &mut [u8]) -> (Answer, usize) {
         match asked {
             None => self.give(crate::device::Reply::Ack, 0, out),
@@ -140,7 +140,7 @@ impl Asking {
         Reply::Answered(answer, count)
     }
 
-    /// A write had this fault: the row ends with it.
+    /// Ends the row with `fault`, that of one of its writes, and writes the answer to `out`.
     pub(crate) fn fail(
         &mut self,
         fault: WriteFault,

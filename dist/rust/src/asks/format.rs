@@ -36,7 +36,7 @@ fn fault_of(flash: &[u8], unit: Unit, sector: Sector, image: &[u8]) -> Option<Fo
     None
 }
 
-// The part after this one of a format of an image of so many bytes.
+// Returns the step that comes after `phase` when a medium is formatted with an image of `len` bytes.
 fn part_behind(phase: FormatStep, unit: Unit, len: usize) -> FormatStep {
     match phase {
         FormatStep::CloseSecond => FormatStep::CloseFirst,
@@ -63,12 +63,12 @@ fn part_behind(phase: FormatStep, unit: Unit, len: usize) -> FormatStep {
 }
 
 impl Formatting {
-    /// Begins a format that puts this image into the first slot of a flash and makes it the active one, whatever the flash had.
+    /// Begins a format that puts `image` into the first slot of `flash` and makes it the active one, whatever the flash had.
     ///
     /// # Errors
     ///
-    /// `WrongSize` if the flash is not two slots, as `Slots::format` has it, or has 2^32 bytes or more; `TooLarge` if the image
-    /// has more bytes than a slot's data. They are checked in this order.
+    /// `WrongSize` if the flash is not two slots, as `Slots::format` has it, or has 2^32 bytes or more; `TooLarge` if the image has more
+    /// bytes than a slot's data. They are checked in this order.
     pub fn start(
         flash: &[u8],
         unit: Unit,
@@ -95,13 +95,12 @@ impl Formatting {
         part_piece(self, flash.len(), cut)
     }
 
-    /// The next piece that is asked for: at most 256 bytes to be programmed, or one sector to be erased. It lies
-    /// within the flash, also if what is kept was damaged. The bytes of a program are at the front of `out` then. The image is the one
-    /// that the format began with.
+    /// Returns the next piece that is asked for: at most 256 bytes to be programmed, or one sector to be erased. The piece lies within the
+    /// flash, also if the kept state was damaged. The bytes of a program are at the front of `out` then. `image` must be the one that the
+    /// format began with.
     ///
-    /// None if no write is due, or its range is not within the flash, or what is kept would erase less than a sector. Then `out` does
-    /// not change.
-    /// It is Some if `start` or `took` asked, and the pieces before this one are on the flash.
+    /// None if no write is due, or its range is not within the flash, or the kept state would erase less than a sector. Then `out` does not
+    /// change. It is Some if `start` or `took` asked, and the pieces before this one are on the flash.
     pub fn next(&self, flash: &[u8], image: &[u8], out: &mut [u8; MAX_PROGRAM]) -> Option<FlashOp> {
         let mut cut = cut_at(stock_for(self, image), self.done);
         if !self.due(flash, &mut cut) {
@@ -118,7 +117,8 @@ impl Formatting {
         Some(piece)
     }
 
-    /// The piece that `next` gave was carried out, or it failed. It is read back on the flash; after an erase the whole sector is FFh.
+    /// Takes the report that the piece that `next` gave was carried out, or that it `failed`. Its range is read back on the flash; after
+    /// an erase the whole sector is FFh.
     ///
     /// None if no write is due. Nothing changes then.
     pub fn took(&mut self, flash: &[u8], image: &[u8], failed: bool) -> Option<FormatProgress> {

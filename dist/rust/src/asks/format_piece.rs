@@ -8,7 +8,7 @@ use crate::asks::pending_writes::WriteInputs;
 use crate::asks::{FormatStep, Formatting};
 use crate::slots::{Sequence, Unit, VERSION, make_header};
 
-/// Returns the bytes of an image of so many, filled up to whole units.
+/// Returns the number of bytes of an image of `len` bytes, filled up to whole units of `unit`.
 pub(crate) fn filled_len(unit: Unit, len: usize) -> usize {
     let size = unit.size() as usize;
     len + (size - len % size) % size
@@ -36,8 +36,8 @@ fn open_piece(index: usize, register: u32, cut: &mut Cut<'_>) -> bool {
     numbered_piece(sequence, index, cut)
 }
 
-/// Returns whether a piece is left of the part of a format that is being carried out. Then the next one is found. The flash has so many
-/// bytes.
+/// Returns true if a piece is left of the part of a format that is being carried out, on a flash of `size` bytes. `cut` has found the next
+/// one then.
 pub(crate) fn part_piece(formatting: &Formatting, size: usize, cut: &mut Cut<'_>) -> bool {
     match formatting.phase {
         FormatStep::CloseSecond => sequence_piece(

@@ -5,19 +5,18 @@
 use crate::asks::Sector;
 use crate::slots::{Unit, WriteFault};
 
-/// A format that asks for its writes, as it is kept between two calls. Its flash is mapped, and passed in at each call with
-/// the image.
+/// A format that asks for its writes, as it is kept between two calls. Each call gets the flash, which is mapped, and the image.
 #[derive(Clone, Copy, Debug, PartialEq, Eq)]
 pub struct Formatting {
     /// The unit in which the flash is written.
     pub unit: Unit,
-    /// The sectors in which it is erased before, if any.
+    /// The sectors in which the flash is erased before a write, if any.
     pub sector: Sector,
     /// The register over the image.
     pub register: u32,
     /// Progress of the format.
     pub phase: FormatStep,
-    /// Bytes of that part's writes that are carried out.
+    /// Number of bytes of the part's writes that are carried out.
     pub done: u32,
 }
 
@@ -30,7 +29,7 @@ pub enum FormatStep {
     CloseFirst,
     /// The image is written into the first slot, up to 4096 bytes of it from `from` on.
     Image {
-        /// So many bytes of the image precede them.
+        /// Number of bytes of the image before the bytes that are written.
         from: u32,
     },
     /// The header of the first slot is written.

@@ -5,8 +5,8 @@
 use crate::asks::Sector;
 use crate::slots::Unit;
 
-/// Returns the bytes that the gate of a slot has for itself, and its header as many, in flash that is written in this unit and these
-/// sectors: the largest of 16, the unit and the sector.
+/// Returns the number of bytes that the gate of a slot has for itself, and its header as many, in flash that is written in units of `unit`
+/// and erased in sectors of `sector`: the largest of 16, the unit and the sector.
 pub(crate) fn gate_room(unit: Unit, sector: Sector) -> u32 {
     unit.size().max(16).max(sector.size())
 }

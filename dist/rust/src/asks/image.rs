@@ -21,8 +21,8 @@ fn slot_at(second: bool, size: usize) -> usize {
 }
 
 impl ImagePlace {
-    /// Returns the place of the active image in this flash, which is written in this unit and erased in these sectors: after the gate and
-    /// the header of its slot, within the flash. It reads the image of each open slot, and needs no device.
+    /// Returns the place of the active image in `flash`, which is written in units of `unit` and erased in sectors of `sector`: after the
+    /// gate and the header of its slot, within the flash. The call reads the image of each open slot, and needs no device.
     ///
     /// None exactly if the flash has no active image, or 2^32 bytes or more.
     pub fn find(flash: &[u8], unit: Unit, sector: Sector) -> Option<ImagePlace> {
@@ -36,7 +36,7 @@ impl ImagePlace {
 }
 
 impl Asking {
-    /// Returns the place of the active image in this flash, as `ImagePlace::find`; whatever the device noted of it.
+    /// Returns the place of the active image in `flash`, as `ImagePlace::find`; whatever the device noted of it.
     ///
     /// None exactly if the flash has no active image, or 2^32 bytes or more.
     pub fn image(&self, flash: &[u8]) -> Option<ImagePlace> {

@@ -23,8 +23,8 @@ fn is_long(setup: &Setup, transfer: u16) -> bool {
     setup.kind == 0x21 && setup.length > transfer
 }
 
-/// The mode to which this setup leads a device of this configuration in this mode, if the host sends more bytes with it than a block has,
-/// as `Asking::too_long`; None exactly if it does not.
+/// Returns the mode to which `setup` leads a device with `config` in `mode`, if the host sends more bytes with it than a block has, as
+/// `Asking::too_long`; None exactly if it sends no more.
 pub fn mode_after_long(config: &Config, mode: DeviceState, setup: &[u8; 8]) -> Option<DeviceState> {
     let setup = Setup::decode(setup);
     if !is_long(&setup, config.functional().transfer) {
@@ -38,9 +38,9 @@ pub fn mode_after_long(config: &Config, mode: DeviceState, setup: &[u8; 8]) -> O
 }
 
 impl Asking {
-    /// As `handle` with a body of wLength bytes, which are more than the transfer size, so that no memory has to take them: true if the
-    /// host sends so many with this setup, and then the caller stalls the request (USB DFU 1.1, section 6.1.1). False if it does not;
-    /// nothing changes then. It needs neither the flash nor the memory of the block.
+    /// Takes `setup` with a body of wLength bytes, as `handle`, if these are more than the transfer size, so that no memory has to take
+    /// them. Returns true if they are more, and then the caller must stall the request (USB DFU 1.1, section 6.1.1). Returns false if they
+    /// are not; nothing changes then. The call needs neither the flash nor the memory of the block.
     ///
     /// # Errors
     ///

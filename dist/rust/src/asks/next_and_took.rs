@@ -1,12 +1,12 @@
 // Of crates/dfu_asks/src/next_and_took.rt, whose contracts are taken away.
 
-//! The writes that are asked for: the next one, and how it went.
+//! The calls for the writes that are due: `next` gives the next piece, and `took` takes the report of what became of it.
 
 use crate::asks::cut::{cut_at, fill};
 use crate::asks::next_piece::next_piece;
 use crate::asks::sector::behind_edge;
 use crate::asks::{Asking, FlashOp, MAX_PROGRAM, Mapped, PendingWrites, Refusal, Reply, Sector};
-use crate::slots::{OPEN_GATE, Unit, WriteFault, check};
+use crate::slots::{OPEN_GATE, Unit, WriteFault, check, flash_byte_at};
 
 // Returns the start of the slot that a place lies in, of two slots of this size.
 fn slot_start(at: u64, size: u64) -> u64 {
@@ -20,7 +20,7 @@ fn is_spare(flash: &[u8], unit: Unit, sector: Sector, at: u64, len: u64) -> bool
     if at + len > slot + half {
         return false;
     }
-    if flash[slot as usize] != OPEN_GATE {
+    if flash_byte_at(flash, slot as usize) != OPEN_GATE {
         return true;
     }
     let Some(medium) = Mapped::with_sector(flash, unit, sector) else {
@@ -34,7 +34,7 @@ fn is_spare(flash: &[u8], unit: Unit, sector: Sector, at: u64, len: u64) -> bool
     }
 }
 
-/// Returns whether a piece programs, or erases one whole sector.
+/// Returns true if `piece` programs, or erases one whole sector of `sector`.
 pub(crate) fn is_sound(sector: Sector, piece: FlashOp) -> bool {
     if !piece.erases {
         return true;
@@ -58,13 +58,13 @@ fn fault_of(failed: bool) -> WriteFault {
 }
 
 impl Asking {
-    /// The next piece that is asked for: at most 256 bytes to be programmed, or one sector to be erased. It lies within the spare
-    /// slot of the flash as it is now, if that has an active image, also if what is kept was damaged. The bytes of a program are at
-    /// the front of `out` then.
+    /// Returns the next piece that is asked for: at most 256 bytes to be programmed, or one sector to be erased. The piece lies within the
+    /// spare slot of the flash as it is now, if that has an active image, also if the kept state was damaged. The bytes of a program are
+    /// at the front of `out` then.
     ///
-    /// None if no write is due, if its range is not within that slot, if the slot's gate is open and no image is active, or if
-    /// what is kept would erase less than a sector. Then `out` is unchanged.
-    /// It is Some if a call answered `Asks` and the pieces before this one are on the flash.
+    /// None if no write is due, if its range is not within that slot, if the slot's gate is open and no image is active, or if the kept
+    /// state would erase less than a sector. Then `out` is unchanged. It is Some if a call answered `Asks` and the pieces before this one
+    /// are on the flash.
     pub fn next(
         &self,
         block: &[u8],
@@ -89,13 +89,14 @@ impl Asking {
         }
     }
 
-    /// The piece that `next` gave was carried out, or it failed. It is read back on the flash; after an erase the whole sector is FFh.
+    /// Takes the report that the piece that `next` gave was carried out, or that it `failed`. Its range is read back on the flash; after
+    /// an erase the whole sector is FFh.
     ///
-    /// It asks for the next piece, or returns the answer of the row, which has ended.
+    /// The call asks for the next piece, or returns the answer of the row, which has ended.
     ///
     /// # Errors
     ///
-    /// `NoRoom` if the buffer has less than 6 bytes; else `NoDevice` if no write is due. Nothing changes then.
+    /// `NoRoom` if `out` has less than 6 bytes; else `NoDevice` if no write is due. Nothing changes then.
     ///
     /// # What the caller must keep to
     ///

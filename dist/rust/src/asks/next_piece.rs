@@ -7,7 +7,7 @@ use crate::asks::sector::{Position, locate};
 use crate::asks::{FlashOp, SlotWrite};
 use crate::slots::{MAX_OPERATIONS, Op, Sequence, Source, VERSION, make_header};
 
-/// Most bytes that are programmed at a time.
+/// Largest number of bytes that are programmed at a time.
 pub const MAX_PROGRAM: usize = 256;
 
 // An erase of so many bytes there is found.
@@ -55,8 +55,8 @@ fn write_piece(at: u64, source: Source, skip: usize, len: usize, cut: &mut Cut<'
     }
 }
 
-/// Returns whether the next piece is one of the operation of this number. Then it is found; else the search goes on after that, if there is
-/// one.
+/// Returns true if the next piece is one of operation number `index` of `sequence`. `cut` has found the piece then; else the search goes
+/// on after the operation, if there is one.
 pub(crate) fn numbered_piece(sequence: Sequence, index: usize, cut: &mut Cut<'_>) -> bool {
     match sequence.operation(cut.stock.unit, cut.stock.sector.size(), index) {
         None => false,
@@ -72,7 +72,8 @@ pub(crate) fn numbered_piece(sequence: Sequence, index: usize, cut: &mut Cut<'_>
     }
 }
 
-/// Returns whether the next piece is one of the operations of a sequence. Then it is found; else the search goes on after them.
+/// Returns true if the next piece is one of the operations of `sequence`. `cut` has found the piece then; else the search goes on after
+/// the operations.
 pub(crate) fn sequence_piece(sequence: Sequence, cut: &mut Cut<'_>) -> bool {
     for index in 0..MAX_OPERATIONS {
         if numbered_piece(sequence, index, cut) {
@@ -113,7 +114,7 @@ fn commit_piece(spare: u32, generation: u8, register: u32, cut: &mut Cut<'_>) ->
     sequence_piece(sequence, cut)
 }
 
-/// Returns whether a piece of the writes of a job is left. Then the next one is found.
+/// Returns true if a piece of the writes of `job` is left. `cut` has found the next one then.
 pub(crate) fn next_piece(job: SlotWrite, cut: &mut Cut<'_>) -> bool {
     match job {
         SlotWrite::Block { spare, close } => block_piece(spare, close, cut),

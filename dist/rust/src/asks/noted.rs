@@ -5,7 +5,8 @@
 use crate::asks::{Asking, Sector};
 use crate::device::{PutSoFar, is_filled};
 use crate::slots::{
-    Failed, Medium, Unit, capacity_of, check, gate_of, header_of, is_open, is_sized, length_in,
+    Failed, Medium, Unit, capacity_of, check, flash_byte_at, gate_of, header_of, is_open, is_sized,
+    length_in, read_flash,
 };
 
 /// Flash that is mapped into memory: it is read there, and no write or erase through this works. Its owner writes it, in this unit,
@@ -18,19 +19,20 @@ pub struct Mapped<'m> {
 }
 
 impl<'m> Mapped<'m> {
-    /// The medium of these bytes, which is written in place, in this unit; None if they are 2^32 or more.
+    /// Returns the medium of `bytes`, which is written in place, in units of `unit`; None if there are 2^32 bytes or more.
     pub fn new(bytes: &'m [u8], unit: Unit) -> Option<Mapped<'m>> {
         Mapped::with_sector(bytes, unit, Sector::none())
     }
 
-    /// The medium of these bytes, which is written in this unit, in sectors of so many bytes that are erased before, or at 0 in place.
+    /// Returns the medium of `bytes`, which is written in units of `unit`, in sectors of `sector` bytes that are erased before, or if
+    /// `sector` is 0 in place.
     ///
-    /// None if the sector is neither 0 nor a multiple of 256 up to 131,072, or if there are 2^32 bytes or more.
+    /// None if `sector` is neither 0 nor a multiple of 256 up to 262,144, or if there are 2^32 bytes or more.
     pub fn with_sectors(bytes: &'m [u8], unit: Unit, sector: u32) -> Option<Mapped<'m>> {
         Mapped::with_sector(bytes, unit, Sector::new(sector)?)
     }
 
-    /// Maps the flash by a sector that is one.
+    /// Returns the medium of `bytes`, as `with_sectors` does, for a `sector` that is allowed; None if there are 2^32 bytes or more.
     pub(crate) fn with_sector(bytes: &'m [u8], unit: Unit, sector: Sector) -> Option<Mapped<'m>> {
         if bytes.len() > 0xffff_ffff {
             return None;
@@ -63,7 +65,7 @@ impl<'m> Medium for Mapped<'m> {
 
     fn read(&self, at: u32, out: &mut [u8]) {
         let from = at as usize;
-        out.copy_from_slice(&self.bytes[from..from + out.len()]);
+        read_flash(&self.bytes[from..from + out.len()], out);
     }
 
     fn write(&mut self, _at: u32, _bytes: &[u8]) -> Result<(), Failed> {
@@ -78,14 +80,14 @@ impl<'m> Medium for Mapped<'m> {
 /// Notes of the active image: which slot has it, and that slot's header as it was. A call that finds it there reads no image.
 #[derive(Clone, Copy, Debug, PartialEq, Eq)]
 pub struct Noted {
-    /// Tells whether it is the second slot.
+    /// True if the second slot has the image.
     pub second: bool,
     /// The header.
     pub header: [u8; 16],
 }
 
 impl Noted {
-    /// Returns the notes of this flash. It reads the image of each open slot.
+    /// Returns the notes of `flash`. The call reads the image of each open slot.
     ///
     /// None exactly if the flash has no active image, or 2^32 bytes or more.
     pub fn find(flash: &[u8], unit: Unit, sector: Sector) -> Option<Noted> {
@@ -109,23 +111,23 @@ pub(crate) struct View {
     pub(crate) active: u32,
     /// Place at which the spare slot begins.
     pub(crate) spare: u32,
-    /// Most bytes of an image.
+    /// Largest number of bytes of an image.
     pub(crate) room: u32,
     /// Length of the active image.
     pub(crate) len: u32,
 }
 
-// Returns whether two headers are the same, byte by byte: that is less code than `==`.
+// Returns whether a header of flash is this one, byte by byte: that is less code than `==`.
 fn are_same(one: &[u8], other: &[u8; 16]) -> bool {
     for i in 0..16 {
-        if one[i] != other[i] {
+        if flash_byte_at(one, i) != other[i] {
             return false;
         }
     }
     true
 }
 
-/// The view of a medium on which the noted header is in an open slot; None exactly if it is not.
+/// Returns the view of `medium` if the header of `noted` is in an open slot of it; None exactly if it is not.
 #[inline(never)]
 pub(crate) fn look(medium: &Mapped<'_>, noted: &Noted) -> Option<View> {
     if !is_sized(medium) {
@@ -158,7 +160,7 @@ fn may_end(unit: Unit, held: usize, end: u32, room: u32) -> bool {
 }
 
 impl Asking {
-    /// Returns whether the record goes with what is seen, if the block's memory has so many bytes.
+    /// Returns true if the record goes with `medium` and `view`, and with a block's memory of `room` bytes.
     #[inline(never)]
     pub(crate) fn is_fit(&self, room: usize, medium: &Mapped<'_>, view: &View) -> bool {
         if self.block_len > room

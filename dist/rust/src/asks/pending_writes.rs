@@ -8,11 +8,11 @@ use crate::slots::Unit;
 /// Writes that are left of a row, and the row's answer then.
 #[derive(Clone, Copy, Debug, PartialEq, Eq)]
 pub struct PendingWrites {
-    /// What is written.
+    /// The change that is written.
     pub job: SlotWrite,
     /// wLength of the GETSTATUS that is answered last; None if nothing is, since time has passed.
     pub asked: Option<u16>,
-    /// Bytes of the writes that are carried out.
+    /// Number of bytes of the writes that are carried out.
     pub done: u32,
 }
 
@@ -23,7 +23,7 @@ pub enum SlotWrite {
     Block {
         /// Place at which the spare slot begins.
         spare: u32,
-        /// Tells whether its gate is closed first.
+        /// True if the gate of the slot is closed first.
         close: bool,
     },
     /// Makes the bytes that were put the active image.

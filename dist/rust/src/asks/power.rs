@@ -1,14 +1,14 @@
 // Of crates/dfu_asks/src/power.rt, whose contracts are taken away.
 
-//! A device that asks gets power.
+//! The calls that power a device on.
 
 use crate::asks::{Asking, Noted, Sector};
 use crate::device::{Config, DeviceState};
 use crate::slots::Unit;
 
 impl Asking {
-    /// A device that is powered on: in appIDLE, with no block, on flash that it reads. The flash is written in this unit, and erased in
-    /// sectors before, or if there are none written over in place. It reads the images, to see which is active.
+    /// Returns a device that is powered on: in appIDLE, with no block, on `flash`, of which the images are read, to see which is active.
+    /// The flash is written in units of `unit`, and erased before in sectors of `sector`, or if there are none written over in place.
     ///
     /// None exactly if the flash has no active image, or 2^32 bytes or more.
     pub fn power_on(config: Config, unit: Unit, sector: Sector, flash: &[u8]) -> Option<Asking> {
@@ -26,8 +26,8 @@ impl Asking {
         })
     }
 
-    /// A device that is powered on and begins in dfuIDLE, as by `power_on`, a DETACH and a reset of the bus (USB DFU 1.1, section 5.1):
-    /// what a bootloader starts that was entered to take a download.
+    /// Returns a device that is powered on and begins in dfuIDLE, as by `power_on`, a DETACH and a reset of the bus (USB DFU 1.1, section
+    /// 5.1). A bootloader that was entered to take a download must start so.
     ///
     /// None exactly if the flash has no active image, or 2^32 bytes or more.
     pub fn begin(config: Config, unit: Unit, sector: Sector, flash: &[u8]) -> Option<Asking> {

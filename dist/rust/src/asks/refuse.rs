@@ -1,14 +1,14 @@
 // Of crates/dfu_asks/src/refuse.rt, whose contracts are taken away.
 
-//! The program of a device that asks refuses an image.
+//! The calls by which the program of a device refuses an image.
 
 use crate::asks::closes::mode_closes;
 use crate::asks::{Asking, Refusal};
 use crate::device::{DeviceState, Objection};
 
 impl Asking {
-    /// The program refuses the image that this setup closes, as `Device::refuse_close`: true if it closes one, and then the caller stalls
-    /// the request. It needs neither the flash nor the memory of the block.
+    /// Refuses the image that `setup` closes, for `objection` of the program, as `Device::refuse_close`. Returns true if the setup closes
+    /// an image, and then the caller must stall the request. The call needs neither the flash nor the memory of the block.
     ///
     /// # Errors
     ///
@@ -24,7 +24,8 @@ impl Asking {
         Ok(true)
     }
 
-    /// The program refuses the image that was closed, as `Device::refuse`. It needs neither the flash nor the memory of the block.
+    /// Refuses the image that was closed, for `objection` of the program, as `Device::refuse`. The call needs neither the flash nor the
+    /// memory of the block.
     ///
     /// # Errors
     ///

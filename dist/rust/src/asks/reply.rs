@@ -9,7 +9,7 @@ use crate::device::Answer;
 pub enum Reply {
     /// Writes are due: `next`, carry it out, `took`, until `took` answers otherwise.
     Asks,
-    /// The answer, and how many bytes of it are at the front of the buffer.
+    /// The answer, and the number of its bytes at the front of the buffer.
     Answered(Answer, usize),
 }
 
@@ -17,11 +17,11 @@ pub enum Reply {
 /// bytes of a program at the front of the buffer that it is handed.
 #[derive(Clone, Copy, Debug, PartialEq, Eq)]
 pub struct FlashOp {
-    /// Tells whether it erases: the `len` bytes there are FFh then.
+    /// True if the piece is an erase, after which the `len` bytes from `at` on are FFh; false for a program.
     pub erases: bool,
     /// Place of its first byte.
     pub at: u64,
-    /// Number of its bytes: 1 to 256, or if it erases those of a sector.
+    /// Number of bytes of the piece: 1 to 256, or for an erase those of a sector.
     pub len: usize,
 }
 

@@ -4,19 +4,19 @@
 
 use crate::slots::{MAX_SECTOR, PAGE};
 
-/// Bytes of flash that are erased at a time: 0 if it is written over in place, else a multiple of 256 up to 131,072.
+/// The number of bytes of flash that are erased at a time: 0 if the flash is written over in place, else a multiple of 256 up to 262,144.
 #[derive(Clone, Copy, Debug, PartialEq, Eq)]
 pub struct Sector {
     size: u32,
 }
 
 impl Sector {
-    /// The flash is written over in place, and never erased.
+    /// Returns the sector of a flash that is written over in place, and never erased.
     pub fn none() -> Sector {
         Sector { size: 0 }
     }
 
-    /// Sectors of so many bytes; None if that is not a multiple of 256, or more than 131,072.
+    /// Returns the sector of `size` bytes; None if `size` is not a multiple of 256, or more than 262,144.
     pub fn new(size: u32) -> Option<Sector> {
         if size % PAGE == 0 && size <= MAX_SECTOR {
             Some(Sector { size })
@@ -31,24 +31,24 @@ impl Sector {
     }
 }
 
-/// The position after so many bytes of a write and of the erases before it.
+/// The position after a number of bytes of a write and of the erases before the write.
 #[derive(Clone, Copy, Debug, PartialEq, Eq)]
 pub(crate) enum Position {
-    /// So many bytes of a sector are to be erased there.
+    /// In the erase of a sector, of which `len` bytes are still to be erased, from `place` on.
     Erase {
-        /// Place of the first of them.
+        /// Place of the first byte that is still to be erased.
         place: u64,
         /// Number of bytes.
         len: usize,
     },
-    /// In the write, so many bytes after its first one.
+    /// In the write, `from` bytes after its first one.
     Program {
-        /// So many bytes of it are written.
+        /// Number of bytes of the write that are written already.
         from: usize,
     },
-    /// All is written, and so many bytes of what comes after it.
+    /// Behind the write, `rest` bytes into what comes after it.
     Behind {
-        /// So many bytes of that.
+        /// Number of bytes behind the end of the write.
         rest: usize,
     },
 }
@@ -56,8 +56,8 @@ pub(crate) enum Position {
 /// Returns the number of bytes that a place is after the first one of its sector. It takes two divisions of 32 bits for one of 64, which a
 /// small processor does by a call.
 pub(crate) fn behind_edge(sector: u32, at: u64) -> u32 {
-    let high = (at / 32_768) as u32 % sector;
-    (high * 32_768 + (at % 32_768) as u32) % sector
+    let high = (at / 16_384) as u32 % sector;
+    (high * 16_384 + (at % 16_384) as u32) % sector
 }
 
 // The position after so many bytes of the erases that begin in a range.
@@ -95,7 +95,7 @@ fn locate_write(len: usize, rest: usize) -> Position {
     }
 }
 
-/// The position after so many bytes of a write of `len` bytes there and of the erases of the sectors that begin in its range.
+/// Returns the position after `done` bytes of a write of `len` bytes at `at` and of the erases of the sectors that begin in its range.
 #[inline(never)]
 pub(crate) fn locate(sector: Sector, at: u64, len: usize, done: usize) -> Position {
     let size = sector.size();

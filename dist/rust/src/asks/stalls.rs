@@ -1,6 +1,6 @@
 // Of crates/dfu_asks/src/stalls.rt, whose contracts are taken away.
 
-//! Tells before the body of a setup is there whether a device will stall it.
+//! The calls that tell, before the body of a setup is there, if a device will stall the setup.
 
 use crate::asks::gates::gate_room;
 use crate::asks::{Asking, Refusal, Sector};
@@ -28,8 +28,8 @@ fn room_in(unit: Unit, sector: Sector, size: usize) -> u64 {
     (size as u64 / 2).saturating_sub(2 * u64::from(gate_room(unit, sector)))
 }
 
-/// Returns whether a device of this configuration in this mode, on flash of so many bytes that is written in this unit and erased in these
-/// sectors, stalls this setup, as `Asking::would_stall`.
+/// Returns true if a device with `config` in `mode` stalls `setup`, as `Asking::would_stall`, on a flash of `size` bytes that is written
+/// in units of `unit` and erased in sectors of `sector`.
 pub fn mode_stalls(
     config: &Config,
     unit: Unit,
@@ -43,8 +43,8 @@ pub fn mode_stalls(
 }
 
 impl Asking {
-    /// Returns whether `handle` will stall this setup, whatever body of wLength bytes comes with it: true exactly if so (USB DFU 1.1,
-    /// appendix A). `size` is how many bytes the flash has. A stack that stalls a request before its data stage asks this first.
+    /// Returns true exactly if `handle` will stall `setup`, whatever body of wLength bytes comes with it (USB DFU 1.1, appendix A). `size`
+    /// is the number of bytes of the flash. A stack that stalls a request before its data stage must ask by this call first.
     ///
     /// # Errors
     ///

@@ -6,8 +6,7 @@ use crate::asks::noted::View;
 use crate::asks::sector::behind_edge;
 use crate::asks::{Asking, Mapped, PendingWrites, Reply, Sector, SlotWrite};
 use crate::device::DeviceState;
-use crate::slots::{WriteFault, data_at, is_open};
-use crate::suffix::Crc;
+use crate::slots::{WriteFault, crc_of_flash, data_at, is_flash_erased, is_open};
 
 // Returns the end of so many bytes from there on, or the place at which the first sector begins among them.
 fn stretch_end(size: u32, at: u64, len: u64) -> u64 {
@@ -18,16 +17,6 @@ fn stretch_end(size: u32, at: u64, len: u64) -> u64 {
     at + len.min(u64::from(size - behind))
 }
 
-// Returns whether these bytes of flash are FFh.
-fn are_erased(flash: &[u8], from: usize, to: usize) -> bool {
-    for i in from..to {
-        if flash[i] != 0xff {
-            return false;
-        }
-    }
-    true
-}
-
 // Returns whether so many bytes from there on are FFh, up to the sector that begins next; flash without sectors is written over.
 fn is_clear(flash: &[u8], sector: Sector, at: u64, len: u64) -> bool {
     let size = sector.size();
@@ -35,13 +24,12 @@ fn is_clear(flash: &[u8], sector: Sector, at: u64, len: u64) -> bool {
         return true;
     }
     let end = stretch_end(size, at, len).min(flash.len() as u64);
-    are_erased(flash, at as usize, end as usize)
+    is_flash_erased(flash, at as usize, end as usize)
 }
 
 // The register over bytes of flash, and these after them.
 fn register_of(flash: &[u8], from: usize, size: usize, held: &[u8]) -> u32 {
-    let mut crc = Crc::new();
-    crc.update_small(&flash[from..from + size]);
+    let mut crc = crc_of_flash(&flash[from..from + size]);
     crc.update_small(held);
     crc.value()
 }
@@ -98,8 +86,8 @@ impl Asking {
         is_clear(medium.bytes, self.sector, u64::from(at), len as u64)
     }
 
-    /// Begins the work of the row that is due. If what it programs behind the puts is not erased, so that what is kept is no device on
-    /// this flash, the row ends with NotVerified, and nothing is written.
+    /// Begins the work of the row that is due. Nothing is written, and the row ends with NotVerified, if the flash behind the bytes put so
+    /// far is not erased: for example because somebody else has written there.
     pub(crate) fn start(
         &mut self,
         asked: Option<u16>,

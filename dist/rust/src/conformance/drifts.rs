@@ -12,7 +12,7 @@ use crate::conformance::row::Source::{A, Habit};
 use crate::conformance::row::When::{Always, By, NotTolerant, Tolerant, WillDetach};
 
 /// Moves that a device makes by itself: an enumeration ends, a timer ends, a device detaches, a block or an image is in place, or could not
-/// be put there. Two such moves one after the other are one too.
+/// be put there. Two moves one after the other are one move, too.
 #[rustfmt::skip]
 pub static DRIFTS: [Drift; 12] = [
     drift!(Fresh, Always, DfuIdle, A),

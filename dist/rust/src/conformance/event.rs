@@ -5,40 +5,40 @@
 use crate::conformance::{EventKind, Gives, Row, StandardState};
 use crate::wire::{Request, Setup};
 
-/// Answer that was seen.
+/// The answer that was seen.
 #[derive(Clone, Copy, Debug, PartialEq, Eq)]
 pub enum Response {
     /// A stall.
     Stall,
-    /// Nothing: it isn't known whether the request came.
+    /// Nothing was seen, so that the request may not have come.
     Nothing,
-    /// So many bytes; 0 if the request was acknowledged.
+    /// Bytes came; 0 of them if the request was acknowledged.
     Bytes {
-        /// Number of bytes.
+        /// Number of bytes of the answer.
         count: u32,
-        /// The first of them, or 0.
+        /// The first byte of the answer, or 0 if the answer has none.
         first: u8,
-        /// The fifth of them, or 0.
+        /// The fifth byte of the answer, or 0 if the answer has fewer.
         fifth: u8,
     },
 }
 
-/// Event that came to a device, and the answer that was seen. Of a reset and of power nothing is seen.
+/// Event that came to a device, and the answer that was seen. A reset and power have no answer.
 #[derive(Clone, Copy, Debug, PartialEq, Eq)]
 pub struct LogEvent {
-    /// What came.
+    /// Kind of the event that came to the device.
     pub asked: EventKind,
-    /// Tells whether the request is as section 3 has it: wValue and wLength, and a body of wLength bytes.
+    /// True if the request is as section 3 has it: its wValue and wLength, and a body of wLength bytes.
     pub is_plain: bool,
-    /// wLength.
+    /// wLength of the request: the number of bytes of its body, or the most that are asked for.
     pub length: u16,
-    /// Answer that was seen.
+    /// The answer that was seen.
     pub answer: Response,
 }
 
 impl LogEvent {
-    /// A request by its setup, how many bytes of a body went with it, and its answer. `None` if it is no request of the class for
-    /// interface 0.
+    /// Returns the event of a request with `setup` and a body of `body` bytes that was answered with `answer`. None if the request is none
+    /// of the class for interface 0.
     pub fn exchange(setup: &Setup, body: usize, answer: Response) -> Option<LogEvent> {
         let request = setup.request();
         match request {
@@ -53,7 +53,7 @@ impl LogEvent {
     }
 }
 
-/// A request as the table has it.
+/// Returns the kind of event that the table has for `request`: a DNLOAD of no bytes is a kind of its own there.
 fn asked_for(request: &Request) -> EventKind {
     match *request {
         Request::Detach { .. } => EventKind::Detach,
@@ -68,7 +68,7 @@ fn asked_for(request: &Request) -> EventKind {
     }
 }
 
-/// Returns whether a request is as section 3 has it.
+/// Returns true if a request with `setup` and a body of `body` bytes is as section 3 has it.
 fn is_told(setup: &Setup, request: &Request, body: usize) -> bool {
     let Setup {
         kind,
@@ -80,7 +80,7 @@ fn is_told(setup: &Setup, request: &Request, body: usize) -> bool {
     body == wanted && has_numbers(request, value)
 }
 
-/// Returns whether a request has the wValue and the wLength of section 3.
+/// Returns true if `request` has the wValue, which is `value`, and the wLength of section 3.
 fn has_numbers(request: &Request, value: u16) -> bool {
     match *request {
         Request::Upload { length, .. } => length != 0,
@@ -91,18 +91,19 @@ fn has_numbers(request: &Request, value: u16) -> bool {
     }
 }
 
-/// Returns whether a row speaks of an event: of what was asked, and of what was seen.
+/// Returns true if `row` fits `event`: what came, and what was seen.
 pub fn speaks_of(row: &Row, event: &LogEvent) -> bool {
     is_asked(row.asked, event) && is_shown(row, event)
 }
 
-/// Returns whether a row is about what was asked. A request that is not as section 3 has it may be taken as any other, too.
+/// Returns true if a row for `asked` is about what came in `event`. A request that is not as section 3 has it may be taken as any other,
+/// too.
 pub(crate) fn is_asked(asked: EventKind, event: &LogEvent) -> bool {
     asked.number() == event.asked.number()
         || !event.is_plain && asked.number() == EventKind::Other.number()
 }
 
-/// Returns whether the answer that was seen is what a row gives.
+/// Returns true if the answer that was seen in `event` is the one that `row` gives.
 fn is_shown(row: &Row, event: &LogEvent) -> bool {
     let length = event.length as u32;
     match event.answer {
@@ -135,7 +136,7 @@ fn is_shown(row: &Row, event: &LogEvent) -> bool {
     }
 }
 
-/// The number of the state of the standard that a place is.
+/// Returns the number of the state of the standard (bState, section 6.1.2) that a device at `place` is in.
 fn state_of(place: StandardState) -> usize {
     match place {
         StandardState::Fresh => 2,
@@ -143,7 +144,7 @@ fn state_of(place: StandardState) -> usize {
     }
 }
 
-/// Returns whether a status that enters this place may have this code.
+/// Returns true if a status that enters `place` may have the number `code` as its code.
 fn is_code_of(place: StandardState, code: u8) -> bool {
     match place {
         StandardState::Error => 0 < code && code < 16,
@@ -151,7 +152,7 @@ fn is_code_of(place: StandardState, code: u8) -> bool {
     }
 }
 
-/// Returns whether a device may stay where it was.
+/// Returns true if a device may stay where it was at `event`.
 pub(crate) fn may_stay(event: &LogEvent) -> bool {
     match event.answer {
         Response::Nothing => true,

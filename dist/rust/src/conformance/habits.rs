@@ -13,7 +13,7 @@ use crate::conformance::row::Gives::{Ack, NoCode, Silent, Stall};
 use crate::conformance::row::Source::Habit;
 use crate::conformance::row::When::By;
 
-/// The rows of each reading.
+/// The rows of each habit.
 #[rustfmt::skip]
 pub static HABITS: [Row; 28] = [
     // Bootloader: a reset and power lead to dfuIDLE.

@@ -1,6 +1,6 @@
 // Of crates/dfu_conformance/src/held.rt, whose contracts are taken away.
 
-//! Devices that are held at each place.
+//! Devices that may be at each place.
 
 use crate::conformance::drifts::DRIFTS;
 use crate::conformance::event::{may_stay, speaks_of};
@@ -9,10 +9,10 @@ use crate::conformance::marks::MARKS;
 use crate::conformance::standard::STANDARD;
 use crate::conformance::{Drift, LogEvent, Reading, Row, StandardState, When};
 
-/// For each bmAttributes the sets of readings: bit r of word a is the device of bmAttributes a and of the readings that are the bits of r.
+/// Sets of readings for each bmAttributes: bit r of word a is the device of bmAttributes a whose readings are the bits of r.
 pub(crate) type Devices = [u64; 16];
 
-/// The sets of readings for which a row is, at these bmAttributes, 0 to 15.
+/// Returns the sets of readings for which a row with `when` is, in a device of bmAttributes `attributes`, 0 to 15.
 fn word(when: When, attributes: usize) -> u64 {
     match when {
         When::Always => all_if(true),
@@ -25,12 +25,12 @@ fn word(when: When, attributes: usize) -> u64 {
     }
 }
 
-/// All sets of readings, or none.
+/// Returns all 64 sets of readings if `yes`, and else none.
 fn all_if(yes: bool) -> u64 {
     if yes { u64::MAX } else { 0 }
 }
 
-/// For each reading, by its number, the sets of readings in which it is.
+/// For each reading, by its number, the sets of readings that have it.
 const SETS_WITH: [u64; 6] = [
     0xaaaa_aaaa_aaaa_aaaa,
     0xcccc_cccc_cccc_cccc,
@@ -40,17 +40,17 @@ const SETS_WITH: [u64; 6] = [
     0xffff_ffff_0000_0000,
 ];
 
-/// The place of a reading in the list of all six.
+/// Returns the index of `reading` in the list of all six, 0 to 5.
 fn number_of(reading: Reading) -> usize {
     reading as usize
 }
 
-/// The sets of readings in which this one is.
+/// Returns the sets of readings that have `reading`.
 fn readings_with(reading: Reading) -> u64 {
     SETS_WITH[number_of(reading)]
 }
 
-/// These devices, and those of the others for which a row is.
+/// Returns the devices of `to`, and those of `from` for which a row with `when` is.
 fn join(to: &Devices, from: &Devices, when: When) -> Devices {
     let mut after = *to;
     for a in 0..16 {
@@ -59,7 +59,7 @@ fn join(to: &Devices, from: &Devices, when: When) -> Devices {
     after
 }
 
-/// The sets of readings of all devices, whatever their bmAttributes.
+/// Returns the sets of readings of all devices in `devices`, whatever their bmAttributes.
 fn readings_of(devices: &Devices) -> u64 {
     let mut all = 0;
     for a in 0..16 {
@@ -68,7 +68,7 @@ fn readings_of(devices: &Devices) -> u64 {
     all
 }
 
-/// Returns whether there is no device.
+/// Returns true if `devices` has no device.
 fn is_empty(devices: &Devices) -> bool {
     readings_of(devices) == 0
 }
@@ -76,10 +76,10 @@ fn is_empty(devices: &Devices) -> bool {
 /// For each place the devices that may be there.
 pub(crate) type Places = [Devices; 12];
 
-/// By place, whether devices may be there. A row from a place without any leads none.
+/// For each place, by its number, true if devices may be there. A row from a place without devices leads none.
 type Taken = [bool; 12];
 
-/// The places where devices are.
+/// Returns the places where a device may be by `places`.
 fn taken(places: &Places) -> Taken {
     let mut at = [true; 12];
     for n in 0..12 {
@@ -88,41 +88,41 @@ fn taken(places: &Places) -> Taken {
     at
 }
 
-/// The devices for which a row is are led from one place to another.
+/// Adds to place `to` of `after` the devices that may be at `from` by `before` and for which a row with `when` is.
 fn lead(before: &Places, from: StandardState, when: When, after: &mut Places, to: StandardState) {
     let to = to.number();
     after[to] = join(&after[to], &before[from.number()], when);
 }
 
-/// Adds the devices that go by this row.
+/// Adds to `after` the devices of `before` that go by `row` at `event`.
 fn go(row: &Row, before: &Places, at: &Taken, event: &LogEvent, after: &mut Places) {
     if at[row.from.number()] && speaks_of(row, event) {
         lead(before, row.from, row.when, after, row.next);
     }
 }
 
-/// Adds the devices that go by one of these rows.
+/// Adds to `after` the devices of `before` that go by one of `rows` at `event`.
 fn pass(rows: &[Row], before: &Places, at: &Taken, event: &LogEvent, after: &mut Places) {
     for row in rows {
         go(row, before, at, event, after);
     }
 }
 
-/// Adds the devices that go by a row of a reset or of power: no such row is about a request.
+/// Adds the devices that go by a row of a reset or of power, because no such row is about a request.
 fn pass_marks(before: &Places, at: &Taken, event: &LogEvent, after: &mut Places) {
     if event.asked.number() > 8 {
         pass(&MARKS, before, at, event, after);
     }
 }
 
-/// Adds the devices that make this move by themselves.
+/// Adds to `after` the devices of `before` that make the move `one` by themselves.
 fn slide(one: &Drift, before: &Places, at: &Taken, after: &mut Places) {
     if at[one.from.number()] {
         lead(before, one.from, one.when, after, one.next);
     }
 }
 
-/// Adds the devices that make one of these moves by themselves.
+/// Returns the devices of `before`, and those of them that make one of `moves` by themselves, at the place to which the move leads.
 fn drift(moves: &[Drift], before: &Places) -> Places {
     let mut after = *before;
     let at = taken(before);
@@ -132,7 +132,7 @@ fn drift(moves: &[Drift], before: &Places) -> Places {
     after
 }
 
-/// The devices that may stay where they were, by an event.
+/// Returns the devices that may be where they were by `before` after `event`.
 fn rest(before: &Places, event: &LogEvent) -> Places {
     if may_stay(event) {
         *before
@@ -141,7 +141,7 @@ fn rest(before: &Places, event: &LogEvent) -> Places {
     }
 }
 
-/// The devices that may be at each place after an event, if these might be there before it.
+/// Returns the devices that may be at each place after `event`, if `before` has those that may be there before it.
 pub(crate) fn step(before: &Places, event: &LogEvent) -> Places {
     let at = taken(before);
     let mut after = rest(before, event);
@@ -151,17 +151,17 @@ pub(crate) fn step(before: &Places, event: &LogEvent) -> Places {
     drift(&DRIFTS, &after)
 }
 
-/// Returns whether this bit is 1.
+/// Returns true if bit `bit` of `word` is 1.
 fn has_bit(word: u64, bit: u8) -> bool {
     word >> bit & 1 == 1
 }
 
-/// Returns whether a device with this set of readings is held, with any bmAttributes.
+/// Returns true if a device with the set `readings` is held, with any bmAttributes.
 fn is_held(devices: &Devices, readings: u8) -> bool {
     has_bit(readings_of(devices), readings)
 }
 
-/// By place, whether a device with this set of readings may be there.
+/// Returns for each place whether a device with the set `readings` may be there by `places`.
 pub(crate) fn places_of(places: &Places, readings: u8) -> [bool; 12] {
     let mut at = [false; 12];
     for n in 0..12 {
@@ -170,7 +170,7 @@ pub(crate) fn places_of(places: &Places, readings: u8) -> [bool; 12] {
     at
 }
 
-/// Returns whether a device with this set of readings may be anywhere.
+/// Returns true if a device with the set `readings` may be at any place by `places`.
 pub(crate) fn is_any_held(places: &Places, readings: u8) -> bool {
     let mut is_some = false;
     for n in 0..12 {
@@ -179,8 +179,8 @@ pub(crate) fn is_any_held(places: &Places, readings: u8) -> bool {
     is_some
 }
 
-/// The least set of readings below a number with which a device may be somewhere: one with the fewest readings, and of these the
-/// first by its number.
+/// Returns the least set of readings below number `sets` with which a device may be somewhere by `places`: a set with the fewest readings,
+/// and of several the one with the least number. None if there is no such set.
 pub(crate) fn least_held(places: &Places, sets: u8) -> Option<u8> {
     let mut least = None;
     for readings in 0..sets {
@@ -189,7 +189,7 @@ pub(crate) fn least_held(places: &Places, sets: u8) -> Option<u8> {
     least
 }
 
-/// The better of a set of readings, if it is held, and another set, if there is one.
+/// Returns the better set of two: `readings`, if it is held and has fewer readings than `least`, and else `least`.
 fn better(held: bool, readings: u8, least: Option<u8>) -> Option<u8> {
     if !held {
         return least;

@@ -1,6 +1,6 @@
 // Of crates/dfu_conformance/src/judge.rt, whose contracts are taken away.
 
-//! The judge.
+//! The judge of a device of the standard.
 
 use crate::conformance::held::{Places, is_any_held, least_held, places_of, step};
 use crate::conformance::{Departure, LogEvent, Verdict};
@@ -8,17 +8,17 @@ use crate::conformance::{Departure, LogEvent, Verdict};
 /// Every device, at every place.
 const EVERY: Places = [[u64::MAX; 16]; 12];
 
-/// A judge of one device, about which nothing is known at first: it follows every device at once, with each set of habits.
-/// It takes no memory beyond its own 3,080 bytes.
+/// A judge of one device, about which nothing is known at first: it follows every device at once, with each set of habits, and takes no
+/// memory beyond its own 3,080 bytes.
 #[derive(Debug, PartialEq, Eq)]
 pub struct Judge {
-    // Up to the first departure both are the same, and `since` is not used.
+    // Up to the first departure both lists are the same, and `since` is not used.
     has_departed: bool,
     since: Places,
     whole: Places,
 }
 
-/// The departure at an event, if no device without habits is left after it.
+/// Returns the departure at `event`, if no device without habits is left in `after`; else None.
 fn departure(before: &Places, after: &Places, event: &LogEvent) -> Option<Departure> {
     if is_any_held(after, 0) {
         return None;
@@ -30,7 +30,7 @@ fn departure(before: &Places, after: &Places, event: &LogEvent) -> Option<Depart
 }
 
 impl Judge {
-    /// A judge of a device about which nothing is known: it may be anywhere.
+    /// Returns a judge before the first event, of a device about which nothing is known, and which may be at every place.
     pub fn new() -> Judge {
         Judge {
             has_departed: false,
@@ -39,7 +39,7 @@ impl Judge {
         }
     }
 
-    /// An event comes. If no device of the standard is left, it returns the departure, and from then on the device may be
+    /// Takes the next event. Returns the departure if no device of the standard is left after `event`, and from then on the device may be
     /// anywhere again, for departures; for the verdict nothing changes.
     pub fn take(&mut self, event: &LogEvent) -> Option<Departure> {
         let whole = step(&self.whole, event);
@@ -73,7 +73,7 @@ impl Judge {
         }
     }
 
-    /// The verdict on all events that came.
+    /// Returns the verdict on all events that were taken.
     pub fn verdict(&self) -> Verdict {
         if is_any_held(&self.whole, 0) {
             return Verdict::Kept;
@@ -84,13 +84,14 @@ impl Judge {
         }
     }
 
-    /// If the device may be now if it has this set of readings, 0 to 63: by place, in the order of `StandardState`.
+    /// Returns for each place whether the device may be there now if it has the set `readings`, 0 to 63. The places are in the order of
+    /// `StandardState`.
     pub fn places(&self, readings: u8) -> [bool; 12] {
         places_of(&self.whole, readings)
     }
 
-    /// The places where a device without habits may be now, by the events since the last departure, in the order of
-    /// `StandardState`.
+    /// Returns for each place whether a device without habits may be there now, by the events since the last departure. The places are in
+    /// the order of `StandardState`.
     pub fn standing(&self) -> [bool; 12] {
         if self.has_departed {
             places_of(&self.since, 0)

@@ -5,12 +5,12 @@
 use crate::conformance::Response;
 use crate::wire::Setup;
 
-/// The first space of a line.
+/// Returns the index of the first space of `line`; None if it has none.
 fn first_space(line: &[u8]) -> Option<usize> {
     line.iter().position(|byte| *byte == b' ')
 }
 
-/// Returns the end of the first field of a line: its first space, or the line's end.
+/// Returns the end of the first field of `line`: its first space, or the line's end.
 pub(crate) fn field_end(line: &[u8]) -> usize {
     match first_space(line) {
         Some(at) => at,
@@ -18,7 +18,7 @@ pub(crate) fn field_end(line: &[u8]) -> usize {
     }
 }
 
-/// The value of a hexadecimal digit of either case, and 16 of any other byte.
+/// Returns the value of hexadecimal digit `byte`, of either case, and 16 for any other byte.
 fn value_of(byte: u8) -> u8 {
     match byte {
         b'0'..=b'9' => byte - b'0',
@@ -28,12 +28,12 @@ fn value_of(byte: u8) -> u8 {
     }
 }
 
-/// Returns whether all bytes are hexadecimal digits.
+/// Returns true if all bytes of `text` are hexadecimal digits.
 fn are_digits(text: &[u8]) -> bool {
     text.iter().all(|byte| value_of(*byte) < 16)
 }
 
-/// Returns whether a text is bytes, pairs of hexadecimal digits, at most 65,535 of them.
+/// Returns true if `text` is bytes, pairs of hexadecimal digits, at most 65,535 of them.
 fn is_bytes(text: &[u8]) -> bool {
     if text.len() > 131_070 {
         return false;
@@ -44,7 +44,7 @@ fn is_bytes(text: &[u8]) -> bool {
     are_digits(text)
 }
 
-/// The byte of pair n of digits, or 0 if there are fewer.
+/// Returns the byte that pair `n` of the hexadecimal digits of `text` makes, or 0 if `text` ends before it does.
 fn byte_at(text: &[u8], n: usize) -> u8 {
     if 2 * n + 1 >= text.len() {
         return 0;
@@ -54,12 +54,12 @@ fn byte_at(text: &[u8], n: usize) -> u8 {
     ((16 * high + low) % 256) as u8
 }
 
-/// A number of two bytes, the low byte first.
+/// Returns the number that the pairs `n` and `n` + 1 of `text` make, the low byte first.
 fn number_at(text: &[u8], n: usize) -> u16 {
     byte_at(text, n) as u16 + 256 * byte_at(text, n + 1) as u16
 }
 
-/// A setup: sixteen digits.
+/// Returns the setup that `text` says in sixteen hexadecimal digits; None if `text` is anything else.
 pub(crate) fn setup_of(text: &[u8]) -> Option<Setup> {
     if !is_bytes(text) || text.len() != 16 {
         return None;
@@ -73,7 +73,7 @@ pub(crate) fn setup_of(text: &[u8]) -> Option<Setup> {
     })
 }
 
-/// Returns the bytes of a body: half as many as its text has digits, or 0 if its text is a dash.
+/// Returns the number of bytes of the body `text`: half as many as it has digits, or 0 for a dash; None if it is no body.
 pub(crate) fn body_of(text: &[u8]) -> Option<usize> {
     if text == b"-".as_slice() {
         return Some(0);
@@ -84,7 +84,7 @@ pub(crate) fn body_of(text: &[u8]) -> Option<usize> {
     Some(text.len() / 2)
 }
 
-/// An answer: a word, or the bytes that came.
+/// Reads `text` as an answer: a word, or the bytes that came; None if it is neither.
 pub(crate) fn answer_of(text: &[u8]) -> Option<Response> {
     if text == b"ack".as_slice() {
         return Some(Response::Bytes {

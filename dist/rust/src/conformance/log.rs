@@ -9,35 +9,35 @@ use crate::wire::Setup;
 /// Content of a line of a log.
 #[derive(Clone, Copy, Debug, PartialEq, Eq)]
 pub enum Line {
-    /// Nothing: it is empty, or begins with `#`.
+    /// The line says nothing, because it is empty or begins with `#`.
     Blank,
     /// A request that is no request of the class, or one for another interface.
     Elsewhere,
-    /// Event that came to the device.
+    /// An event that came to the device.
     Came(LogEvent),
 }
 
 /// Fault of a line that is not a line of a log.
 #[derive(Clone, Copy, Debug, PartialEq, Eq)]
 pub enum LineFault {
-    /// It has over 262,158 bytes: only a comment may be longer.
+    /// The line has over 262,158 bytes: only a comment may be longer.
     Long,
-    /// Its first field is no setup.
+    /// The first field is no setup.
     Setup,
-    /// Its second field is no body.
+    /// The second field is no body.
     Body,
-    /// The rest after its second field is no answer.
+    /// The rest behind the second field is no answer.
     Answer,
 }
 
-/// Nothing is answered to a reset, nor to power.
+/// Answer to a reset or to power: none.
 const SILENT: Response = Response::Bytes {
     count: 0,
     first: 0,
     fifth: 0,
 };
 
-/// The first field of a line, and what follows its space.
+/// Returns the first field of `line`, and the bytes after the space that ends it.
 fn parts(line: &[u8]) -> (&[u8], &[u8]) {
     let end = field_end(line);
     let rest = if end < line.len() {
@@ -55,7 +55,7 @@ fn parts(line: &[u8]) -> (&[u8], &[u8]) {
 /// - `reset` and `power`;
 /// - an empty line, or one that begins with `#`.
 ///
-/// `None` for any other line. Bytes are at most 65,535.
+/// `None` for any other line. A body and an answer have at most 65,535 bytes each.
 pub fn read_line(interface: u8, line: &[u8]) -> Option<Line> {
     if begins_blank(line) {
         return Some(Line::Blank);
@@ -71,7 +71,7 @@ pub fn read_line(interface: u8, line: &[u8]) -> Option<Line> {
     request_of(interface, setup_of(setup), body_of(body), answer_of(answer))
 }
 
-/// The first wrong field of a line that `read_line` can't read.
+/// Returns the first wrong field of `line`, which `read_line` can't read.
 pub fn why_unread(line: &[u8]) -> LineFault {
     let (setup, rest) = parts(line);
     let (body, _) = parts(rest);
@@ -84,7 +84,7 @@ pub fn why_unread(line: &[u8]) -> LineFault {
     LineFault::Answer
 }
 
-/// Returns whether a line says nothing.
+/// Returns true if `line` says nothing.
 fn begins_blank(line: &[u8]) -> bool {
     match line {
         [] => true,
@@ -92,7 +92,7 @@ fn begins_blank(line: &[u8]) -> bool {
     }
 }
 
-/// A reset or power.
+/// Returns the event of a line of a reset or of power, as `asked` says.
 fn mark(asked: EventKind) -> LogEvent {
     LogEvent {
         asked,
@@ -102,7 +102,7 @@ fn mark(asked: EventKind) -> LogEvent {
     }
 }
 
-/// A request by its fields.
+/// Returns the line of a request, by its fields `setup`, `body` and `answer`; None if one of them can't be read.
 fn request_of(
     interface: u8,
     setup: Option<Setup>,
@@ -121,7 +121,7 @@ fn request_of(
     }
 }
 
-/// A request for interface 0.
+/// Returns the line of a request with `setup`, a body of `body` bytes and `answer`: Elsewhere if it is none of the class for interface 0.
 fn line_of(setup: &Setup, body: usize, answer: Response) -> Line {
     match LogEvent::exchange(setup, body, answer) {
         Some(event) => Line::Came(event),

@@ -12,7 +12,7 @@ use crate::conformance::row::Gives::Silent;
 use crate::conformance::row::Source::{A, Open};
 use crate::conformance::row::When::Always;
 
-// The rows of a device at a place, at a reset of the bus or power: one for each place that it may come up in.
+// The rows of a device at a place, at a reset of the bus or power: one for each place in which it may come up.
 macro_rules! marks {
     ($($from:ident, $asked:ident => $($next:ident)|+, $source:ident;)+) => {
         [$($(row!($from, $asked, Always, Silent, $next, $source),)+)+]

@@ -14,8 +14,8 @@ use crate::conformance::row::Gives::{Ack, Full, Short, Stall, State, Status};
 use crate::conformance::row::Source::{A, Open};
 use crate::conformance::row::When::{Always, CanDownload, CanUpload, Tolerant};
 
-/// Answers that a device that keeps the standard may give: where it is, what it is asked, for which devices the row is, what it answers,
-/// where it is then, and where the standard says so.
+/// Answers that a device that keeps the standard may give: where the device is, what comes, for which devices the row is, what they answer,
+/// where they are then, and where the standard has it.
 #[rustfmt::skip]
 pub static STANDARD: [Row; 126] = [
     // State 0, appIDLE.

@@ -4,7 +4,7 @@
 
 use crate::conformance::{Judge, LogEvent, Verdict};
 
-/// The verdict on these events, for a device about which nothing is known.
+/// Returns the verdict on `events`, for a device about which nothing is known.
 pub fn verdict_on(events: &[LogEvent]) -> Verdict {
     let mut judge = Judge::new();
     for event in events {

@@ -11,11 +11,11 @@ use crate::slots::{Medium, Slots};
 /// Answer of a device to a setup. The bytes of an answer are in the buffer that the caller gave.
 #[derive(Clone, Copy, Debug, PartialEq, Eq)]
 pub enum Answer {
-    /// The request is acknowledged; there are no bytes.
+    /// Acknowledges the request; there are no bytes.
     Ack,
     /// The request is answered with the bytes in the buffer, which may be none.
     Bytes,
-    /// The request is stalled; there are no bytes.
+    /// Stalls the request; there are no bytes.
     Stall,
 }
 
@@ -37,7 +37,7 @@ pub(crate) enum PendingAnswer {
     Stall,
 }
 
-/// The pending answer of a reply to a request for so many bytes.
+/// Returns the pending answer of a reply to a request for `asked` bytes.
 pub(crate) fn pending_answer_of(reply: Reply, asked: u16) -> PendingAnswer {
     match reply {
         Reply::Ack => PendingAnswer::Ack,
@@ -48,21 +48,21 @@ pub(crate) fn pending_answer_of(reply: Reply, asked: u16) -> PendingAnswer {
 }
 
 impl<M: Medium> DeviceCore<M> {
-    /// Answers a setup with its body.
+    /// Answers `setup` with its `body`, and writes the bytes of the answer to `out`.
     pub(crate) fn handle(
         &mut self,
         setup: &[u8; 8],
         body: &[u8],
         out: &mut ArrayVec<u8, 4096>,
     ) -> Answer {
-        // (The proof needs this call, and nothing else does.)
+        // Calls `transfer` for its clause `fits`, which `give` needs.
         let _ = self.config.transfer();
         let pending_answer = self.pending_answer(setup, body);
         out.clear();
         self.give(pending_answer, out)
     }
 
-    /// Puts the bytes of an answer into an empty buffer.
+    /// Writes the bytes of `pending_answer` to `out`, an empty buffer.
     fn give(&self, pending_answer: PendingAnswer, out: &mut ArrayVec<u8, 4096>) -> Answer {
         match pending_answer {
             PendingAnswer::Ack => Answer::Ack,
@@ -88,7 +88,7 @@ impl<M: Medium> DeviceCore<M> {
         }
     }
 
-    /// Returns the bytes that the image has from `place` on, at most `len`.
+    /// Returns how many bytes the image has from `place` on, at most `len`.
     #[inline(never)]
     pub(crate) fn piece_len(&self, place: u32, len: u16) -> u16 {
         let rest = self.slots.active_len().saturating_sub(place);
@@ -96,7 +96,7 @@ impl<M: Medium> DeviceCore<M> {
     }
 }
 
-/// Copies so many bytes of the active image, from `place` on.
+/// Copies `count` bytes of the active image, from `place` on.
 fn copy_image<M: Medium>(slots: &Slots<M>, place: u32, count: u16, out: &mut ArrayVec<u8, 4096>) {
     let mut buffer = [0; 4096];
     let piece = &mut buffer[..count as usize];

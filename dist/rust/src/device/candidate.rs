@@ -10,16 +10,16 @@ use crate::slots::Medium;
 /// the medium, are held back in memory (`Slots::held`).
 #[derive(Clone, Copy, Debug, PartialEq, Eq)]
 pub struct Candidate {
-    /// Place of its first byte on the medium.
+    /// Place of the image's first byte on the medium.
     pub at: u32,
-    /// Number of its bytes that are there.
+    /// Number of the image's bytes on the medium.
     pub stored: u32,
 }
 
 impl<M: Medium> Device<M> {
-    /// Returns the place of the received image, for a program that checks it before it calls `refuse_close` or `refuse`, or neither. It is
-    /// Some in dfuDNLOAD-IDLE, in dfuMANIFEST-SYNC before it is complete, and in dfuMANIFEST, else None. It reads and writes no byte of the
-    /// medium.
+    /// Returns the place of the received image, for a program that checks it before it calls `refuse_close` or `refuse`, or neither. The
+    /// place is Some in dfuDNLOAD-IDLE, in dfuMANIFEST-SYNC before it is complete, and in dfuMANIFEST, else None. The call reads and
+    /// writes no byte of the medium.
     pub fn candidate(&self) -> Option<Candidate> {
         self.core.candidate()
     }
@@ -29,7 +29,7 @@ impl<M: Medium> DeviceCore<M> {
     // Returns the place of the received image.
     fn candidate(&self) -> Option<Candidate> {
         let len = self.mode.candidate_len()?;
-        // (The proof needs this call, and nothing else does.)
+        // Calls `held` for its clause `store`: fewer bytes are held back than make a whole unit.
         let _ = self.slots.held();
         let medium = self.slots.medium();
         let half = medium.len() / 2;

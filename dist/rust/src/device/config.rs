@@ -7,22 +7,22 @@ use crate::wire::{Functional, Ids};
 use core::fmt;
 use thiserror::Error;
 
-/// Times of the flash of a device, and the steps in which it is written. A status then says the time of the block or of the image that it
-/// stands for: the erases and programs that are due for it, beside `busy_ms` or `manifest_ms`.
+/// Times of the flash of a device, and the steps in which it is written. With it a status says the time of its own block or image: of the
+/// erases and programs that are due, beside `busy_ms` or `manifest_ms`.
 #[derive(Clone, Copy, Debug, PartialEq, Eq)]
 pub struct Pace {
     /// Milliseconds to erase a sector.
     pub erase_ms: u16,
     /// Milliseconds to program 256 bytes.
     pub program_ms: u16,
-    /// The unit in which it is written.
+    /// Unit in which the flash is written.
     pub unit: Unit,
-    /// Bytes that are erased at a time; 0 if it is written over in place.
+    /// Bytes that are erased at a time; 0 if the flash is overwritten in place.
     pub sector: u32,
 }
 
 impl Pace {
-    /// Erases and programs take no time of their own.
+    /// Returns a pace at which erases and programs take no time.
     pub fn none() -> Pace {
         Pace {
             erase_ms: 0,
@@ -33,11 +33,11 @@ impl Pace {
     }
 }
 
-/// Settings of a device: who it is, its functional descriptor, the fewest bytes of an image (1 to 16,777,216), how long it takes to write a
-/// block and to put an image in place (0 to 16,777,215 ms; at least 1 ms for an image if the device is not tolerant of manifestation), and
-/// the pace of its flash.
+/// Settings of a device: its identifiers, its functional descriptor, the fewest bytes of an image (1 to 16,777,216), how long it takes to
+/// write a block and to put an image in place (0 to 16,777,215 ms; at least 1 ms for an image if the device is not tolerant of
+/// manifestation), and the pace of its flash.
 ///
-/// Without a pace both times are to have room for the erases of a medium with sectors: a block takes at most one, and one more for each
+/// Without a pace both times must have room for the erases of a medium with sectors: a block takes at most one, and one more for each
 /// sector that begins in the transfer size and a unit; an image takes two or three.
 #[derive(Clone, Copy, Debug, PartialEq, Eq)]
 pub struct Config {
@@ -49,7 +49,7 @@ pub struct Config {
     pace: Pace,
 }
 
-/// Faults for which a device cannot be set up, in the order in which they are checked.
+/// A fault for which a device cannot be set up. The faults are checked in this order.
 #[derive(Clone, Copy, Debug, PartialEq, Eq, Error)]
 pub enum ConfigFault {
     /// The transfer size of the functional descriptor is 0 or over 4,096 bytes.
@@ -81,17 +81,17 @@ pub struct Profile {
     pub least: u32,
     /// Time of each block beside the erases and programs of the flash, in milliseconds.
     pub busy_ms: u32,
-    /// Time of each image beside them, in milliseconds.
+    /// Time of each image beside the erases and programs of the flash, in milliseconds.
     pub manifest_ms: u32,
     /// Time of the flash for an erase and for a program.
     pub pace: Pace,
-    /// The most bytes of an image.
+    /// Largest number of bytes of an image.
     pub capacity: u64,
 }
 
 impl Config {
-    /// A configuration of these values; the version of the descriptor becomes 0110h. The faults, in
-    /// the order in which they are checked:
+    /// Makes a configuration; the version of the descriptor becomes 0110h. The faults, in the order in which
+    /// they are checked:
     ///
     /// 1. `BadTransfer`: the transfer size is 0 or over 4,096.
     /// 2. `BadPoll`: a time is over 16,777,215, or `manifest_ms` is 0 and the device is not tolerant.
@@ -128,27 +128,27 @@ impl Config {
         })
     }
 
-    /// Returns these settings with the times of the flash.
+    /// Returns the settings with the times of the flash by `pace`.
     pub fn with_pace(self, pace: Pace) -> Config {
         Config { pace, ..self }
     }
 
-    /// Who the device is.
+    /// Returns the identifiers of the device.
     pub(crate) fn ids(&self) -> Ids {
         self.ids
     }
 
-    /// The functional descriptor.
+    /// Returns the functional descriptor.
     pub fn functional(&self) -> Functional {
         self.functional
     }
 
-    /// The most bytes of a block.
+    /// Returns the most bytes of a block.
     pub(crate) fn transfer(&self) -> u16 {
         self.functional.transfer
     }
 
-    /// The fewest bytes of an image.
+    /// Returns the fewest bytes of an image.
     pub fn least(&self) -> u32 {
         self.least
     }
@@ -163,12 +163,12 @@ impl Config {
         self.manifest_ms
     }
 
-    /// The times of its flash.
+    /// Returns the times of the device's flash.
     pub(crate) fn pace(&self) -> Pace {
         self.pace
     }
 
-    /// Returns the profile that the table reads of a device that is set up like this, with room for images of so many bytes.
+    /// Returns the profile that the table reads of a device with the settings and with room for images of `capacity` bytes.
     pub fn profile(&self, capacity: u64) -> Profile {
         Profile {
             functional: self.functional(),

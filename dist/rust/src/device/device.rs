@@ -45,20 +45,20 @@ use crate::wire::{Code, Functional, Ids, State};
 ///   from the bus. In dfuMANIFEST-WAIT-RESET it waits for its maker or the host to reset it.
 #[derive(Debug, PartialEq, Eq)]
 pub struct Device<M: Medium> {
-    // A layer of its own: its functions read its fields, which keep an invariant, and a caller of
-    // `Device` sees one plain value, `DeviceView`, and not those fields.
+    // Keeps the fields in a layer of its own, because its functions read them and keep their invariant, while
+    // a caller of `Device` sees one plain value, `DeviceView`.
     pub(crate) core: DeviceCore<M>,
 }
 
 impl<M: Medium> Device<M> {
-    /// A device in appIDLE.
+    /// Returns a device with `config` in appIDLE, on `slots`.
     pub fn start(config: Config, slots: Slots<M>) -> Device<M> {
         Device {
             core: DeviceCore::start(config, slots, ArrayVec::new()),
         }
     }
 
-    /// A device that is powered on: in appIDLE, on a medium that it opens and does not write.
+    /// Powers a device on: in appIDLE, on a medium that the call opens and does not write.
     ///
     /// # Errors
     ///
@@ -75,7 +75,7 @@ impl<M: Medium> Device<M> {
         Ok(Device::start(config, slots))
     }
 
-    /// The power goes and comes back: the device starts anew on its medium as it is, in place, as `power_on` starts one on what
+    /// Lets the power go and come back: the device starts anew in place, on its medium as it is, just as `power_on` starts one on what
     /// `into_medium` gives back. A restart is never refused.
     pub fn restart(&mut self) {
         self.core.mode = DeviceState::AppIdle;
@@ -88,35 +88,37 @@ impl<M: Medium> Device<M> {
         self.core.handle(setup, body, out)
     }
 
-    /// This many milliseconds pass; 0 changes nothing. They count in appDETACH, dfuDNBUSY and dfuMANIFEST,
-    /// and add up there from the moment the state was entered (USB DFU 1.1, appendix A). A call makes at
-    /// most one change; the rest of its time is dropped. In every other state a call changes nothing, and
-    /// may be left out.
+    /// Lets `ms` milliseconds pass; 0 changes nothing. The time counts in appDETACH, dfuDNBUSY and dfuMANIFEST,
+    /// and adds up there from the moment the state was entered (USB DFU 1.1, appendix A). A call makes at
+    /// most one change; the rest of its time is dropped. In every other state a call changes nothing, and may
+    /// be left out.
     pub fn elapse(&mut self, ms: u32) {
         self.core.elapse(ms);
     }
 
-    /// The bus is reset: appDETACH goes to dfuIDLE, every other state to appIDLE (USB DFU 1.1, appendix A).
+    /// Reports a reset of the bus: appDETACH goes to dfuIDLE, every other state to appIDLE (USB DFU 1.1,
+    /// appendix A).
     pub fn usb_reset(&mut self) {
         self.core.mode = self.core.mode.after_reset();
     }
 
-    /// The state of the standard (USB DFU 1.1, section 6.1.2, bState).
+    /// Returns the state of the standard (USB DFU 1.1, section 6.1.2, bState).
     pub fn state(&self) -> State {
         self.core.mode.state()
     }
 
-    /// The status code: that of dfuERROR, and OK in every other state (USB DFU 1.1, section 6.1.2, bStatus).
+    /// Returns the status code: the code of dfuERROR, and OK in every other state (USB DFU 1.1, section
+    /// 6.1.2, bStatus).
     pub fn code(&self) -> Code {
         self.core.mode.code()
     }
 
-    /// The functional descriptor (USB DFU 1.1, section 4.1.3), with version 0110h.
+    /// Returns the functional descriptor (USB DFU 1.1, section 4.1.3), with version 0110h.
     pub fn functional(&self) -> Functional {
         self.core.config.functional()
     }
 
-    /// Who the device is.
+    /// Returns the identifiers of the device.
     pub fn ids(&self) -> Ids {
         self.core.config.ids()
     }
@@ -126,15 +128,15 @@ impl<M: Medium> Device<M> {
         self.core.config
     }
 
-    /// The slot store. Until the bytes taken are put in place they are at the front of the data of its spare slot, except for a block that
-    /// is not written yet. The store's view is meant: if the medium's unit is over 1 byte, the last of them may be held in memory until
-    /// their unit is full.
+    /// Returns the slot store. Until the bytes taken are put in place they are at the front of the data of its spare slot, except for a
+    /// block that is not written yet. The store's view is meant: if the medium's unit is over 1 byte, the last of them may be held in
+    /// memory until their unit is full.
     pub fn slots(&self) -> &Slots<M> {
         &self.core.slots
     }
 
-    /// Power off: returns the medium as it is. It has an active image, so `power_on` is never
-    /// refused on it.
+    /// Powers the device off and returns the medium as it is. The medium has an active image, so `power_on`
+    /// is never refused on it.
     pub fn into_medium(self) -> M {
         self.core.slots.into_medium()
     }

@@ -18,8 +18,7 @@ fn hold(block: &mut ArrayVec<u8, 4096>, bytes: &[u8]) {
     let _ = block.try_extend_from_slice(bytes);
 }
 
-/// The core of a device: what is fixed, the slot store, the state, and the block that is not
-/// written yet.
+/// The core of a device: its fixed settings, its slot store, its mode, and the block that is not written yet.
 #[derive(Debug, PartialEq, Eq)]
 pub struct DeviceCore<M: Medium> {
     pub config: Config,
@@ -29,9 +28,9 @@ pub struct DeviceCore<M: Medium> {
 }
 
 impl<M: Medium> DeviceCore<M> {
-    /// A core in appIDLE.
+    /// Returns a core with `config` in appIDLE, on `slots`, with the memory of `block`.
     pub(crate) fn start(config: Config, slots: Slots<M>, block: ArrayVec<u8, 4096>) -> DeviceCore<M> {
-        // (The proof needs this call, and nothing else does.)
+        // Calls `capacity` for its clauses, by which the store has the shape that the core must keep.
         let _ = slots.capacity();
         DeviceCore {
             config,
@@ -41,18 +40,18 @@ impl<M: Medium> DeviceCore<M> {
         }
     }
 
-    /// Returns the settings that the table reads of it.
+    /// Returns the settings that the table reads.
     fn profile(&self) -> Profile {
         self.config.profile(u64::from(self.slots.capacity()))
     }
 
-    /// Returns the answer to a setup with its body: the three rules before the table, then the table.
+    /// Returns the answer to `setup` with its `body`: the three rules before the table, then the table.
     pub(crate) fn pending_answer(&mut self, setup: &[u8; 8], body: &[u8]) -> PendingAnswer {
         let (decision, asked) = asked_row(&self.profile(), self.mode, setup, body);
         self.carry_out(decision, asked, body)
     }
 
-    /// Carries a decision out, with the body of its request, which asks for so many bytes of a status or of a state.
+    /// Performs `decision`. `asked` is the number of bytes of a status or a state that the request asks for, and `body` is its body.
     pub(crate) fn carry_out(&mut self, decision: Decision, asked: u16, body: &[u8]) -> PendingAnswer {
         match decision {
             Decision::Sure { reply, mode } => {
@@ -60,7 +59,7 @@ impl<M: Medium> DeviceCore<M> {
                 pending_answer_of(reply, asked)
             }
             Decision::Holds { mode } => {
-                // (The proof needs this call, and nothing else does.)
+                // Calls `transfer` for its clause `fits`: the body of a block finds room.
                 let _ = self.config.transfer();
                 hold(&mut self.block, body);
                 self.mode = mode;
@@ -94,7 +93,7 @@ impl<M: Medium> DeviceCore<M> {
         }
     }
 
-    /// The mode after these bytes of the image are sent: fewer than `size` are the last ones.
+    /// Returns the mode after a piece of the image is sent; a piece of fewer than `size` bytes is the last.
     fn after_piece(&self, place: u32, size: u16, number: u16) -> DeviceState {
         if self.piece_len(place, size) < size {
             return DeviceState::DfuIdle;
@@ -105,7 +104,7 @@ impl<M: Medium> DeviceCore<M> {
         }
     }
 
-    /// This many milliseconds pass.
+    /// Lets `ms` milliseconds pass.
     pub(crate) fn elapse(&mut self, ms: u32) {
         let block_len = self.block.as_slice().len();
         let decision = decide_time(&self.profile(), self.mode, block_len, ms);

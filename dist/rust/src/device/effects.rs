@@ -1,6 +1,6 @@
 // Of crates/dfu_device/src/effects.rt, whose contracts are taken away.
 
-//! Effects of a device on its slot store: it writes a block, or makes the bytes taken the active image.
+//! Effects of a device on its slot store: a block is written, or the bytes taken become the active image.
 
 use crate::device::device_core::DeviceCore;
 use crate::device::device_state::DeviceState;
@@ -36,8 +36,8 @@ impl<M: Medium> DeviceCore<M> {
         }
     }
 
-    /// Makes the bytes taken the active image, and goes on to the next state. It returns the fault if a
-    /// write had one.
+    /// Makes the bytes taken the active image, and goes on to the next state. Returns the fault if a write
+    /// had one.
     pub(crate) fn commit_taken(&mut self, written: u32, next: DeviceState) -> Result<(), WriteFault> {
         match self.slots.commit(written) {
             Ok(()) => {
@@ -55,7 +55,7 @@ impl<M: Medium> DeviceCore<M> {
     }
 }
 
-/// The fault of the write that broke off a call of the slot store.
+/// Returns the fault of the write that broke off a call of the slot store with `fault`.
 fn write_fault(fault: PutFault) -> WriteFault {
     match fault {
         PutFault::NotVerified => WriteFault::NotVerified,
@@ -63,7 +63,7 @@ fn write_fault(fault: PutFault) -> WriteFault {
     }
 }
 
-/// The status code of a block whose write had this fault.
+/// Returns the status code of `fault` in a block's write.
 fn write_code(fault: WriteFault) -> Code {
     match fault {
         WriteFault::Failed => Code::Write,
@@ -71,7 +71,7 @@ fn write_code(fault: WriteFault) -> Code {
     }
 }
 
-/// The status code of a commit in which a write had this fault.
+/// Returns the status code of `fault` in a commit's write.
 fn commit_code(fault: WriteFault) -> Code {
     match fault {
         WriteFault::Failed => Code::Prog,

@@ -4,36 +4,35 @@
 
 use crate::device::device_state::DeviceState;
 
-/// Facts of a slot store that decide whether a mode goes with it.
+/// Facts of a slot store that decide if a mode fits it.
 #[derive(Clone, Copy, Debug, PartialEq, Eq)]
 pub struct PutSoFar {
-    /// The most bytes of an image.
+    /// Largest number of bytes of an image.
     pub room: u32,
-    /// Tells whether the gate of the spare slot is closed.
+    /// The gate of the spare slot is closed.
     pub begun: bool,
     /// Place at which the puts end.
     pub end: u32,
 }
 
-// Returns whether so many bytes were put in the closed spare, and no more.
+// Returns whether exactly `written` bytes were put in the closed spare.
 fn is_put(seen: PutSoFar, written: u32) -> bool {
     seen.begun && seen.end == written
 }
 
-// Returns whether all is written, and some of it.
+// Returns whether all bytes taken are written, at least one.
 fn is_written(seen: PutSoFar, written: u32) -> bool {
     0 < written && written <= seen.room && is_put(seen, written)
 }
 
-// Returns whether there is room for a block of so many bytes after the bytes that are written.
+// Returns whether a block of `block` bytes has room after the bytes that are written.
 fn is_next(seen: PutSoFar, written: u32, block: usize) -> bool {
     0 < block
         && u64::from(written) + block as u64 <= u64::from(seen.room)
         && (written == 0 || is_put(seen, written))
 }
 
-/// Returns whether a mode, with a block of so many bytes that is not written, goes with what was put in each slot store that looks like
-/// this.
+/// Returns whether a mode, with a block of `block` bytes that is not written, fits what was put in the slot store.
 ///
 /// # What the caller must keep to
 ///

@@ -1,13 +1,13 @@
 // Of crates/dfu_device/src/plans.rt, whose contracts are taken away.
 
-//! The words in which the device table says what is done, and the rows of DNLOAD and UPLOAD.
+//! The decisions from which the device table is made, and the rows of DNLOAD and UPLOAD.
 
 use crate::device::config::Profile;
 use crate::device::decision::{Decision, Reply};
 use crate::device::device_state::DeviceState;
 use crate::wire::Code;
 
-/// The request is acknowledged, and this mode entered.
+/// Returns the decision that acknowledges the request and enters `mode`.
 pub(crate) fn ack(mode: DeviceState) -> Decision {
     Decision::Sure {
         reply: Reply::Ack,
@@ -15,7 +15,7 @@ pub(crate) fn ack(mode: DeviceState) -> Decision {
     }
 }
 
-/// The request is stalled, and this mode entered.
+/// Returns the decision that stalls the request and enters `mode`.
 pub(crate) fn stall(mode: DeviceState) -> Decision {
     Decision::Sure {
         reply: Reply::Stall,
@@ -23,12 +23,12 @@ pub(crate) fn stall(mode: DeviceState) -> Decision {
     }
 }
 
-/// The request is stalled, and dfuERROR entered with this code.
+/// Returns the decision that stalls the request and enters dfuERROR with `code`.
 pub(crate) fn error(code: Code) -> Decision {
     stall(DeviceState::Error { code })
 }
 
-/// GETSTATUS is answered with the status of the mode that is entered.
+/// Returns the decision that answers GETSTATUS with the status of `mode`, which the device enters.
 pub(crate) fn report(mode: DeviceState) -> Decision {
     Decision::Sure {
         reply: Reply::Status,
@@ -36,7 +36,7 @@ pub(crate) fn report(mode: DeviceState) -> Decision {
     }
 }
 
-/// GETSTATE is answered with the current state.
+/// Returns the decision that answers GETSTATE with the state of `mode`, the current one.
 pub(crate) fn tell(mode: DeviceState) -> Decision {
     Decision::Sure {
         reply: Reply::State,
@@ -44,8 +44,8 @@ pub(crate) fn tell(mode: DeviceState) -> Decision {
     }
 }
 
-/// DNLOAD with wLength over 0, if so many bytes are written and this number is due: the errors in their order, else the block
-/// is kept and counts as taken, not as written.
+/// Decides on a DNLOAD with wBlockNum `number` and wLength `size`, over 0, after `written` bytes, with `expected` as the number that is
+/// due: the errors in their order, else the block is kept and counts as taken, not as written.
 fn block(profile: &Profile, written: u32, expected: u16, number: u16, size: u16) -> Decision {
     if size > profile.functional.transfer {
         return error(Code::StalledPkt);
@@ -64,7 +64,7 @@ fn block(profile: &Profile, written: u32, expected: u16, number: u16, size: u16)
     }
 }
 
-/// DNLOAD in dfuIDLE: the first block has number 0.
+/// Decides on a DNLOAD with wBlockNum `number` and wLength `size` in dfuIDLE: the first block has number 0.
 pub(crate) fn first(profile: &Profile, number: u16, size: u16) -> Decision {
     if !profile.functional.can_download || size == 0 {
         return error(Code::StalledPkt);
@@ -72,7 +72,8 @@ pub(crate) fn first(profile: &Profile, number: u16, size: u16) -> Decision {
     block(profile, 0, 0, number, size)
 }
 
-/// DNLOAD in dfuDNLOAD-IDLE: one with wLength 0 closes the download, if the image is long enough.
+/// Decides on a DNLOAD with wBlockNum `number` and wLength `size` in dfuDNLOAD-IDLE: one with wLength 0 closes the download, if the image
+/// is long enough.
 pub(crate) fn further(
     profile: &Profile,
     written: u32,
@@ -89,7 +90,8 @@ pub(crate) fn further(
     ack(DeviceState::ManifestSync { written })
 }
 
-/// UPLOAD, if so many bytes were sent and this number is due: the errors in their order, else the next bytes of the image.
+/// Decides on an UPLOAD with wBlockNum `number` and wLength `size`, after `place` bytes, with `expected` as the number that is due: the
+/// errors in their order, else the next bytes of the image.
 pub(crate) fn upload(
     profile: &Profile,
     place: u32,

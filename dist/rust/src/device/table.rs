@@ -18,7 +18,7 @@ fn asked_length(request: Request) -> u16 {
     }
 }
 
-// Returns whether a body goes with its setup: it has wLength bytes if the host sends, and none if it reads.
+// Returns whether a body fits its setup: wLength bytes if the host sends, and none if it reads.
 fn goes_with(setup: &Setup, body: &[u8]) -> bool {
     let len = if setup.kind == 0x21 {
         setup.length as usize
@@ -28,7 +28,7 @@ fn goes_with(setup: &Setup, body: &[u8]) -> bool {
     body.len() == len
 }
 
-// Returns whether a request goes by the table: it is one of the class, and its body goes with its setup.
+// Returns whether a request goes by the table: a request of the class, whose body fits its setup.
 fn is_served(setup: &Setup, request: Request, body: &[u8]) -> bool {
     match request {
         Request::NotDfu => false,
@@ -155,10 +155,10 @@ fn in_error(code: Code, request: Request) -> Decision {
     }
 }
 
-/// Returns the decision on a request of the class in a mode: its row of the table. A DNLOAD is to have a body of wLength bytes.
+/// Returns the decision on `request`, one of the class, in `mode`: its row of the table. A DNLOAD must have a body of wLength bytes.
 ///
-/// In dfuDNBUSY and dfuMANIFEST any request is an error, GETSTATUS too, and nothing is written. In dfuMANIFEST-WAIT-RESET any
-/// request is stalled, and the device stays.
+/// In dfuDNBUSY and dfuMANIFEST any request is an error, GETSTATUS too, and nothing is written. In dfuMANIFEST-WAIT-RESET any request is
+/// stalled, and the device stays.
 #[rustfmt::skip]
 pub fn decide(profile: &Profile, mode: DeviceState, request: Request) -> Decision {
     match mode {
@@ -178,9 +178,9 @@ pub fn decide(profile: &Profile, mode: DeviceState, request: Request) -> Decisio
     }
 }
 
-/// Returns the decision on a setup with its body in a mode, and how many bytes of a status or of a state it asks for. A request that is not
-/// one of the class for interface 0, or whose body does not go with it, is stalled and changes nothing; any other one goes by the table
-/// (USB DFU 1.1, section 3 and appendix A).
+/// Returns the decision on `setup` with its `body` in `mode`, and the number of bytes of a status or of a state that it asks for. A
+/// request that is not one of the class for interface 0, or whose body does not go with it, is stalled and changes nothing; any other one
+/// goes by the table (USB DFU 1.1, section 3 and appendix A).
 pub fn asked_row(
     profile: &Profile,
     mode: DeviceState,

@@ -1,14 +1,14 @@
 // Of crates/dfu_device/src/time_table.rt, whose contracts are taken away.
 
-//! The rows of time that passes, as a value (USB DFU 1.1, appendix A): it makes at most one change, and the rest of the time is
-//! dropped. A block and an image take the time of the erases and programs that are due for them.
+//! The rows of time that passes, as values (USB DFU 1.1, appendix A): a time makes at most one change, and the rest of the time
+//! is dropped. A block and an image take the time of the erases and programs that are due for them.
 
 use crate::device::config::{Config, Pace, Profile};
 use crate::device::decision::{Decision, Reply};
 use crate::device::device_state::DeviceState;
 use crate::device::plans::ack;
 
-// Counts the sectors that begin in so many bytes from a place on.
+// Counts the sectors that begin in `count` bytes from `at` on.
 fn edges(sector: u32, at: u32, count: u32) -> u32 {
     let behind = at % sector;
     let rest = if behind == 0 { 0 } else { sector - behind };
@@ -18,7 +18,7 @@ fn edges(sector: u32, at: u32, count: u32) -> u32 {
     (count - rest - 1) / sector + 1
 }
 
-// The time to erase the sectors that begin in so many bytes from a place on, and so many others.
+// Returns the time to erase the sectors that begin in `count` bytes from `at` on, and `others` more.
 fn erases_ms(pace: Pace, at: u32, count: u32, others: u32) -> u32 {
     if pace.sector == 0 {
         return 0;
@@ -26,19 +26,20 @@ fn erases_ms(pace: Pace, at: u32, count: u32, others: u32) -> u32 {
     (edges(pace.sector, at, count) + others) * u32::from(pace.erase_ms)
 }
 
-// The time to program so many bytes.
+// Returns the time to program `count` bytes.
 fn programs_ms(pace: Pace, count: u32) -> u32 {
     (count * u32::from(pace.program_ms) + 255) / 256
 }
 
-// The time to write so many bytes from a place in a slot's data on, and so many gates and headers, at most what fits in bwPollTimeout.
+// Returns the time to write `count` bytes from `at` on in a slot's data, and `others` gates and headers; at most what fits in
+// bwPollTimeout.
 fn writes_ms(pace: Pace, base: u32, at: u32, count: u32, others: u32) -> u32 {
     let erases = erases_ms(pace, at, count, others);
     let programs = programs_ms(pace, count + 256 * others);
     base.saturating_add(erases + programs).min(0xff_ffff)
 }
 
-// The time of a block of so many bytes after those written.
+// Returns the time of a block of `block_len` bytes after `written` ones.
 fn block_ms(pace: Pace, base: u32, written: u32, block_len: usize) -> u32 {
     let unit = pace.unit.size();
     let behind = written % unit;
@@ -47,7 +48,7 @@ fn block_ms(pace: Pace, base: u32, written: u32, block_len: usize) -> u32 {
     writes_ms(pace, base, written - behind, all - all % unit, others)
 }
 
-// The time to put an image of so many bytes in place.
+// Returns the time to put an image of `written` bytes in place.
 fn image_ms(pace: Pace, base: u32, written: u32) -> u32 {
     let unit = pace.unit.size();
     let behind = written % unit;
@@ -55,7 +56,7 @@ fn image_ms(pace: Pace, base: u32, written: u32) -> u32 {
     writes_ms(pace, base, written - behind, count, 2)
 }
 
-/// Returns the time that the host must wait in a mode with a block of so many bytes, in milliseconds (bwPollTimeout).
+/// Returns the milliseconds that the host must wait in a mode with a block of `block_len` bytes (bwPollTimeout).
 pub fn poll_ms(config: &Config, mode: DeviceState, block_len: usize) -> u32 {
     match mode {
         DeviceState::DownloadBusy { written, .. } => {
@@ -85,7 +86,7 @@ fn in_app_detach(profile: &Profile, timer: u32, passed: u32, ms: u32) -> Decisio
     }
 }
 
-// dfuDNBUSY: the block, which has so many bytes, is written once its time has passed.
+// dfuDNBUSY: the block of `block_len` bytes is written once its time has passed.
 fn in_download_busy(
     profile: &Profile,
     written: u32,
@@ -134,8 +135,8 @@ fn in_manifest(profile: &Profile, written: u32, passed: u32, ms: u32) -> Decisio
     })
 }
 
-/// Returns the decision on so many milliseconds in a mode with a block of so many bytes: their row of the table. In the other modes nothing
-/// comes of them.
+/// Returns the decision on `ms` milliseconds in a mode with a block of `block_len` bytes: their row of the table. In the other modes
+/// nothing comes of them.
 pub fn decide_time(profile: &Profile, mode: DeviceState, block_len: usize, ms: u32) -> Decision {
     match mode {
         DeviceState::AppDetach { timer, passed } => in_app_detach(profile, timer, passed, ms),

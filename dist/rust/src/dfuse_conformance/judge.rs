@@ -1,6 +1,6 @@
 // Of crates/dfu_conformance/src/dfuse/judge.rt, whose contracts are taken away.
 
-//! The judge.
+//! The judge of a DfuSe device.
 
 use crate::dfuse_conformance::stands::{Places, is_anywhere, step};
 use crate::conformance::{Departure, LogEvent};
@@ -17,12 +17,13 @@ pub struct DfuseJudge {
 }
 
 impl DfuseJudge {
-    /// A judge of a device about which nothing is known: it may be anywhere.
+    /// Returns a judge before the first event, of a device about which nothing is known, and which may be at every place.
     pub fn new() -> DfuseJudge {
         DfuseJudge { at: EVERYWHERE }
     }
 
-    /// An event comes. If no DfuSe device is left, it returns the departure, and from then on the device may be anywhere again.
+    /// Takes the next event. Returns the departure if no DfuSe device is left after `event`, and from then on the device may be anywhere
+    /// again.
     pub fn take(&mut self, event: &LogEvent) -> Option<Departure> {
         let before = self.at;
         let after = step(&before, event);

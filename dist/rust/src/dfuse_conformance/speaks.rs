@@ -4,7 +4,7 @@
 
 use crate::conformance::{EventKind, LogEvent, Reading, Response, When};
 
-/// Returns whether a DfuSe device may have this habit: bit n of 0Fh is reading n.
+/// Returns true if a DfuSe device may have the habit `reading`: bit n of 0Fh is reading n.
 fn is_habit(reading: Reading) -> bool {
     match reading {
         Reading::Bootloader => true,
@@ -16,8 +16,8 @@ fn is_habit(reading: Reading) -> bool {
     }
 }
 
-/// Returns whether a row or a move that is for these devices is for a DfuSe device: one that can download and upload, isn't tolerant and
-/// detaches by itself (bmAttributes 0Bh), with the habits bootloader, runtime-mute, self-reset and detach-at-once.
+/// Returns true if a row or a move with `when` is for a DfuSe device: one that can download and upload, isn't tolerant and detaches by
+/// itself (bmAttributes 0Bh), with the habits bootloader, runtime-mute, self-reset and detach-at-once.
 pub fn is_of_dfuse(when: When) -> bool {
     match when {
         When::Always => true,
@@ -30,8 +30,8 @@ pub fn is_of_dfuse(when: When) -> bool {
     }
 }
 
-/// Returns whether a request has to be answered: GETSTATUS and GETSTATE as section 3 of USB DFU 1.1 has them. Any other request may be
-/// stalled, and nothing changes.
+/// Returns true if the request of `event` has to be answered: GETSTATUS or GETSTATE as section 3 of USB DFU 1.1 has it. Any other request
+/// may be stalled, and nothing changes.
 pub fn is_told(event: &LogEvent) -> bool {
     match event.asked {
         EventKind::GetStatus => event.is_plain,
@@ -40,8 +40,7 @@ pub fn is_told(event: &LogEvent) -> bool {
     }
 }
 
-/// Returns whether a device may stay where it was: nothing was seen of an answer, or a request was stalled that doesn't have to be
-/// answered.
+/// Returns true if a device may stay where it was at `event`: no answer was seen, or a request was stalled that needs no answer.
 pub(crate) fn may_rest(event: &LogEvent) -> bool {
     match event.answer {
         Response::Nothing => true,

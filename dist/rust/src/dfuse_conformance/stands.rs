@@ -8,30 +8,30 @@ use crate::conformance::{
     DRIFTS, Drift, HABITS, LogEvent, MARKS, Row, STANDARD, StandardState, When, speaks_of,
 };
 
-/// By place, whether a device may be there.
+/// For each place, by its number, true if a device may be there.
 pub(crate) type Places = [bool; 12];
 
-/// A device is led from one place to another, if it may be at the first and is one of those.
+/// Adds place `to` to `after`, if a device may be at `from` by `before` and `when` is true for a DfuSe device.
 fn lead(before: &Places, from: StandardState, when: When, after: &mut Places, to: StandardState) {
     let to = to.number();
     after[to] = after[to] || before[from.number()] && is_of_dfuse(when);
 }
 
-/// Adds the place to which a row leads.
+/// Adds to `after` the place to which `row` leads from `before` by `event`.
 fn go(row: &Row, before: &Places, event: &LogEvent, after: &mut Places) {
     if speaks_of(row, event) {
         lead(before, row.from, row.when, after, row.next);
     }
 }
 
-/// Adds the places to which one of these rows leads.
+/// Adds to `after` the places to which `rows` lead from `before` by `event`.
 fn pass(rows: &[Row], before: &Places, event: &LogEvent, after: &mut Places) {
     for row in rows {
         go(row, before, event, after);
     }
 }
 
-/// Adds the places to which one of these moves leads.
+/// Returns the places of `before`, and those to which `moves` lead from them.
 fn drift(moves: &[Drift], before: &Places) -> Places {
     let mut after = *before;
     for one in moves {
@@ -40,7 +40,7 @@ fn drift(moves: &[Drift], before: &Places) -> Places {
     after
 }
 
-/// The places where a device may have stayed.
+/// Returns the places of `before` where a device may have stayed at `event`.
 fn rest(before: &Places, event: &LogEvent) -> Places {
     if may_rest(event) {
         *before
@@ -49,7 +49,7 @@ fn rest(before: &Places, event: &LogEvent) -> Places {
     }
 }
 
-/// The places where a device may be after an event, if it might be at these before it.
+/// Returns the places where a device may be after `event`, if it was at one of those of `before`.
 pub(crate) fn step(before: &Places, event: &LogEvent) -> Places {
     let mut after = rest(before, event);
     pass(&STANDARD, before, event, &mut after);
@@ -59,7 +59,7 @@ pub(crate) fn step(before: &Places, event: &LogEvent) -> Places {
     drift(&DRIFTS, &after)
 }
 
-/// Returns whether a device may be anywhere.
+/// Returns true if a device may be at any place, by `at`.
 pub(crate) fn is_anywhere(at: &Places) -> bool {
     let mut is_some = false;
     for n in 0..12 {

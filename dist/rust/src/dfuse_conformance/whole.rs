@@ -5,8 +5,8 @@
 use crate::dfuse_conformance::judge::DfuseJudge;
 use crate::conformance::{Departure, LogEvent};
 
-/// The first event that no DfuSe device may have answered so, if nothing is known of it before them: its place in the list, counted
-/// from 0, and the departure. `None` if a DfuSe device may have answered all.
+/// Returns the first departure of `events`, for a DfuSe device about which nothing is known: the index of the event in the list, counted
+/// from 0, and the departure. None if a DfuSe device may have answered all events.
 pub fn first_departure(events: &[LogEvent]) -> Option<(usize, Departure)> {
     let mut judge = DfuseJudge::new();
     for n in 0..events.len() {

@@ -6,7 +6,7 @@ use crate::formats::fault::ImageFault;
 use crate::formats::limits::MAX_RECORD;
 use arrayvec::ArrayVec;
 
-/// The value of a hexadecimal digit of either case, 0 to 15, or 16 if the byte is not one.
+/// Returns the value of hexadecimal digit `byte`, of either case, 0 to 15, or 16 if `byte` is not one.
 pub fn hex_digit(byte: u8) -> u8 {
     match byte {
         b'0'..=b'9' => byte - b'0',
@@ -16,7 +16,7 @@ pub fn hex_digit(byte: u8) -> u8 {
     }
 }
 
-/// The bytes that digits spell, two digits for each.
+/// Returns the bytes that the hexadecimal `digits` spell, two digits for each; None if they spell none.
 fn pairs(digits: &[u8]) -> Option<ArrayVec<u8, MAX_RECORD>> {
     let mut bytes = ArrayVec::new();
     let mut at = 0;
@@ -35,7 +35,7 @@ fn pairs(digits: &[u8]) -> Option<ArrayVec<u8, MAX_RECORD>> {
     Some(bytes)
 }
 
-/// The bytes of a record, from its digits.
+/// Returns the bytes of the record in line `at`, from its `digits`.
 pub(crate) fn bytes_at(at: usize, digits: &[u8]) -> Result<ArrayVec<u8, MAX_RECORD>, ImageFault> {
     if digits.len() > 2 * MAX_RECORD {
         return Err(ImageFault::BadLength(at));
@@ -46,7 +46,7 @@ pub(crate) fn bytes_at(at: usize, digits: &[u8]) -> Result<ArrayVec<u8, MAX_RECO
     }
 }
 
-/// The sum of the bytes of a record.
+/// Returns the sum of `bytes`, the bytes of a record.
 pub(crate) fn sum_of(bytes: &[u8]) -> u32 {
     let mut sum: u32 = 0;
     for byte in bytes {

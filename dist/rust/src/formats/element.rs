@@ -12,7 +12,7 @@ pub struct Element {
 }
 
 impl Element {
-    /// An element of these bytes.
+    /// Returns the element of `bytes`, 1 or more, at `address`. It must end at 2^32 or before.
     pub(crate) fn new(address: u64, bytes: Vec<u8>) -> Element {
         Element {
             address: address as u32,
@@ -20,17 +20,17 @@ impl Element {
         }
     }
 
-    /// The address of the first byte.
+    /// Returns the address of the first byte.
     pub fn address(&self) -> u32 {
         self.address
     }
 
-    /// The bytes.
+    /// Returns the bytes of the element.
     pub fn bytes(&self) -> &[u8] {
         &self.bytes
     }
 
-    /// The address after the last byte, up to 2^32.
+    /// Returns the address after the last byte, up to 2^32.
     pub fn end(&self) -> u64 {
         self.address as u64 + self.bytes.len() as u64
     }

@@ -9,12 +9,12 @@ use crate::formats::numbers::{le16, le32};
 use crate::formats::parts::{ByPart, elements_by_part};
 use crate::memory::{Global, Vec};
 
-/// Returns whether a file has the header of such a file.
+/// Returns true if `file` has the header of an ELF file of 32 bits, little endian.
 fn is_elf(file: &[u8]) -> bool {
     file.len() >= 52 && le32(file, 0) == 0x464c_457f && file[4] == 1 && file[5] == 1 && file[6] == 1
 }
 
-/// The file that segments are read from.
+/// File that has the segments.
 #[derive(Debug, PartialEq, Eq)]
 struct Segments<'t> {
     file: &'t [u8],
@@ -34,7 +34,7 @@ impl ByPart for Segments<'_> {
         }
         let from = le32(header, 4) as usize;
         let address = le32(header, 12) as u64;
-        // A sum of 64 bits, which no two numbers of a header wrap where a usize has 32.
+        // A sum of 64 bits, because two numbers of a header may wrap a usize of 32.
         if from as u64 + count as u64 > self.file.len() as u64 {
             return Err(ImageFault::CutSegment(index));
         }
@@ -47,7 +47,7 @@ impl ByPart for Segments<'_> {
     }
 }
 
-/// The elements of a file.
+/// Reads the elements of ELF file `file`.
 pub fn read(alloc: Global, file: &[u8]) -> Result<Vec<Element>, ImageFault> {
     if !is_elf(file) {
         return Err(ImageFault::NotElf);

@@ -13,7 +13,7 @@ pub enum Ending {
     Dfu,
 }
 
-/// Returns whether a name has this ending, in letters of either case.
+/// Returns whether a name ends in `ending`, in letters of either case.
 fn ends_in(ending: &[u8], name: &[u8]) -> bool {
     if name.len() < ending.len() {
         return false;
@@ -22,7 +22,7 @@ fn ends_in(ending: &[u8], name: &[u8]) -> bool {
     last.eq_ignore_ascii_case(ending)
 }
 
-/// Returns the format that the ending of a name says, if it says one.
+/// Returns the format that the ending of a name says, or `None`.
 pub(crate) fn name_ending(name: &[u8]) -> Option<Ending> {
     if ends_in(b".dfu", name) {
         Some(Ending::Dfu)

@@ -1,6 +1,6 @@
 // Of crates/dfu_formats/src/images/gathering.rt, whose contracts are taken away.
 
-//! Elements, as they are gathered from records.
+//! Elements that grow and are completed as records are read.
 
 use crate::formats::element::Element;
 use crate::formats::fault::ImageFault;
@@ -16,7 +16,7 @@ pub(crate) struct Gathering {
     total: usize,
 }
 
-/// Counts the elements that have an address up to this one, from the front.
+/// Returns the number of `elements`, from the front, that begin at `address` or before it.
 fn place_of(address: u32, elements: &[Element]) -> usize {
     let mut count: usize = 0;
     for element in elements {
@@ -28,7 +28,7 @@ fn place_of(address: u32, elements: &[Element]) -> usize {
     count
 }
 
-/// Puts an element among others by its address.
+/// Puts `element` among `elements` by its address, and returns all.
 fn placed(mut elements: Vec<Element>, element: Element) -> Result<Vec<Element>, ImageFault> {
     let place = place_of(element.address(), &elements);
     match elements.insert(place, element) {
@@ -37,7 +37,7 @@ fn placed(mut elements: Vec<Element>, element: Element) -> Result<Vec<Element>, 
     }
 }
 
-/// The elements with the last one, which has no byte at first, complete.
+/// Adds the element of `bytes` at `address` to `elements`, unless it has no byte, and returns all.
 fn completed(
     elements: Vec<Element>,
     address: u64,
@@ -49,7 +49,7 @@ fn completed(
     placed(elements, Element::new(address, bytes))
 }
 
-/// An element that begins with these bytes.
+/// Begins an element with `bytes` at `address`, after the `complete` elements.
 fn begun(
     alloc: Global,
     at: usize,
@@ -72,7 +72,7 @@ fn begun(
     }
 }
 
-/// The first address that lies before the end of the element before it.
+/// Returns the first address at which an element begins before the element in front of it ends; None if there is none.
 fn shared(elements: &[Element]) -> Option<u32> {
     let mut end: u64 = 0;
     for element in elements {
@@ -85,7 +85,7 @@ fn shared(elements: &[Element]) -> Option<u32> {
 }
 
 impl Gathering {
-    /// Nothing yet.
+    /// Returns a gathering of no element.
     pub(crate) fn new(alloc: Global) -> Gathering {
         Gathering {
             complete: Vec::new(alloc),
@@ -95,7 +95,7 @@ impl Gathering {
         }
     }
 
-    /// Bytes that go on where the last ones end, or begin an element.
+    /// Adds `bytes` at `address`: they go on where the last ones end, or begin an element.
     fn grow(
         self,
         alloc: Global,
@@ -127,7 +127,7 @@ impl Gathering {
         }
     }
 
-    /// Bytes at an address.
+    /// Adds `bytes` at `address`, of line, block or segment number `at`.
     pub(crate) fn add(
         self,
         alloc: Global,
@@ -144,7 +144,11 @@ impl Gathering {
         self.grow(alloc, at, address, bytes)
     }
 
-    /// The elements of all that was gathered.
+    /// Returns the elements of all that was gathered.
+    ///
+    /// # Errors
+    ///
+    /// Overlaps with the first address at which an element begins before the end of the one in front of it.
     pub(crate) fn finish(self) -> Result<Vec<Element>, ImageFault> {
         let Gathering {
             complete,

@@ -15,7 +15,7 @@ use crate::formats::lines::{State, TextFormat, elements_by_line};
 use arrayvec::ArrayVec;
 use crate::memory::{Global, Vec};
 
-/// The bytes of a record, from the text of its line.
+/// Returns the bytes of the record in `line`, which has number `at`: the bytes that the digits behind `:` spell.
 fn spelled(at: usize, line: &[u8]) -> Result<ArrayVec<u8, MAX_RECORD>, ImageFault> {
     match line {
         [b':', digits @ ..] => bytes_at(at, digits),
@@ -23,7 +23,7 @@ fn spelled(at: usize, line: &[u8]) -> Result<ArrayVec<u8, MAX_RECORD>, ImageFaul
     }
 }
 
-/// A record: where its data goes, counted from the base, its type, and its data.
+/// A record: the offset of its data from the base, its type, and its data.
 #[derive(Debug, PartialEq, Eq)]
 struct Record<'t> {
     offset: u32,
@@ -31,7 +31,7 @@ struct Record<'t> {
     content: &'t [u8],
 }
 
-/// A record, from its bytes.
+/// Returns the record that `bytes` are, in line number `at`.
 fn framed(at: usize, bytes: &[u8]) -> Result<Record<'_>, ImageFault> {
     if bytes.len() == 0 {
         return Err(ImageFault::BadLength(at));
@@ -57,7 +57,7 @@ fn leaves_segment(state: &State, said: &Record<'_>) -> bool {
     state.is_segment && said.offset as usize + said.content.len() > 65_536
 }
 
-/// Data at an offset from the base.
+/// Takes the data of record `said`, in line number `at`, at its offset from the base of `state`.
 fn data_at(alloc: Global, at: usize, state: State, said: &Record<'_>) -> Result<State, ImageFault> {
     let address = state.base + said.offset as u64;
     if leaves_segment(&state, said) || address + said.content.len() as u64 > 0x1_0000_0000 {
@@ -69,7 +69,7 @@ fn data_at(alloc: Global, at: usize, state: State, said: &Record<'_>) -> Result<
     }
 }
 
-/// A new base, in units of so many addresses.
+/// Sets a new base, in units of `unit` addresses.
 fn based(at: usize, unit: u64, state: State, said: &Record<'_>) -> Result<State, ImageFault> {
     match said.content {
         [high, low] => Ok(State {
@@ -81,7 +81,7 @@ fn based(at: usize, unit: u64, state: State, said: &Record<'_>) -> Result<State,
     }
 }
 
-/// The state behind a record.
+/// Returns the state after record `said` in line number `at`.
 fn meant(alloc: Global, at: usize, state: State, said: &Record<'_>) -> Result<State, ImageFault> {
     match said.kind {
         0 => data_at(alloc, at, state, said),
@@ -115,7 +115,7 @@ impl TextFormat for IntelHex {
     }
 }
 
-/// The elements of a file.
+/// Reads the elements of Intel HEX file `text`.
 pub fn read(alloc: Global, text: &[u8]) -> Result<Vec<Element>, ImageFault> {
     elements_by_line::<IntelHex>(alloc, text)
 }

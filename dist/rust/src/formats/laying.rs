@@ -8,14 +8,14 @@ use crate::memory::{Global, Vec};
 use core::fmt;
 use thiserror::Error;
 
-/// Faults of elements that do not make an image.
+/// A fault of elements that do not make an image.
 #[derive(Clone, Copy, Debug, PartialEq, Eq, Error)]
 pub enum LayFault {
     /// An allocation was refused.
     NoMemory,
-    /// Nothing has these addresses, from the first up to before the second, and there is nothing to fill them with.
+    /// Nothing has the addresses from the first up to before the second, and no filling is given.
     Gap(u64, u32),
-    /// With the filling of the gaps there are over 16,777,216 bytes.
+    /// With the filling of the gaps, the image has over 16,777,216 bytes.
     TooLarge,
 }
 
@@ -34,7 +34,7 @@ impl fmt::Display for LayFault {
     }
 }
 
-/// Puts an element after bytes that end at this address.
+/// Puts an element after bytes that end at the address `end`.
 fn with_part(
     mut bytes: Vec<u8>,
     fill: Option<u8>,
@@ -58,7 +58,7 @@ fn with_part(
     }
 }
 
-/// The lowest address of elements, or 0 if there are none.
+/// Returns the lowest address of `elements`, or 0 if there are none.
 pub fn lowest(elements: &[Element]) -> u32 {
     match elements.first() {
         Some(element) => element.address(),
@@ -66,11 +66,11 @@ pub fn lowest(elements: &[Element]) -> u32 {
     }
 }
 
-/// The bytes of elements from the lowest address on, with gaps filled by a byte, if one is given.
+/// Returns the bytes of `elements` from the lowest address on, with gaps filled by the byte `fill`, if it is given.
 ///
 /// # Errors
 ///
-/// The first from the front: Gap if nothing is to fill it, or TooLarge. NoMemory if an allocation was refused.
+/// The first from the front: Gap if no filling is given, or TooLarge. NoMemory if an allocation was refused.
 ///
 /// # What the caller must keep to
 ///

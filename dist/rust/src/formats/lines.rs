@@ -8,12 +8,12 @@ use crate::formats::gathering::Gathering;
 use crate::formats::text::{is_blank_byte, unblanked, unmarked};
 use crate::memory::{Global, Vec};
 
-/// Returns the place of the first line feed.
+/// Returns the index of the first line feed of `text`; None if it has none.
 fn feed_in(text: &[u8]) -> Option<usize> {
     text.iter().position(|byte| *byte == b'\n')
 }
 
-/// The first line, and what follows its line feed, if it has one.
+/// Returns the first line of `text`, and the text after its line feed, if it has one.
 fn take_line(text: &[u8]) -> (&[u8], Option<&[u8]>) {
     match feed_in(text) {
         Some(end) => {
@@ -25,7 +25,7 @@ fn take_line(text: &[u8]) -> (&[u8], Option<&[u8]>) {
     }
 }
 
-/// A line without the blanks at its ends.
+/// Returns `line` without the blanks at its ends.
 fn bare(line: &[u8]) -> &[u8] {
     let from_first = unblanked(line);
     let mut end = from_first.len();
@@ -36,8 +36,8 @@ fn bare(line: &[u8]) -> &[u8] {
     kept
 }
 
-/// State of the reading of a text up to a line: the elements, what Intel HEX counts offsets from, whether that is a segment of 65,536
-/// bytes, how many S-records of data there were, whether the text may end here, and whether only blank lines may follow.
+/// State of the reading of a text up to a line: the elements, the base of Intel HEX, whether the base is that of a segment of 65,536 bytes,
+/// the number of S-records of data, whether the text may end here, and whether only blank lines may follow.
 #[derive(Debug, PartialEq, Eq)]
 pub(crate) struct State {
     pub gathering: Gathering,
@@ -53,12 +53,12 @@ pub(crate) trait TextFormat {
     fn step(alloc: Global, at: usize, state: State, line: &[u8]) -> Result<State, ImageFault>;
 }
 
-/// Returns whether a line has nothing but blanks.
+/// Returns true if `line` is empty or has only blanks.
 fn is_blank_line(line: &[u8]) -> bool {
     line.iter().all(|byte| is_blank_byte(*byte))
 }
 
-/// A line: a record, or blanks alone, or nothing.
+/// Reads `line`, which has number `at`: a record, or blanks alone, or nothing. Returns the state after it.
 fn line_read<F: TextFormat>(
     alloc: Global,
     at: usize,
@@ -74,7 +74,7 @@ fn line_read<F: TextFormat>(
     F::step(alloc, at, state, line)
 }
 
-/// All lines.
+/// Reads all lines of `text`. Returns the state after them.
 fn lines_read<F: TextFormat>(alloc: Global, text: &[u8]) -> Result<State, ImageFault> {
     let mut state = State {
         gathering: Gathering::new(alloc),
@@ -101,7 +101,7 @@ fn lines_read<F: TextFormat>(alloc: Global, text: &[u8]) -> Result<State, ImageF
     }
 }
 
-/// The elements of a text, behind its byte order mark.
+/// Reads the elements of `text`, behind its byte order mark, line by line.
 pub(crate) fn elements_by_line<F: TextFormat>(
     alloc: Global,
     text: &[u8],

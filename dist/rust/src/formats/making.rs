@@ -1,6 +1,6 @@
 // Of crates/dfu_formats/src/images/making.rt, whose contracts are taken away.
 
-//! One piece of a file of any format.
+//! The image of a file of any format, as one piece.
 
 use crate::formats::element::Element;
 use crate::formats::fault::ImageFault;
@@ -16,18 +16,18 @@ use thiserror::Error;
 pub struct Image {
     /// The address of the first byte.
     pub address: u32,
-    /// The bytes, of which there are 1 to 16,777,216.
+    /// The bytes of the image, 1 to 16,777,216.
     pub bytes: Vec<u8>,
 }
 
-/// Faults for which there is no image of a file.
+/// A fault for which there is no image of a file.
 #[derive(Clone, Copy, Debug, PartialEq, Eq, Error)]
 pub enum ImageFileFault {
-    /// It can't be read.
+    /// The file can't be read.
     Unread(ImageFault),
-    /// It has no byte for any address.
+    /// The file has no byte for any address.
     NoData,
-    /// Its elements don't make one piece.
+    /// The elements of the file don't make one piece.
     Unlaid(LayFault),
 }
 
@@ -41,7 +41,7 @@ impl fmt::Display for ImageFileFault {
     }
 }
 
-/// The elements of a file of a format.
+/// Reads the elements of `file`, a file of `format`.
 fn elements_in(alloc: Global, format: Format, file: &[u8]) -> Result<Vec<Element>, ImageFault> {
     match format {
         Format::IntelHex => ihex::read(alloc, file),
@@ -51,7 +51,7 @@ fn elements_in(alloc: Global, format: Format, file: &[u8]) -> Result<Vec<Element
     }
 }
 
-/// The image that a file of a format has, with gaps filled by a byte, if one is given.
+/// Returns the image that `file`, a file of `format`, has, with gaps filled by the byte `fill`, if it is given.
 ///
 /// # Errors
 ///

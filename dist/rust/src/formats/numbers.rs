@@ -2,12 +2,12 @@
 
 //! Numbers in bytes, the lowest first.
 
-/// The number in two bytes.
+/// Returns the number in the two bytes of `bytes` from index `at` on, the low byte first.
 pub(crate) fn le16(bytes: &[u8], at: usize) -> u32 {
     bytes[at] as u32 + 256 * bytes[at + 1] as u32
 }
 
-/// The number in four bytes.
+/// Returns the number in the four bytes of `bytes` from index `at` on, the low byte first.
 pub(crate) fn le32(bytes: &[u8], at: usize) -> u32 {
     le16(bytes, at) + 65_536 * le16(bytes, at + 2)
 }

@@ -7,7 +7,7 @@ use crate::formats::fault::ImageFault;
 use crate::formats::gathering::Gathering;
 use crate::memory::{Global, Vec};
 
-/// Facts of a file before its parts are read, in a format that is read part by part.
+/// Facts of a file, in a format that is read part by part, before its parts are read.
 pub(crate) trait ByPart {
     fn part_read(
         &self,
@@ -41,7 +41,7 @@ fn parts_read<F: ByPart>(
     Ok(gathering)
 }
 
-/// The elements of so many parts.
+/// Reads the elements of the first `total` parts of `parts`, each of `size` bytes.
 pub(crate) fn elements_by_part<F: ByPart>(
     alloc: Global,
     file: &F,

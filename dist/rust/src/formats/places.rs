@@ -1,6 +1,6 @@
 // Of crates/dfu_formats/src/images/places.rt, whose contracts are taken away.
 
-//! The first byte of a text of records that no record has there.
+//! The first byte of a text of records that no record has at its place.
 
 use crate::formats::digits::hex_digit;
 use crate::formats::format::Format;
@@ -9,9 +9,9 @@ use crate::formats::text::{is_blank_byte, unmarked};
 /// A place in a text. Both numbers count from 1, and columns count bytes.
 #[derive(Clone, Copy, Debug, PartialEq, Eq)]
 pub struct Place {
-    /// The line.
+    /// Line of the place.
     pub line: u64,
-    /// The byte within the line.
+    /// Byte within the line.
     pub column: u64,
 }
 
@@ -23,7 +23,7 @@ enum Part {
     Back,
 }
 
-/// The part of a line that a byte leads to, if a record has such a byte there.
+/// Returns the part of a line after `byte` in `part`; None if no record with `mark` has such a byte in `part`.
 fn led_to(mark: u8, part: Part, byte: u8) -> Option<Part> {
     match part {
         Part::Front if byte == mark && !is_blank_byte(byte) => Some(Part::Digits),
@@ -34,7 +34,8 @@ fn led_to(mark: u8, part: Part, byte: u8) -> Option<Part> {
     }
 }
 
-/// The first byte that no record with this mark has there, in a text without its byte order mark.
+/// Returns the place of the first byte of `text`, a text without its byte order mark, that no record with `mark` has there; None if there
+/// is none.
 fn bad_from(mark: u8, text: &[u8]) -> Option<Place> {
     let mut part = Part::Front;
     let mut line: u64 = 1;
@@ -55,7 +56,8 @@ fn bad_from(mark: u8, text: &[u8]) -> Option<Place> {
     None
 }
 
-/// The first byte that no record has there, of a file in a format of text; None if there is none, or for a format of bytes.
+/// Returns the place of the first byte of `file` that no record has there, if `format` is a format of text. None if there is no such byte,
+/// or for a format of bytes.
 ///
 /// A line is blanks, the mark of a record, hexadecimal digits, and blanks. Lines are counted behind a byte order mark.
 pub fn bad_place(format: Format, file: &[u8]) -> Option<Place> {

@@ -2,7 +2,7 @@
 
 //! S-records, types 0 to 3 and 5 to 9.
 //!
-//! Lines and digits are as in Intel HEX. After all data there is an end record, of any of its types, or a count, as some tools write no
+//! Lines and digits are as in Intel HEX. After all data comes an end record, of any of its types, or a count, because some tools write no
 //! end record. A count is of the records of data before it. Titles are passed over.
 
 use crate::formats::element::Element;
@@ -11,7 +11,7 @@ use crate::formats::lines::{State, TextFormat, elements_by_line};
 use crate::formats::srec_line::{Record, framed, spelled};
 use crate::memory::{Global, Vec};
 
-/// Data at an address.
+/// Takes the data of record `said`, in line number `at`, at its address.
 fn data_at(alloc: Global, at: usize, state: State, said: &Record<'_>) -> Result<State, ImageFault> {
     if said.address + said.content.len() as u64 > 0x1_0000_0000 {
         return Err(ImageFault::PastSegment(at));
@@ -27,7 +27,7 @@ fn data_at(alloc: Global, at: usize, state: State, said: &Record<'_>) -> Result<
     }
 }
 
-/// A count of the records of data, or the end.
+/// Reads a count of the records of data, or the end.
 fn closed(at: usize, state: State, said: &Record<'_>) -> Result<State, ImageFault> {
     if said.content.len() != 0 {
         return Err(ImageFault::BadLength(at));
@@ -70,7 +70,7 @@ impl TextFormat for SRecord {
     }
 }
 
-/// The elements of a file.
+/// Reads the elements of `text`, a file of S-records.
 pub fn read(alloc: Global, text: &[u8]) -> Result<Vec<Element>, ImageFault> {
     elements_by_line::<SRecord>(alloc, text)
 }

@@ -14,7 +14,7 @@ pub(crate) struct Typed {
     bytes: ArrayVec<u8, MAX_RECORD>,
 }
 
-/// A record's type and bytes, from the text of its line.
+/// Returns the type and the bytes of the record in `line`, which has number `at`.
 pub(crate) fn spelled(at: usize, line: &[u8]) -> Result<Typed, ImageFault> {
     match line {
         [b'S', kind, digits @ ..] if *kind >= b'0' && *kind <= b'9' => match bytes_at(at, digits) {
@@ -28,7 +28,7 @@ pub(crate) fn spelled(at: usize, line: &[u8]) -> Result<Typed, ImageFault> {
     }
 }
 
-/// Returns the bytes of the address of a record.
+/// Returns the number of bytes of the address of a record of type `kind`.
 fn width(kind: u8) -> usize {
     match kind {
         3 | 7 => 4,
@@ -37,7 +37,7 @@ fn width(kind: u8) -> usize {
     }
 }
 
-/// The number in up to four bytes, the highest first.
+/// Returns the number in `bytes`, at most four, the high byte first.
 fn number(bytes: &[u8]) -> u64 {
     let mut value: u64 = 0;
     for byte in bytes {
@@ -54,7 +54,7 @@ pub(crate) struct Record<'t> {
     pub(crate) content: &'t [u8],
 }
 
-/// A record, from its type and bytes.
+/// Returns the record that `typed`, its type and bytes, is, in line number `at`.
 pub(crate) fn framed(at: usize, typed: &Typed) -> Result<Record<'_>, ImageFault> {
     let bytes = typed.bytes.as_slice();
     let width = width(typed.kind);

@@ -2,7 +2,7 @@
 
 //! The text of a file: its byte order mark, its blanks, and whether it is text alone.
 
-/// A text without the byte order mark of UTF-8 at its front, if it has one.
+/// Returns `text` without the byte order mark of UTF-8, if it begins with one.
 pub(crate) fn unmarked(text: &[u8]) -> &[u8] {
     match text {
         [0xef, 0xbb, 0xbf, rest @ ..] => rest,
@@ -10,12 +10,12 @@ pub(crate) fn unmarked(text: &[u8]) -> &[u8] {
     }
 }
 
-/// Returns whether a byte is a space, a tab or a carriage return.
+/// Returns true if `byte` is a space, a tab or a carriage return.
 pub(crate) fn is_blank_byte(byte: u8) -> bool {
     byte == b' ' || byte == b'\t' || byte == b'\r'
 }
 
-/// A text without the blanks and line feeds at its front.
+/// Returns `text` without the blanks and line feeds before its first other byte.
 pub(crate) fn unblanked(text: &[u8]) -> &[u8] {
     let mut rest = text;
     while let [first, more @ ..] = rest {
@@ -27,7 +27,7 @@ pub(crate) fn unblanked(text: &[u8]) -> &[u8] {
     rest
 }
 
-/// Returns whether a byte is no control character but a tab, line feed, form feed or carriage return.
+/// Returns true if `byte` is no control character but a tab, line feed, form feed or carriage return.
 fn is_text_byte(byte: u8) -> bool {
     match byte {
         b'\t' | b'\n' | 0x0c | b'\r' => true,
@@ -35,7 +35,7 @@ fn is_text_byte(byte: u8) -> bool {
     }
 }
 
-/// Bytes that are awaited of a character of UTF-8: how many, and the bounds of the next one.
+/// Bytes of a character of UTF-8 that are awaited: their number, and the bounds of the next one.
 #[derive(Clone, Copy, Debug, PartialEq, Eq)]
 struct Awaited {
     left: u8,
@@ -43,7 +43,7 @@ struct Awaited {
     high: u8,
 }
 
-/// No byte of a character.
+/// Nothing is awaited: a character begins.
 const NOTHING: Awaited = Awaited {
     left: 0,
     low: 0x80,
@@ -84,7 +84,7 @@ fn awaited_behind(awaited: Awaited, byte: u8) -> Option<Awaited> {
     None
 }
 
-/// Returns whether bytes are characters of UTF-8, none of them another control character.
+/// Returns true if `bytes` are characters of UTF-8, without control characters but those of text.
 fn are_characters(bytes: &[u8]) -> bool {
     let mut awaited = NOTHING;
     for byte in bytes {
@@ -96,7 +96,7 @@ fn are_characters(bytes: &[u8]) -> bool {
     awaited.left == 0
 }
 
-/// Returns whether a file is text alone: UTF-8, without other control characters.
+/// Returns true if `file` is text alone: UTF-8, without control characters but those of text.
 pub(crate) fn is_text(file: &[u8]) -> bool {
     file.len() != 0 && are_characters(file)
 }

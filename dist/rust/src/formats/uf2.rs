@@ -1,6 +1,6 @@
 // Of crates/dfu_formats/src/images/uf2.rt, whose contracts are taken away.
 
-//! UF2.
+//! UF2 files.
 
 use crate::formats::element::Element;
 use crate::formats::fault::ImageFault;
@@ -9,19 +9,19 @@ use crate::formats::numbers::le32;
 use crate::formats::parts::{ByPart, elements_by_part};
 use crate::memory::{Global, Vec};
 
-/// Returns whether a block has its three marks.
+/// Returns true if `block` has its three marks.
 fn is_block(block: &[u8]) -> bool {
     le32(block, 0) == 0x0a32_4655
         && le32(block, 4) == 0x9e5d_5157
         && le32(block, 508) == 0x0ab1_6f30
 }
 
-/// Returns whether a block has a flag.
+/// Returns true if `block` has the flag `flag`.
 fn has_flag(block: &[u8], flag: u32) -> bool {
     le32(block, 8) / flag % 2 == 1
 }
 
-/// The family of boards that a block is for, or 0.
+/// Returns the family of boards that `block` is for, or 0 if it says none.
 fn family_of(block: &[u8]) -> u32 {
     if has_flag(block, 0x2000) {
         le32(block, 28)
@@ -30,7 +30,7 @@ fn family_of(block: &[u8]) -> u32 {
     }
 }
 
-/// The data of a block.
+/// Adds the data of a block to the elements.
 fn flashed(
     alloc: Global,
     index: usize,
@@ -57,7 +57,7 @@ fn flashed(
     gathering.add(alloc, index, address, content)
 }
 
-/// Fields that blocks have to name: how many they are, and the family of the first.
+/// Facts that each block has to name: the number of blocks, and the family of the first.
 #[derive(Debug, PartialEq, Eq)]
 struct Blocks {
     total: usize,
@@ -85,7 +85,7 @@ impl ByPart for Blocks {
     }
 }
 
-/// The elements of a file.
+/// Reads the elements of UF2 file `file`.
 pub fn read(alloc: Global, file: &[u8]) -> Result<Vec<Element>, ImageFault> {
     if file.len() == 0 || file.len() % 512 != 0 {
         return Err(ImageFault::BadSize);

@@ -5,8 +5,9 @@
 use crate::home::Due;
 use crate::home::bytes::{are_same, fill_up};
 use crate::boot::install::{self, are_blank};
-use crate::slots::{Medium, OPEN_GATE, VERSION, gate_of, header_of, length_in, make_header};
-use crate::suffix::Crc;
+use crate::slots::{
+    Medium, OPEN_GATE, VERSION, crc_of_flash, gate_of, header_of, length_in, make_header,
+};
 
 // Returns the place of the last operation in the data of the first slot, if it went there.
 fn last_in_data(gates: u32, last: Option<u32>) -> Option<u32> {
@@ -18,13 +19,11 @@ fn last_in_data(gates: u32, last: Option<u32>) -> Option<u32> {
 
 // The header of the copy of an image that has this one: one generation on.
 fn copy_header(found: &[u8; 16], image: &[u8]) -> [u8; 16] {
-    let mut crc = Crc::new();
-    crc.update_small(image);
     make_header(
         VERSION,
         found[0].wrapping_add(1),
         length_in(found),
-        crc.value(),
+        crc_of_flash(image).value(),
     )
 }
 
@@ -69,6 +68,12 @@ fn unit_due<M: Medium>(
     Due::Program { at, len }
 }
 
+// Returns whether the first slot has this header.
+fn has_header<M: Medium>(medium: &M, flash: &[u8], header: &[u8; 16]) -> bool {
+    let at = gate_of(medium) as usize;
+    are_same(&flash[at..at + 16], header)
+}
+
 // Returns the operation that is due once the bytes are there: the header, or behind it the gate.
 fn head<M: Medium>(
     medium: &M,
@@ -78,7 +83,7 @@ fn head<M: Medium>(
     out: &mut [u8; 256],
 ) -> Due {
     let header = copy_header(&header_of(medium, medium.len() / 2), image);
-    if are_same(&header_of(medium, 0), &header) {
+    if has_header(medium, flash, &header) {
         return unit_due(medium, flash, 0, last, &[OPEN_GATE], out);
     }
     unit_due(medium, flash, gate_of(medium), last, &header, out)

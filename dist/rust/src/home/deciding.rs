@@ -1,6 +1,6 @@
 // Of crates/dfu_home/src/deciding.rt, whose contracts are taken away.
 
-//! Operation that is due next.
+//! The choice of the operation that is due next.
 
 use crate::home::asking::is_home;
 use crate::home::copying::copy;

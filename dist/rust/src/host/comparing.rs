@@ -9,7 +9,7 @@ use crate::host::report::Report;
 use crate::host::task::Task;
 
 impl Task<'_> {
-    /// Compares a part of the image with the block of its number.
+    /// Compares `part` of the image with block number `number`.
     pub(crate) fn compare(&self, number: u16, part: &[u8]) -> Heard {
         Heard::Compared {
             same: part == self.block(number as usize),
@@ -17,7 +17,7 @@ impl Task<'_> {
         }
     }
 
-    /// UPLOAD of a part, which is compared by now.
+    /// Returns the phase after UPLOAD of part number `number`, which is compared already, as `heard` says.
     pub(crate) fn after_compare(&self, number: u16, heard: Heard) -> Phase {
         match heard {
             Heard::Compared { same, len } => self.compared(number, same, len),
@@ -25,7 +25,7 @@ impl Task<'_> {
         }
     }
 
-    /// Returns the phase after a part of this many bytes, by whether it is the payload's.
+    /// Returns the phase after a part of `len` bytes; `same` says that they are the payload's.
     fn compared(&self, number: u16, same: bool, len: usize) -> Phase {
         let transfer = self.transfer as usize;
         if len > transfer {

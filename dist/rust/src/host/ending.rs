@@ -1,6 +1,6 @@
 // Of crates/dfu_host/src/ending.rt, whose contracts are taken away.
 
-//! The rows of the phases that follow the last block, and of the one that follows a refusal.
+//! The rows of the phases after the last block, and of the phase after a refusal.
 
 use crate::host::goal::Goal;
 use crate::host::heard::Heard;
@@ -10,7 +10,7 @@ use crate::host::task::Task;
 use crate::wire::{Code, State, Status};
 
 impl Task<'_> {
-    /// Returns the phase after the status that follows a refusal: dfuERROR with a code of its own ends the session, and every other status
+    /// Returns the phase after `status`, which follows a refusal: dfuERROR with a code of its own ends the session, and every other status
     /// goes by the list.
     pub(crate) fn troubled(&self, status: Status) -> Phase {
         match status.state() {
@@ -22,7 +22,7 @@ impl Task<'_> {
         }
     }
 
-    /// Returns whether the close precedes this phase of a session.
+    /// Returns true if `phase` is after the close.
     pub(crate) fn is_behind_close(&self, phase: Phase) -> bool {
         match phase {
             Phase::Manifest | Phase::WaitManifest(_) | Phase::WaitLast(_) => true,
@@ -31,7 +31,7 @@ impl Task<'_> {
         }
     }
 
-    /// The last reset, and then the report, or the comparison.
+    /// Returns the phase after the last reset: the report, or the comparison.
     pub(crate) fn after_last(&self, report: Report, heard: Heard) -> Phase {
         match heard {
             Heard::WasReset => match &self.goal {
@@ -42,7 +42,7 @@ impl Task<'_> {
         }
     }
 
-    /// Returns the phase after the status that was asked for after the close.
+    /// Returns the phase after `status`, which was asked for after the close.
     pub(crate) fn manifested(&self, status: Status) -> Phase {
         if self.tolerant {
             self.confirmed(status)
@@ -51,7 +51,7 @@ impl Task<'_> {
         }
     }
 
-    /// Returns the phase by which a tolerant device's status confirms the new image: only dfuIDLE with OK is an install.
+    /// Returns the phase by which `status` of a tolerant device confirms the new image: only dfuIDLE with OK is an install.
     fn confirmed(&self, status: Status) -> Phase {
         match (status.state(), status.code()) {
             (State::ManifestSync | State::Manifest, _) => Phase::WaitManifest(status.poll_ms()),
@@ -60,7 +60,7 @@ impl Task<'_> {
         }
     }
 
-    /// Returns the phase after the status of a device that isn't tolerant, which never confirms an install.
+    /// Returns the phase after `status` of a device that isn't tolerant, which never confirms an install.
     fn unconfirmed(&self, status: Status) -> Phase {
         match status.state() {
             State::ManifestSync | State::Manifest => Phase::WaitLast(status.poll_ms()),

@@ -5,7 +5,7 @@
 use core::fmt;
 use thiserror::Error;
 
-/// Faults for which a session does not begin. A call returns the first that holds, in this order.
+/// A fault for which a session does not begin. A call returns the first that holds, in this order.
 #[derive(Clone, Copy, Debug, PartialEq, Eq, Error)]
 pub enum HostFault {
     /// The file's payload has no bytes. Only for downloads.
@@ -34,7 +34,7 @@ impl fmt::Display for HostFault {
 }
 
 impl HostFault {
-    /// The name of the fault, which is its variant's, as `EmptyPayload`.
+    /// Returns the name of the fault, which is its variant's, such as `EmptyPayload`.
     pub fn name(self) -> &'static str {
         crate::wire::variant_name!(self, HostFault:
             EmptyPayload, WrongTarget, CannotDownload, CannotUpload, BadDescriptor

@@ -8,12 +8,12 @@ use crate::host::phase::Phase;
 use crate::host::report::Report;
 use crate::host::task::Task;
 
-/// After so many full parts an upload ends without its image, and a comparison without its verdict.
-/// The limit is this project's own.
+/// After this many full parts an upload ends without its image, and a comparison without its verdict. The
+/// limit is this project's own.
 pub(crate) const MOST_PARTS: u16 = 65_535;
 
 impl Task<'_> {
-    /// Returns the meaning of a part of the image: the part, or, if the caller refused it and it needs room, that there was no room.
+    /// Returns the meaning of a part of the image: the part, or NoRoom if the caller refused it and it needs room.
     pub(crate) fn received(&self, number: u16, part: &[u8], refused: bool) -> Heard {
         if refused && !part.is_empty() && self.is_kept(number, part.len()) {
             Heard::NoRoom
@@ -22,7 +22,7 @@ impl Task<'_> {
         }
     }
 
-    /// The part that is to be kept of the bytes that answer an UPLOAD.
+    /// Returns the part to keep of `bytes`, which answer the UPLOAD of part number `number`; None if there is none.
     pub(crate) fn part_in<'s>(&self, number: u16, bytes: &'s [u8]) -> Option<UploadPart<'s>> {
         if self.is_kept(number, bytes.len()) {
             Some(UploadPart { number, bytes })
@@ -31,14 +31,14 @@ impl Task<'_> {
         }
     }
 
-    /// Returns whether a part of this many bytes is kept: one that is shorter than a block, which is the last, or a full one, except the
-    /// full one that is one too many.
+    /// Returns whether part `number` with `len` bytes is kept: a part that is shorter than a block, and so the last, or a full one,
+    /// except the full one that is one too many.
     fn is_kept(&self, number: u16, len: usize) -> bool {
         let transfer = self.transfer as usize;
         len < transfer || len == transfer && number + 1 != MOST_PARTS
     }
 
-    /// UPLOAD of a part, which is kept by now.
+    /// Returns the phase after UPLOAD of part number `number`, which is kept already, as `heard` says.
     pub(crate) fn after_fetch(&self, number: u16, heard: Heard) -> Phase {
         match heard {
             Heard::Part(len) => self.fetched(number, len),
@@ -47,7 +47,7 @@ impl Task<'_> {
         }
     }
 
-    /// Returns the phase after a part of this many bytes.
+    /// Returns the phase after part `number` of `len` bytes.
     fn fetched(&self, number: u16, len: usize) -> Phase {
         let transfer = self.transfer as usize;
         if len < transfer {
@@ -61,7 +61,7 @@ impl Task<'_> {
         }
     }
 
-    /// The last reset, with all parts kept.
+    /// Returns the phase after the last reset, with all parts kept.
     pub(crate) fn after_last_uploaded(&self, heard: Heard) -> Phase {
         match heard {
             Heard::WasReset => Phase::OverUploaded,

@@ -2,7 +2,7 @@
 
 //! Goals of a session.
 
-/// Goal of a session. It takes no memory: the caller keeps what an upload fetches.
+/// Goal of a session. A goal takes no memory, because the caller keeps what an upload fetches.
 #[derive(Clone, Copy, Debug, PartialEq, Eq)]
 pub enum Goal<'f> {
     /// To install a payload, which has at least one byte.
@@ -16,7 +16,7 @@ pub enum Goal<'f> {
 }
 
 impl<'f> Goal<'f> {
-    /// The payload that is sent or compared; empty for an upload.
+    /// Returns the payload that is sent or compared; empty for an upload.
     pub(crate) fn payload(&self) -> &'f [u8] {
         match self {
             Goal::Load(payload) | Goal::Verify(payload) | Goal::Compare(payload) => payload,

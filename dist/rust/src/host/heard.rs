@@ -1,6 +1,6 @@
 // Of crates/dfu_host/src/heard.rt, whose contracts are taken away.
 
-//! Meaning that a host gives to what it sees.
+//! Meaning of results for a host.
 
 use crate::host::phase::Phase;
 use crate::host::seen::Seen;
@@ -13,9 +13,10 @@ pub(crate) enum Heard {
     Acked,
     Told(Status),
     StateIs(State),
-    /// A part of an upload, of this many bytes. It is kept by now.
+    /// A part of an upload, with its length in bytes; it is kept already.
     Part(usize),
-    /// A part of an image that is compared: whether it is the payload's, and how many bytes it has.
+    /// A part of an image that is compared: `same` says that it is the payload's, `len` is its length in
+    /// bytes.
     Compared { same: bool, len: usize },
     /// A part of an upload for which there was no memory.
     NoRoom,
@@ -28,8 +29,8 @@ pub(crate) enum Heard {
 }
 
 impl Task<'_> {
-    /// Returns the meaning of what the host sees in a phase. Bytes are read as the answer to the phase's request; if they are not an
-    /// answer, it is as if nothing came. A part of an upload is kept or refused by now; one of a comparison is compared.
+    /// Returns the meaning of `seen` in `phase`. Bytes are read as the answer to the phase's request; bytes that are no such answer mean
+    /// that nothing came. A part of an upload is kept already, or `refused`, and a part of a comparison is compared here.
     pub(crate) fn hear(&self, phase: Phase, seen: Seen<'_>, refused: bool) -> Heard {
         match seen {
             Seen::Ack => Heard::Acked,
@@ -43,7 +44,7 @@ impl Task<'_> {
         }
     }
 
-    /// Returns the meaning of bytes that come in a phase.
+    /// Returns the meaning of `bytes` in `phase`.
     fn answered(&self, phase: Phase, bytes: &[u8], refused: bool) -> Heard {
         match phase {
             Phase::Find | Phase::FindAgain | Phase::Poll(_) | Phase::Manifest | Phase::Trouble => {
@@ -57,7 +58,7 @@ impl Task<'_> {
     }
 }
 
-/// The answer to GETSTATUS.
+/// Returns the meaning of `bytes` as an answer to GETSTATUS.
 fn status_in(bytes: &[u8]) -> Heard {
     match Status::decode(bytes) {
         Ok(status) => Heard::Told(status),
@@ -65,7 +66,7 @@ fn status_in(bytes: &[u8]) -> Heard {
     }
 }
 
-/// The answer to GETSTATE, one byte.
+/// Returns the meaning of `bytes` as an answer to GETSTATE, one byte.
 fn state_in(bytes: &[u8]) -> Heard {
     match bytes {
         [byte] => match State::from_byte(*byte) {

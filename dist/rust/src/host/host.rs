@@ -17,8 +17,8 @@ use crate::memory::{Global, Vec};
 
 /// A host in a session (USB DFU 1.1, appendix A, seen from the host's side).
 ///
-/// It does nothing itself: its caller does what `next` asks for and gives `take` what came of it,
-/// until `next` returns `Done`. It takes memory only for the parts of an upload.
+/// A host does nothing itself: its caller does what `next` asks for and gives `take` the result, until `next`
+/// returns `Done`. Only the parts of an upload take memory.
 #[derive(Debug, PartialEq, Eq)]
 pub struct Host<'f> {
     session: Session<'f>,
@@ -26,8 +26,8 @@ pub struct Host<'f> {
 }
 
 impl<'f> Host<'f> {
-    /// A host that is to install a file on the device with this descriptor and these
-    /// identifiers. It borrows the file's payload, and takes a transfer size of 1 to 65,535.
+    /// Makes a host that installs a file on the device with the given descriptor and identifiers. The host
+    /// borrows the file's payload; the transfer size is 1 to 65,535.
     ///
     /// The faults, in the order in which they are looked for:
     ///
@@ -47,11 +47,10 @@ impl<'f> Host<'f> {
         Ok(Host { session, memory })
     }
 
-    /// A host that is to install a file on the device with this descriptor and these identifiers,
-    /// as `download` has it, and then, after its last reset, to ask for the active image and compare
-    /// it with the payload, so that its report is neither Installed nor Unconfirmed, but Verified
-    /// or Different. It borrows the file's payload, takes no memory, and takes a transfer size of
-    /// 1 to 65,535. A payload of more than 65,534 full blocks ends as TooManyBlocks.
+    /// Makes a host that installs a file as the one of `download` does, and after its last reset asks for the
+    /// active image and compares it with the payload, so that its report is neither Installed nor
+    /// Unconfirmed, but Verified or Different. The host borrows the file's payload and takes no memory; the
+    /// transfer size is 1 to 65,535. A payload of more than 65,534 full blocks ends as TooManyBlocks.
     ///
     /// The faults, in the order in which they are looked for:
     ///
@@ -72,7 +71,7 @@ impl<'f> Host<'f> {
         Ok(Host { session, memory })
     }
 
-    /// A host that is to fetch the active image of the device with this descriptor. It keeps the
+    /// Makes a host that fetches the active image of the device with the given descriptor. The host keeps the
     /// allocator for the parts to come; the transfer size is 1 to 65,535.
     ///
     /// The faults, in the order in which they are looked for:
@@ -90,34 +89,34 @@ impl<'f> Host<'f> {
         Ok(Host { session, memory })
     }
 
-    /// Returns the action that the host wants next. It changes nothing, so it may be asked again.
+    /// Returns the action that the host wants next. The call changes nothing, so it may be repeated.
     pub fn next(&self) -> Action<'f> {
         self.session.next()
     }
 
-    /// The phase of the session.
+    /// Returns the phase of the session.
     pub fn phase(&self) -> Phase {
         self.session.parts().phase
     }
 
-    /// Gives the host what came of its action. Whatever came, the host is done after at most
-    /// `actions` calls, or after one if the limits have 0. Then nothing changes any more.
+    /// Gives the host the result of its action. Whatever the result, the host is done after at most `actions`
+    /// calls, or after one if the limits have 0. Then nothing changes any more.
     ///
-    /// A part of an upload, 1 byte or more, takes memory if what is kept has to grow. If that is
-    /// refused, the session ends with the report NoMemory.
+    /// A part of an upload, 1 byte or more, takes memory if the kept bytes have to grow. If there is none,
+    /// the session ends with the report NoMemory.
     pub fn take(&mut self, seen: Seen<'_>) {
         let refused = self.memory.refuses(&self.session, seen);
         self.session.on_result(seen, refused);
     }
 
-    /// Gives the session up: the host asks for ABORT next, and whatever comes of it, the report is
-    /// Aborted. Only the phase changes, and nothing if the host is done. If a download is given up
-    /// in its last steps, the new image may be in place all the same.
+    /// Gives the session up. The host asks for ABORT next, and whatever the result, its report is Aborted.
+    /// Only the phase changes, and nothing if the host is done. If a download is given up in its last steps,
+    /// the new image may be in place all the same.
     pub fn abort(&mut self) {
         self.session.abort();
     }
 
-    /// Returns the bytes that an upload keeps: all that were fetched, once the host is done with `Uploaded`. Before that, the parts that
+    /// Returns the bytes that an upload keeps: all fetched bytes, once the host is done with `Uploaded`; before that, the parts that
     /// came since the fetching last began; and nothing in a download, or after the session went back to find the device, was given up or
     /// ended in another way.
     pub fn uploaded(&self) -> &[u8] {
@@ -137,7 +136,7 @@ pub(crate) enum Memory {
 }
 
 impl Memory {
-    /// MemoryAfter the part in what a session sees, and returns whether it was refused.
+    /// Keeps the part in `seen`, if there is one, and returns true if it was refused.
     pub(crate) fn refuses(&mut self, session: &Session<'_>, seen: Seen<'_>) -> bool {
         match session.part(seen) {
             Some(part) => self.refuses_part(&part),
@@ -145,8 +144,8 @@ impl Memory {
         }
     }
 
-    /// Stores a part, and returns whether it was refused: only if there is no vector, or if the
-    /// vector had no room for it and could not grow.
+    /// Stores `part`, and returns true if it was refused: only if there is no vector, or if the vector had no room for it and could not
+    /// grow.
     fn refuses_part(&mut self, part: &UploadPart<'_>) -> bool {
         match self {
             Memory::Nothing => !part.bytes.is_empty(),
@@ -154,7 +153,7 @@ impl Memory {
         }
     }
 
-    /// The bytes.
+    /// Returns the kept bytes.
     pub(crate) fn as_slice(&self) -> &[u8] {
         match self {
             Memory::Nothing => &[],
@@ -163,7 +162,7 @@ impl Memory {
     }
 }
 
-/// Stores a part in a vector, and returns whether the vector was full.
+/// Stores `part` in `kept`, and returns true if the vector was full.
 fn is_full(kept: &mut Vec<u8>, part: &UploadPart<'_>) -> bool {
     if part.number == 0 {
         kept.clear();

@@ -7,6 +7,6 @@
 pub struct Limits {
     /// Calls of `take` after which the host gives up; 0 counts as 1.
     pub actions: u32,
-    /// Restarts of the device that the host takes; one more ends the session.
+    /// Restarts of the device that the host takes; one more restart ends the session.
     pub restarts: u16,
 }

@@ -11,7 +11,7 @@ use crate::host::phase::Phase;
 pub struct Parts<'f> {
     /// Goal of the session.
     pub goal: Goal<'f>,
-    /// The most bytes of a block, 1 to 65,535.
+    /// Largest number of bytes of a block, 1 to 65,535.
     pub transfer: u16,
     /// The descriptor's bitManifestationTolerant.
     pub tolerant: bool,
@@ -19,21 +19,21 @@ pub struct Parts<'f> {
     pub will_detach: bool,
     /// The descriptor's wDetachTimeOut, in milliseconds.
     pub detach_ms: u16,
-    /// Its phase.
+    /// Phase of the session.
     pub phase: Phase,
-    /// The actions that are left.
+    /// Actions that are left.
     pub actions: u32,
-    /// Further restarts of the device that are taken.
+    /// Further restarts of the device that the session takes.
     pub restarts: u16,
 }
 
 impl Parts<'_> {
-    /// Returns whether these are the parts of a session.
+    /// Returns whether the parts are those of a session.
     pub(crate) fn is_session(&self) -> bool {
         self.transfer > 0 && self.has_some() && self.is_within()
     }
 
-    /// Returns whether there is something to do.
+    /// Returns whether the goal has something to do.
     fn has_some(&self) -> bool {
         match &self.goal {
             Goal::Load(payload) | Goal::Verify(payload) | Goal::Compare(payload) => {
@@ -58,7 +58,7 @@ impl Parts<'_> {
         }
     }
 
-    /// Returns whether the payload has a block with this number.
+    /// Returns true if the payload has block number `number`.
     fn has_block(&self, number: usize) -> bool {
         number.saturating_mul(self.transfer as usize) < self.goal.payload().len()
     }

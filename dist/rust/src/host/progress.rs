@@ -12,13 +12,13 @@ use crate::host::task::Task;
 #[derive(Clone, Copy, Debug, PartialEq, Eq)]
 pub(crate) struct Progress {
     pub(crate) phase: Phase,
-    /// The actions that are left.
+    /// Actions that are left.
     pub(crate) actions: u32,
-    /// Further restarts of the device that are taken.
+    /// Further restarts of the device that the session takes.
     pub(crate) restarts: u16,
 }
 
-/// The first phase of a session, with at least one action.
+/// Returns the first phase of a session, with at least one action.
 pub(crate) fn beginning(limits: Limits) -> Progress {
     Progress {
         phase: Phase::Find,
@@ -28,8 +28,8 @@ pub(crate) fn beginning(limits: Limits) -> Progress {
 }
 
 impl Progress {
-    /// The session after one action, of which this was heard, and is kept. Its task goes on with
-    /// it.
+    /// Returns the progress after an action whose result was heard, and kept if it was a part. The session's
+    /// task goes on with it.
     pub(crate) fn after(self, task: &mut Task<'_>, heard: Heard) -> Progress {
         if let Phase::Over(_) | Phase::OverUploaded = self.phase {
             return self;
@@ -41,7 +41,7 @@ impl Progress {
         }
     }
 
-    /// After one action whose result the table's row takes.
+    /// Returns the progress after an action whose result the table's row takes.
     fn by_row(self, task: &mut Task<'_>, heard: Heard) -> Progress {
         let done = is_last_done(&self.phase, &heard);
         let next = task.row(self.phase, heard);
@@ -49,8 +49,8 @@ impl Progress {
         self.spent(next, self.restarts)
     }
 
-    /// After the device left of itself: after the close that was the last reset, and confirms
-    /// nothing; in every other phase it is a restart.
+    /// Returns the progress after the device left of itself. After the close that counts as the last reset,
+    /// which confirms nothing; in every other phase it counts as a restart.
     fn left(self, task: &mut Task<'_>) -> Progress {
         if !task.is_behind_close(self.phase) {
             return self.restarted();
@@ -60,7 +60,7 @@ impl Progress {
         self.spent(next, self.restarts)
     }
 
-    /// After a restart of the device.
+    /// Returns the progress after a restart of the device.
     fn restarted(self) -> Progress {
         if let Phase::GiveUp = self.phase {
             return self.spent(Phase::Over(Report::Aborted), self.restarts);
@@ -72,7 +72,7 @@ impl Progress {
         }
     }
 
-    /// After one action that leads to a phase.
+    /// Returns the progress after an action that leads to `next`.
     fn spent(self, next: Phase, restarts: u16) -> Progress {
         let actions = self.actions.saturating_sub(1);
         Progress {
@@ -83,7 +83,7 @@ impl Progress {
     }
 }
 
-/// Returns whether this was the last reset, and it was done.
+/// Returns whether the phase was the last reset, and the reset was done.
 fn is_last_done(phase: &Phase, heard: &Heard) -> bool {
     match (phase, heard) {
         (Phase::Last(_), Heard::WasReset) => true,
@@ -91,7 +91,7 @@ fn is_last_done(phase: &Phase, heard: &Heard) -> bool {
     }
 }
 
-/// The phase of a session with this many actions left: without any it gives up, unless it is over.
+/// Returns the phase of a session with `left` actions: without any the session gives up, unless it is over.
 fn budgeted(left: u32, phase: Phase) -> Phase {
     match phase {
         Phase::Over(_) | Phase::OverUploaded => phase,

@@ -1,6 +1,6 @@
 // Of crates/dfu_host/src/refusing.rt, whose contracts are taken away.
 
-//! The refusals that several sessions share.
+//! The refusals that several kinds of sessions share.
 
 use crate::host::fault::HostFault;
 use crate::host::goal::Goal;
@@ -8,7 +8,7 @@ use crate::host::target::is_for;
 use crate::suffix::File;
 use crate::wire::{Functional, Ids};
 
-/// The goal of a session that installs a file, and if `compares` is set compares it too.
+/// Returns the goal of a session that installs a file, and compares it too if `compares` is true.
 pub(crate) fn goal_to_install<'f>(
     file: &File<'f>,
     functional: &Functional,
@@ -26,7 +26,7 @@ pub(crate) fn goal_to_install<'f>(
     Ok(Goal::Load(payload))
 }
 
-/// The payload of a file that a device takes.
+/// Returns the payload of the file, or the first fault for which the device can't take it.
 fn payload_for<'f>(
     file: &File<'f>,
     functional: &Functional,

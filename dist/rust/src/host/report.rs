@@ -6,16 +6,16 @@ use crate::wire::Code;
 
 /// Report with which a session ended.
 ///
-/// Only [`Report::Installed`] and [`Report::Verified`] say that the payload of this session is in
-/// place. [`Report::Different`] says that the device gave other bytes than those, and
-/// [`Report::Uploaded`] that it gave an image. All others leave open which image the device has.
+/// Only [`Report::Installed`] and [`Report::Verified`] say that the payload of this session is in place.
+/// [`Report::Different`] says that the device gave other bytes, and [`Report::Uploaded`] that it gave an
+/// image. All others leave open which image the device has.
 #[derive(Clone, Copy, Debug, PartialEq, Eq)]
 pub enum Report {
     /// A tolerant device took the whole payload, reported dfuIDLE with OK after it, and was
     /// reset.
     Installed,
-    /// A device that isn't tolerant took the whole payload and was reset. It can't report whether
-    /// the image is in place. Or a device took the payload and left of itself.
+    /// A device that isn't tolerant took the whole payload and was reset, and can't report whether the image
+    /// is in place. Or a device took the payload and left of itself.
     Unconfirmed,
     /// The caller gave the session up.
     Aborted,
@@ -31,7 +31,7 @@ pub enum Report {
     Uploaded,
     /// 65,535 full parts came, which is more than an upload or a comparison takes.
     TooManyBlocks,
-    /// There was no memory for a part of the image. Only for uploads.
+    /// There was no memory for a part of the image. Only uploads end so.
     NoMemory,
     /// After the last reset the device gave the whole payload back, and was reset once more. Only
     /// for downloads that are verified.
@@ -42,7 +42,8 @@ pub enum Report {
 }
 
 impl Report {
-    /// The name of the report, as `installed` and `restarts-spent`; that of Refused is `refused`, without its code.
+    /// Returns the name of the report, such as `installed` or `restarts-spent`. The name of Refused is `refused`,
+    /// without its code.
     pub fn name(self) -> &'static str {
         crate::wire::variant_name!(self, Report:
             Installed "installed", Unconfirmed "unconfirmed", Aborted "aborted", GaveUp "gave-up",

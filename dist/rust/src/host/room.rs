@@ -7,12 +7,12 @@ use crate::host::seen::Seen;
 use crate::host::session::Session;
 
 impl Session<'_> {
-    /// Gives the session what came of its action, as `Host::take`, and returns how many
-    /// bytes of the caller's room are kept then. Its first `kept` bytes are those that are kept by
-    /// now. A download keeps no bytes and needs no room.
+    /// Gives the session the result of its action, as `Host::take` does, and returns how many bytes
+    /// of the caller's room are kept then. The first `kept` bytes of the room are kept already. A download
+    /// keeps no bytes and needs no room.
     ///
-    /// A part of an upload is stored in the room after those. If it doesn't fit, nothing is stored,
-    /// and the session ends with the report NoMemory.
+    /// A part of an upload is stored in the room after the kept bytes. If the part doesn't fit, nothing is
+    /// stored, and the session ends with the report NoMemory.
     ///
     /// # What the caller must keep to
     ///
@@ -32,8 +32,8 @@ impl Session<'_> {
     }
 }
 
-/// Stores the part in what a session sees, and returns how many bytes are kept then. If it doesn't
-/// fit, nothing changes.
+/// Stores the part in a session's result, and returns how many bytes are kept then. If the part doesn't fit,
+/// nothing changes.
 fn keep(session: &Session<'_>, room: &mut [u8], kept: usize, seen: Seen<'_>) -> Option<usize> {
     match session.part(seen) {
         Some(part) => store(room, kept, &part),
@@ -41,8 +41,8 @@ fn keep(session: &Session<'_>, room: &mut [u8], kept: usize, seen: Seen<'_>) -> 
     }
 }
 
-/// Stores a part after the first `kept` bytes, which are kept, and returns how many are kept then.
-/// If it doesn't fit, nothing changes.
+/// Stores a part after the first `kept` bytes, and returns how many bytes are kept then. If the part doesn't
+/// fit, nothing changes.
 fn store(room: &mut [u8], kept: usize, part: &UploadPart<'_>) -> Option<usize> {
     let from = if part.number == 0 { 0 } else { kept };
     if room.len() - from < part.bytes.len() {

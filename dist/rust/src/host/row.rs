@@ -28,7 +28,7 @@ fn on_waited(heard: Heard, waited: Phase, again: Phase) -> Phase {
 }
 
 impl Task<'_> {
-    /// The phase that follows, by the phase and what was heard in it.
+    /// Returns the next phase, by `phase` and by `heard`, what was heard in it.
     pub(crate) fn row(&self, phase: Phase, heard: Heard) -> Phase {
         match phase {
             Phase::Find | Phase::Trouble => self.on_status(phase, heard, Phase::FindAgain),
@@ -67,7 +67,7 @@ impl Task<'_> {
         }
     }
 
-    /// Returns the phase after a status in a phase that asks for it.
+    /// Returns the phase after `status` in `phase`, which asks for it.
     fn told(&self, phase: Phase, status: Status) -> Phase {
         match phase {
             Phase::Poll(number) => self.polled(number, status),
@@ -77,8 +77,8 @@ impl Task<'_> {
         }
     }
 
-    /// The phase in which the work begins once the device is in dfuIDLE. A payload has a first
-    /// block; no part of an image is kept or compared yet.
+    /// Returns the phase in which the work begins once the device is in dfuIDLE. A payload has a first block;
+    /// no part of an image is kept or compared yet.
     fn start(&self) -> Phase {
         match &self.goal {
             Goal::Load(_) => Phase::Block(0),
@@ -88,7 +88,7 @@ impl Task<'_> {
         }
     }
 
-    /// The list: what follows a status, by its state.
+    /// Returns the phase after `status` by the list, which goes by its state.
     pub(crate) fn listed(&self, status: Status) -> Phase {
         match status.state() {
             State::AppIdle => Phase::Detach,
@@ -102,7 +102,7 @@ impl Task<'_> {
         }
     }
 
-    /// A wait if the device detaches by itself, else a reset.
+    /// Returns the phase after Enter: a wait if the device detaches by itself, else a reset.
     pub(crate) fn after_enter(&self, heard: Heard) -> Phase {
         match heard {
             Heard::Waited if self.will_detach => Phase::Find,
@@ -111,7 +111,7 @@ impl Task<'_> {
         }
     }
 
-    /// GETSTATE, to learn whether a block came whose answer was lost.
+    /// Returns the phase after GETSTATE, which tells if block number `number` came whose answer was lost.
     pub(crate) fn after_ask(&self, number: usize, heard: Heard) -> Phase {
         match heard {
             Heard::StateIs(State::DownloadSync) => Phase::Poll(number),
@@ -122,7 +122,7 @@ impl Task<'_> {
         }
     }
 
-    /// Returns the phase after the status that was asked for after a block.
+    /// Returns the phase after `status`, which was asked for after block number `number`.
     pub(crate) fn polled(&self, number: usize, status: Status) -> Phase {
         match status.state() {
             State::DownloadSync | State::DownloadBusy => {
@@ -134,7 +134,7 @@ impl Task<'_> {
         }
     }
 
-    /// GETSTATE, to learn whether the close came whose answer was lost.
+    /// Returns the phase after GETSTATE, which tells if the close came whose answer was lost.
     pub(crate) fn after_ask_last(&self, heard: Heard) -> Phase {
         match heard {
             Heard::StateIs(State::ManifestSync) => Phase::Manifest,

@@ -16,7 +16,7 @@ use crate::host::task::Task;
 use crate::suffix::File;
 use crate::wire::{Functional, Ids};
 
-/// A session of a host, for a caller that keeps what an upload fetches itself. It takes no memory.
+/// A session of a host, for a caller that keeps what an upload fetches itself. A session takes no memory.
 #[derive(Debug, PartialEq, Eq)]
 pub struct Session<'f> {
     task: Task<'f>,
@@ -24,7 +24,7 @@ pub struct Session<'f> {
 }
 
 impl<'f> Session<'f> {
-    /// A session that is to install a file, as `Host::download`; its faults are the same.
+    /// Makes a session that installs a file, as `Host::download` does, with the same faults.
     pub fn download(
         file: &File<'f>,
         functional: &Functional,
@@ -35,8 +35,8 @@ impl<'f> Session<'f> {
         Ok(Session::begin(goal, functional, limits))
     }
 
-    /// A session that is to install a file and to compare it, as `Host::download_verified`;
-    /// its faults are the same.
+    /// Makes a session that installs a file and compares it, as `Host::download_verified` does, with
+    /// the same faults.
     pub fn download_verified(
         file: &File<'f>,
         functional: &Functional,
@@ -47,15 +47,13 @@ impl<'f> Session<'f> {
         Ok(Session::begin(goal, functional, limits))
     }
 
-    /// A session that is to fetch the active image, as `Host::upload`; its faults are the
-    /// same.
+    /// Makes a session that fetches the active image, as `Host::upload` does, with the same faults.
     pub fn upload(functional: &Functional, limits: Limits) -> Result<Session<'f>, HostFault> {
         gives_uploads(functional)?;
         Ok(Session::begin(Goal::Fetch, functional, limits))
     }
 
-    /// A session that begins: its task is this goal, and all else goes by the descriptor and the
-    /// limits.
+    /// Returns a session that begins, with `goal`; everything else of its task goes by `functional` and `limits`.
     pub(crate) fn begin(goal: Goal<'f>, functional: &Functional, limits: Limits) -> Session<'f> {
         Session {
             task: Task {
@@ -69,7 +67,7 @@ impl<'f> Session<'f> {
         }
     }
 
-    /// The session's parts, which [`Session::from_parts`] puts together again.
+    /// Returns the session's parts, which [`Session::from_parts`] puts together again.
     pub fn parts(&self) -> Parts<'f> {
         Parts {
             goal: self.task.goal,
@@ -83,9 +81,8 @@ impl<'f> Session<'f> {
         }
     }
 
-    /// The session of these parts. None exactly if they are not those of a session: there is
-    /// nothing to do, as with a payload of no bytes; the transfer size is 0; or the phase asks for
-    /// what doesn't exist, as a block after the last one.
+    /// Returns the session of `parts`. None exactly if no session has these parts: there is nothing to do, as with a payload of no bytes;
+    /// the transfer size is 0; or the phase needs something that doesn't exist, such as a block after the last one.
     pub fn from_parts(parts: Parts<'f>) -> Option<Session<'f>> {
         if !parts.is_session() {
             return None;
@@ -106,13 +103,13 @@ impl<'f> Session<'f> {
         })
     }
 
-    /// Returns the action that the session wants next. It changes nothing, so it may be asked again.
+    /// Returns the action that the session wants next. The call changes nothing, so it may be repeated.
     pub fn next(&self) -> Action<'f> {
         self.task.action(self.progress.phase)
     }
 
-    /// The place in the payload at which the body of what `next` sends begins; 0 if that has no
-    /// body. The body is the payload from there on, as far as it goes.
+    /// Returns the place in the payload at which the body of `next` begins; 0 without a body. The body is a
+    /// slice of the payload from there on.
     pub fn sends_from(&self) -> usize {
         match self.progress.phase {
             Phase::Block(number) => self.task.begins(number),
@@ -120,7 +117,7 @@ impl<'f> Session<'f> {
         }
     }
 
-    /// The part of the image in what is seen that is to be kept, before the session gets it.
+    /// Returns the part of the image in `seen` that must be kept, before the session gets the result; None if there is none.
     pub(crate) fn part<'s>(&self, seen: Seen<'s>) -> Option<UploadPart<'s>> {
         match (self.progress.phase, seen) {
             (Phase::Fetch(number), Seen::Bytes(bytes)) => self.task.part_in(number, bytes),
@@ -128,8 +125,8 @@ impl<'f> Session<'f> {
         }
     }
 
-    /// Gives the session what came of its action, and whether the caller refused to keep the part of
-    /// the image in it.
+    /// Gives the session the result of its action; `refused` says that the caller did not keep the part in
+    /// it.
     pub(crate) fn on_result(&mut self, seen: Seen<'_>, refused: bool) {
         let phase = self.progress.phase;
         let heard = self.task.hear(phase, seen, refused);

@@ -4,10 +4,10 @@
 
 use crate::wire::Ids;
 
-/// A file's vendor or product that goes with every device.
+/// A vendor or product of a file that fits every device.
 const ANY: u16 = 0xffff;
 
-/// Returns whether a file is for a device: its vendor and its product are the device's, or FFFFh.
+/// Returns true if `file`, the identifiers of a file, are for `device`: the file's vendor and product are each the device's, or FFFFh.
 pub(crate) fn is_for(file: Ids, device: Ids) -> bool {
     goes_with(file.vendor, device.vendor) && goes_with(file.product, device.product)
 }

@@ -1,6 +1,6 @@
 // Of crates/dfu_host/src/task.rt, whose contracts are taken away.
 
-//! Task of a session, and the action of each phase, as the caller gets it.
+//! Task of a session, and the action of each phase in the form that the caller gets.
 
 use crate::host::action::Action;
 use crate::host::goal::Goal;
@@ -12,21 +12,21 @@ use crate::wire::Request;
 #[derive(Debug, PartialEq, Eq)]
 pub(crate) struct Task<'f> {
     pub(crate) goal: Goal<'f>,
-    /// The most bytes of a block, at least 1.
+    /// Largest number of bytes of a block, at least 1.
     pub(crate) transfer: u16,
     pub(crate) tolerant: bool,
     pub(crate) will_detach: bool,
-    /// In milliseconds.
+    /// Milliseconds of the descriptor's wDetachTimeOut.
     pub(crate) detach_ms: u16,
 }
 
 impl<'f> Task<'f> {
-    /// The payload that is sent or compared; empty for an upload.
+    /// Returns the payload that is sent or compared; empty for an upload.
     fn payload(&self) -> &'f [u8] {
         self.goal.payload()
     }
 
-    /// Block `number`, as a slice of the payload; empty if there is no such block.
+    /// Returns block `number`, as a slice of the payload; empty past the last block.
     pub(crate) fn block(&self, number: usize) -> &'f [u8] {
         let transfer = self.transfer as usize;
         let payload = self.payload();
@@ -34,19 +34,19 @@ impl<'f> Task<'f> {
         &rest[..transfer.min(rest.len())]
     }
 
-    /// The place in the payload at which a block begins.
+    /// Returns the place in the payload at which block number `number` begins.
     pub(crate) fn begins(&self, number: usize) -> usize {
         let all = self.payload().len();
         number.saturating_mul(self.transfer as usize).min(all)
     }
 
-    /// Returns whether a block is the last one.
+    /// Returns true if block number `number` is the last one.
     pub(crate) fn is_last(&self, number: usize) -> bool {
         let transfer = self.transfer as usize;
         self.payload().len() - number * transfer <= transfer
     }
 
-    /// The task goes on: once the last reset is done, what was to be verified is compared.
+    /// Changes the goal once the last reset is done: a payload that was to be verified is compared then.
     pub(crate) fn go_on(&mut self, done: bool) {
         if !done {
             return;
@@ -62,7 +62,7 @@ impl<'f> Task<'f> {
         (self.payload().len() - 1) / self.transfer as usize + 1
     }
 
-    /// The action of a phase.
+    /// Returns the action of `phase`.
     pub(crate) fn action(&self, phase: Phase) -> Action<'f> {
         match phase {
             Phase::Find | Phase::FindAgain | Phase::Poll(_) | Phase::Manifest | Phase::Trouble => {
@@ -92,7 +92,7 @@ impl<'f> Task<'f> {
         }
     }
 
-    /// If the device detaches by itself, a wait of 1 ms at least; else a reset.
+    /// Returns a wait of at least 1 ms if the device detaches by itself, else a reset.
     fn entering(&self) -> Action<'f> {
         if self.will_detach {
             Action::Wait(self.detach_ms.max(1) as u32)
@@ -102,14 +102,14 @@ impl<'f> Task<'f> {
     }
 }
 
-/// DNLOAD of a block; its number wraps at 65,536.
+/// Returns the DNLOAD of `body` as block number `number`, which wraps at 65,536.
 fn download(number: usize, body: &[u8]) -> Action<'_> {
     let block = (number % 65_536) as u16;
     let length = body.len() as u16;
     send(Request::Dnload { block, length }, body)
 }
 
-/// One of the seven requests, with its body.
+/// Returns the sending of `request`, one of the seven, with its `body`.
 fn send(request: Request, body: &[u8]) -> Action<'_> {
     match request.setup() {
         Some(setup) => Action::Send {

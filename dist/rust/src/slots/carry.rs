@@ -9,7 +9,7 @@ use crate::slots::sequence::{MAX_OPERATIONS, Sequence};
 use crate::slots::writes::write_some;
 use crate::slots::{Medium, WriteFault};
 
-/// The bytes that the operations of a change take theirs from.
+/// The bytes from which the operations of a change take the bytes that they write.
 #[derive(Clone, Copy, Debug, PartialEq, Eq)]
 pub(crate) struct Sources<'b> {
     /// The bytes held back.
@@ -100,7 +100,11 @@ impl Sources<'_> {
         }
     }
 
-    /// Carries out the operations of a sequence, in their order.
+    /// Performs the operations of `sequence` on `medium`, in their order.
+    ///
+    /// # Errors
+    ///
+    /// The fault of the write at which the operations are broken off.
     pub(crate) fn carry_out<M: Medium>(
         self,
         medium: &mut M,

@@ -6,7 +6,7 @@ use crate::slots::layout::MAX_UNIT;
 use crate::slots::read::stands_at;
 use crate::slots::{Medium, WriteFault};
 
-/// Returns whether so many bytes from there on are FFh.
+/// Returns true if the `len` bytes from `at` on are FFh.
 pub(crate) fn is_blank<M: Medium>(medium: &M, at: u32, len: u32) -> bool {
     let blank = [0xff; MAX_UNIT];
     let _end = medium.len();
@@ -22,7 +22,7 @@ pub(crate) fn is_blank<M: Medium>(medium: &M, at: u32, len: u32) -> bool {
     true
 }
 
-/// Erases the sector that begins there, and reads it back. All erases of the store go through it.
+/// Erases the sector that begins at `at`, and reads it back. All erases of the store go through this call.
 pub(crate) fn erase<M: Medium>(medium: &mut M, at: u32) -> Result<(), WriteFault> {
     let size = medium.sector();
     match medium.erase(at) {
@@ -36,7 +36,7 @@ pub(crate) fn erase<M: Medium>(medium: &mut M, at: u32) -> Result<(), WriteFault
     }
 }
 
-/// Erases the sectors that begin in so many bytes from there on, one after the other.
+/// Erases the sectors that begin in the `len` bytes from `at` on, one after the other.
 pub(crate) fn erase_within<M: Medium>(medium: &mut M, at: u32, len: u32) -> Result<(), WriteFault> {
     let _end = medium.len();
     let sector = medium.sector();

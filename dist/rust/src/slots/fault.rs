@@ -4,11 +4,11 @@
 use core::fmt;
 use thiserror::Error;
 
-/// Faults for which `format` gave the medium back. It looks for them in this order.
+/// A fault for which `format` gives the medium back. The faults are checked in this order.
 #[derive(Clone, Copy, Debug, PartialEq, Eq, Error)]
 pub enum FormatFault {
     /// The medium's length is not 2 * (2 * G + C) with C from 1 to 16,777,216 and whole in the unit and the sector, G being
-    /// the most of 16, the unit's size and the sector's; or its sector is not 0, nor a multiple of 256 up to 131,072.
+    /// the most of 16, the unit's size and the sector's; or its sector is not 0, nor a multiple of 256 up to 262,144.
     /// Nothing was written.
     WrongSize,
     /// The image has more bytes than the data of a slot. Nothing was written.
@@ -34,7 +34,7 @@ impl fmt::Display for FormatFault {
 #[derive(Clone, Copy, Debug, PartialEq, Eq, Error)]
 pub enum OpenFault {
     /// The medium's length is not 2 * (2 * G + C) with C from 1 to 16,777,216 and whole in the unit and the sector, G being
-    /// the most of 16, the unit's size and the sector's; or its sector is not 0, nor a multiple of 256 up to 131,072.
+    /// the most of 16, the unit's size and the sector's; or its sector is not 0, nor a multiple of 256 up to 262,144.
     WrongSize,
     /// Neither slot counts.
     NoImage,
@@ -57,7 +57,7 @@ impl fmt::Display for OpenFault {
     }
 }
 
-/// Faults of a write of the store.
+/// A fault of a write of the store.
 #[derive(Clone, Copy, Debug, PartialEq, Eq)]
 pub enum WriteFault {
     /// The medium reported that it failed.
@@ -66,7 +66,7 @@ pub enum WriteFault {
     NotVerified,
 }
 
-/// Faults for which `begin`, `put` or `commit` did not do as asked.
+/// A fault with which `begin`, `put` or `commit` fails.
 #[derive(Clone, Copy, Debug, PartialEq, Eq, Error)]
 pub enum PutFault {
     /// The bytes that were to be put end past the capacity, and the spare's gate is closed. Nothing was written. Only `put` returns it:

@@ -79,7 +79,7 @@ fn close_gates<M: Medium>(medium: &mut M) -> Result<(), WriteFault> {
     }
 }
 
-/// Makes this the active image of the medium.
+/// Writes `image` into the first slot and makes it the active image of `medium`.
 pub(crate) fn write_image<M: Medium>(medium: &mut M, image: &[u8]) -> Result<(), WriteFault> {
     match close_gates(medium) {
         Err(fault) => Err(fault),

@@ -6,7 +6,7 @@ use crate::slots::carry::Sources;
 use crate::slots::sequence::Sequence;
 use crate::slots::{Medium, WriteFault};
 
-/// Closes the gate of the slot that begins there: it writes a gate unit over it, or erases its sector.
+/// Closes the gate of the slot that begins at `slot`: writes a gate unit over it, or erases its sector.
 pub(crate) fn close_gate<M: Medium>(medium: &mut M, slot: u32) -> Result<(), WriteFault> {
     let none = Sources {
         held: &[],
@@ -16,8 +16,8 @@ pub(crate) fn close_gate<M: Medium>(medium: &mut M, slot: u32) -> Result<(), Wri
     none.carry_out(medium, Sequence::Close { slot })
 }
 
-/// Writes what is held back, at most 256 bytes of puts that end there, into the data of the slot that begins there, then this
-/// header, and then, in a write of its own, opens the gate.
+/// Writes `held`, at most 256 bytes of puts that end at `end`, into the data of the slot that begins at `slot`, then the header `head`,
+/// and then, in a write of its own, opens the gate.
 pub(crate) fn open_slot<M: Medium>(
     medium: &mut M,
     slot: u32,

@@ -4,19 +4,19 @@
 
 use crate::slots::Medium;
 
-/// Bytes of the header, and the fewest bytes of the gate unit and the header unit.
+/// Number of bytes of the header, and the smallest number of bytes of the gate unit and the header unit.
 const HEADER_SIZE: u32 = 16;
 
-/// Bytes of the largest unit.
+/// Number of bytes of the largest unit.
 pub const MAX_UNIT: usize = 256;
 
-/// Fewest bytes of a sector, whose size is a multiple of this.
+/// Smallest number of bytes of a sector, whose size is a multiple of this number.
 pub const PAGE: u32 = 256;
 
-/// Most bytes of a sector.
-pub const MAX_SECTOR: u32 = 1 << 17;
+/// Largest number of bytes of a sector.
+pub const MAX_SECTOR: u32 = 1 << 18;
 
-/// Most bytes of data of a slot.
+/// Largest number of bytes of the data of a slot.
 pub const MAX_CAPACITY: u32 = 1 << 24;
 
 /// The first byte of an open gate unit; any other byte is a closed gate.
@@ -47,28 +47,28 @@ impl Unit {
     }
 }
 
-/// Returns the bytes of the gate unit, from 16 to 256; the header unit has as many.
+/// Returns the number of bytes of the gate unit, from 16 to 256; the header unit has as many.
 pub(crate) fn gate_size(unit: Unit) -> u32 {
     HEADER_SIZE.max(unit.size())
 }
 
-/// Returns the bytes that the gate of a slot takes up, and its header as many: 16, a unit or a sector, whichever is most.
+/// Returns the number of bytes that the gate of a slot takes up, and its header as many: 16, a unit or a sector, whichever is most.
 pub(crate) fn gate_room(unit: Unit, sector: u32) -> u32 {
     gate_size(unit).max(sector)
 }
 
-/// Returns the number of zeros that fill so many bytes up to the end of a unit, from 0 to 255.
+/// Returns the number of zeros that fill `len` bytes up to the end of a unit, from 0 to 255.
 pub(crate) fn fill_size(unit: Unit, len: u32) -> u32 {
     let size = unit.size();
     (size - len % size) % size
 }
 
-/// Returns the bytes that the gate of a slot takes up, and its header as many: 16, a unit or a sector, whichever is most.
+/// Returns the number of bytes that the gate of a slot takes up, and its header as many: 16, a unit or a sector, whichever is most.
 pub fn gate_of<M: Medium>(medium: &M) -> u32 {
     gate_room(medium.unit(), medium.sector())
 }
 
-/// Returns the bytes of data of each slot.
+/// Returns the number of bytes of data of each slot.
 ///
 /// # What the caller must keep to
 ///
@@ -78,7 +78,7 @@ pub fn capacity_of<M: Medium>(medium: &M) -> u32 {
     medium.len() / 2 - 2 * gate_of(medium)
 }
 
-// Returns whether the store takes sectors of so many bytes: 0, or a multiple of 256 up to 131,072.
+// Returns whether the store takes sectors of so many bytes: 0, or a multiple of 256 up to 262,144.
 fn is_sector(sector: u32) -> bool {
     sector % PAGE == 0 && sector <= MAX_SECTOR
 }
@@ -108,8 +108,8 @@ pub const VERSION: u8 = 2;
 /// The version of a header without a register, which is read and never written.
 pub const OLD_VERSION: u8 = 1;
 
-/// A header: generation, version, two zeros, the length, the register over the image, both in little-endian order,
-/// and four zeros. In version 1 zeros are in the place of the register.
+/// Returns the header with `version`, `generation`, an image of `len` bytes and its `register`: generation, version, two zeros, the
+/// length, the register over the image, both in little-endian order, and four zeros. In version 1 zeros are in the place of the register.
 pub fn make_header(version: u8, generation: u8, len: u32, register: u32) -> [u8; 16] {
     let [a, b, c, d] = len.to_le_bytes();
     let [e, f, g, h] = register.to_le_bytes();
@@ -118,12 +118,12 @@ pub fn make_header(version: u8, generation: u8, len: u32, register: u32) -> [u8;
     ]
 }
 
-/// The length in a header that was read.
+/// Returns the length of the image, in bytes, that `header` says.
 pub fn length_in(header: &[u8; 16]) -> u32 {
     u32::from_le_bytes([header[4], header[5], header[6], header[7]])
 }
 
-/// The register in a header that was read.
+/// Returns the register over the image that `header` says.
 pub(crate) fn register_in(header: &[u8; 16]) -> u32 {
     u32::from_le_bytes([header[8], header[9], header[10], header[11]])
 }
@@ -133,7 +133,7 @@ fn rest_in(header: &[u8; 16]) -> u32 {
     u32::from_le_bytes([header[12], header[13], header[14], header[15]])
 }
 
-/// Returns whether a header is of this version with this register, and well formed, whatever its generation and its length are.
+/// Returns true if the header `found` is of `version` with `register`, and well formed, whatever its generation and its length are.
 pub(crate) fn is_header(found: &[u8; 16], version: u8, register: u32) -> bool {
     if found[1] != version {
         return false;
@@ -150,7 +150,7 @@ pub(crate) fn is_header(found: &[u8; 16], version: u8, register: u32) -> bool {
     rest_in(found) == 0
 }
 
-/// Returns whether a header is of this version with this register, and well formed, with a length up to the room.
+/// Returns true if the header `found` is of `version` with `register`, and well formed, with a length up to `room`.
 pub(crate) fn is_formed(found: &[u8; 16], room: u32, version: u8, register: u32) -> bool {
     length_in(found) <= room && is_header(found, version, register)
 }

@@ -2,7 +2,7 @@
 
 //! One operation on a medium, and what its bytes are.
 
-/// Bytes of an operation, with zeros after them.
+/// The source of the bytes of an operation, with zeros after them.
 #[derive(Clone, Copy, Debug, PartialEq, Eq)]
 pub enum Source {
     /// The bytes held back, and after them the block, or an image.
@@ -22,18 +22,18 @@ pub enum Source {
 pub enum Op {
     /// A sector is erased.
     Erase {
-        /// Where it begins.
+        /// Place at which the sector begins.
         at: u64,
     },
     /// Bytes are written, with an erase before of each sector that begins in their range. No bytes mean no write.
     Program {
-        /// Place of the first of them.
+        /// Place of the first byte.
         at: u64,
-        /// What they are.
+        /// Source of the bytes.
         source: Source,
-        /// Bytes of the source that come before them.
+        /// Number of bytes of the source that come before the bytes written.
         skip: u32,
-        /// Number of bytes.
+        /// Number of bytes that are written.
         len: u32,
     },
 }

@@ -18,7 +18,7 @@ pub struct Puts {
 }
 
 impl Puts {
-    /// Nothing was put.
+    /// Returns the puts before the first one: no bytes held back, and an end of 0.
     pub(crate) fn nothing() -> Puts {
         Puts {
             held: ArrayVec::new(),
@@ -26,7 +26,7 @@ impl Puts {
         }
     }
 
-    /// Forgets what was put.
+    /// Removes all puts: no bytes are held back, and the end is 0.
     pub(crate) fn clear(&mut self) {
         self.held.clear();
         self.end = 0;
@@ -38,7 +38,7 @@ fn hold(held: &mut ArrayVec<u8, MAX_UNIT>, bytes: &[u8]) {
     let _ = held.try_extend_from_slice(bytes);
 }
 
-/// Holds back what makes no whole unit of the bytes that are held and these after them.
+/// Holds back in `held` what makes no whole unit of the bytes of `held` and `bytes` after them.
 pub(crate) fn hold_rest(held: &mut ArrayVec<u8, MAX_UNIT>, unit: Unit, bytes: &[u8]) {
     let all = held.len() + bytes.len();
     let rest = all % unit.size() as usize;
@@ -50,8 +50,8 @@ pub(crate) fn hold_rest(held: &mut ArrayVec<u8, MAX_UNIT>, unit: Unit, bytes: &[
     hold(held, &bytes[bytes.len() - rest..]);
 }
 
-/// Puts these bytes after those that are held, in the data of the slot that begins there, at the end of the puts. It writes the unit
-/// that the held bytes begin, if it is full now, and then all further whole units in one write, and holds the rest back.
+/// Puts `bytes` after those of `held`, in the data of the slot that begins at `slot`, at `end`, the end of the puts. The unit that the
+/// held bytes begin is written, if it is full now, and then all further whole units in one write, and the rest is held back.
 pub(crate) fn put_units<M: Medium>(
     medium: &mut M,
     held: &mut ArrayVec<u8, MAX_UNIT>,

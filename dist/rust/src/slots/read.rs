@@ -1,15 +1,86 @@
 // Of crates/dfu_slots/src/read.rt, whose contracts are taken away.
 
-//! Readings of the slots of a medium.
+//! Readings of flash, and of the slots of a medium.
 
 use crate::slots::Medium;
 use crate::slots::layout::{
     OLD_VERSION, OPEN_GATE, VERSION, capacity_of, gate_of, is_formed, is_header, length_in,
 };
 use crate::slots::register::register_of;
+use crate::suffix::Crc;
+
+// Bytes that are copied at a time out of flash that is not mapped.
+const PIECE_BYTES: usize = 64;
 
 // Bytes that are read back at a time.
 const READ_BACK_BYTES: usize = 256;
+
+// Returns whether flash is memory that is read in place. No clause says what it answers, so whoever calls it is proved for both answers.
+fn is_mapped() -> bool {
+    true
+}
+
+/// Copies bytes of flash. Nothing else looks at a byte of flash that is not mapped.
+///
+/// # What the caller must keep to
+///
+/// - `out` is as long as `flash`.
+pub fn read_flash(flash: &[u8], out: &mut [u8]) {
+    debug_assert!(flash.len() == out.len());
+    out.copy_from_slice(flash);
+}
+
+/// Returns one byte of flash.
+///
+/// # What the caller must keep to
+///
+/// - `at` is less than the length of `flash`.
+pub fn flash_byte_at(flash: &[u8], at: usize) -> u8 {
+    debug_assert!(at < flash.len());
+    let mut byte = [0];
+    read_flash(&flash[at..at + 1], &mut byte);
+    byte[0]
+}
+
+/// Returns whether the bytes of flash from `from` up to `to`, without that one, are FFh.
+///
+/// # What the caller must keep to
+///
+/// - `to` is at most the length of `flash`.
+pub fn is_flash_erased(flash: &[u8], from: usize, to: usize) -> bool {
+    debug_assert!(to <= flash.len());
+    for i in from..to {
+        if flash_byte_at(flash, i) != 0xff {
+            return false;
+        }
+    }
+    true
+}
+
+// The register over flash that is copied piece by piece.
+fn crc_by_pieces(flash: &[u8]) -> Crc {
+    let mut crc = Crc::new();
+    let mut buffer = [0; PIECE_BYTES];
+    let mut at = 0;
+    while at < flash.len() {
+        let size = PIECE_BYTES.min(flash.len() - at);
+        let piece = &mut buffer[..size];
+        read_flash(&flash[at..at + size], piece);
+        crc.update_small(piece);
+        at += size;
+    }
+    crc
+}
+
+/// Returns the register over bytes of flash, to go on from.
+pub fn crc_of_flash(flash: &[u8]) -> Crc {
+    if !is_mapped() {
+        return crc_by_pieces(flash);
+    }
+    let mut crc = Crc::new();
+    crc.update_small(flash);
+    crc
+}
 
 /// The byte at this place.
 pub(crate) fn byte_at<M: Medium>(medium: &M, at: u32) -> u8 {

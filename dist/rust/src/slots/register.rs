@@ -33,13 +33,13 @@ fn crc_of<M: Medium>(medium: &M, slot_at: u32, len: u32) -> Crc {
     crc
 }
 
-/// The register over the first `len` bytes of the data of the slot that begins there.
+/// Returns the register over the first `len` bytes of the data of the slot that begins at `slot_at`.
 pub(crate) fn register_of<M: Medium>(medium: &M, slot_at: u32, len: u32) -> u32 {
     crc_of(medium, slot_at, len).value()
 }
 
-/// The register over the first `len` bytes of what was put into the slot that begins there: so many of them are in its data, and
-/// these are held back.
+/// Returns the register over the first `len` bytes of what was put into the slot that begins at `slot_at`: the first `at` bytes are in its
+/// data, and `held` are held back.
 pub(crate) fn register_of_put<M: Medium>(
     medium: &M,
     slot_at: u32,
@@ -53,7 +53,7 @@ pub(crate) fn register_of_put<M: Medium>(
     crc.value()
 }
 
-/// The register over an image, by the tables that the medium has chosen.
+/// Returns the register over `image`, by the tables that `medium` has chosen.
 pub(crate) fn register_of_image<M: Medium>(medium: &M, image: &[u8]) -> u32 {
     let mut crc = Crc::new();
     take_piece(medium, &mut crc, image);

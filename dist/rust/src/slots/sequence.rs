@@ -6,10 +6,10 @@ use crate::slots::Unit;
 use crate::slots::layout::{fill_size, gate_room, gate_size};
 use crate::slots::operation::{Op, Source};
 
-/// Bytes of an image that a format writes at a time: whole units, whatever the unit is.
+/// Number of bytes of an image that a format writes at a time: whole units, whatever the unit is.
 pub(crate) const MAX_WRITE: u32 = 4096;
 
-/// Operations of the longest change.
+/// Number of operations of the longest change.
 pub const MAX_OPERATIONS: usize = 3;
 
 /// A change of a medium, by the numbers that its operations depend on.
@@ -24,7 +24,7 @@ pub enum Sequence {
     Put {
         /// Place at which the slot begins.
         slot: u32,
-        /// Place at which the puts end in its data.
+        /// Place at which the puts end in the data of the slot.
         end: u32,
         /// Number of bytes that are held back.
         held: u16,
@@ -35,14 +35,14 @@ pub enum Sequence {
     Commit {
         /// Place at which the slot begins.
         slot: u32,
-        /// Place at which the puts end in its data.
+        /// Place at which the puts end in the data of the slot.
         end: u32,
         /// Number of bytes that are held back.
         held: u16,
     },
     /// Up to 4,096 bytes of an image, filled up to a unit, go into the data of the first slot, as `format` writes them.
     Image {
-        /// Bytes of it that come before them.
+        /// Number of bytes of the image that come before the bytes written.
         from: u32,
         /// Length of the image in bytes.
         image: u32,
@@ -136,8 +136,8 @@ fn image_op(unit: Unit, sector: u32, from: u32, image: u32, index: usize) -> Opt
 }
 
 impl Sequence {
-    /// The operation of this number, from 0 on, on a medium with this unit and with sectors of so many bytes, 0 for none. `None`
-    /// after the last one. A sequence has at most 3.
+    /// Returns operation number `index`, from 0 on, on a medium with this `unit` and with sectors of `sector` bytes, 0 for none. None
+    /// after the last operation. A sequence has at most 3.
     pub fn operation(self, unit: Unit, sector: u32, index: usize) -> Option<Op> {
         match self {
             Sequence::Close { slot } => close_op(unit, sector, slot, index),

@@ -22,13 +22,13 @@ impl From<AllocError> for NoMemory {
 /// Behaviour of the next writes.
 #[derive(Clone, Copy, Debug, PartialEq, Eq)]
 pub enum Mode {
-    /// They all work.
+    /// All writes work.
     Whole,
-    /// So many work as `writes` says, and then one fails.
+    /// The next `writes` writes work, and the one after them fails.
     Armed,
-    /// So many work as `writes` says, and then one lies.
+    /// The next `writes` writes work, and the one after them lies.
     Lying,
-    /// They all fail.
+    /// All writes fail.
     Stopped,
 }
 
@@ -62,7 +62,7 @@ pub struct SimMedium {
 }
 
 impl SimMedium {
-    /// A medium of `len` bytes FFh, which is written over in place, in bytes, and not armed.
+    /// Returns a medium of `len` bytes FFh, which is written over in place, byte by byte, and is not armed.
     ///
     /// # Errors
     ///
@@ -71,7 +71,7 @@ impl SimMedium {
         SimMedium::with_unit(alloc, len, Unit::Byte)
     }
 
-    /// A medium of `len` bytes FFh, which is written over in place, in this unit, and not armed. `len` must be whole in it.
+    /// Returns a medium of `len` bytes FFh, a multiple of `unit`, which is written over in place in that unit, and is not armed.
     ///
     /// # Errors
     ///
@@ -85,8 +85,8 @@ impl SimMedium {
         SimMedium::with_sectors(alloc, len, unit, 0)
     }
 
-    /// A medium of `len` bytes FFh, which is written in this unit, erased in sectors of so many bytes (0: written over in
-    /// place), and not armed. `len` must be whole in the unit. An erase goes by the same fuse as a write.
+    /// Returns a medium of `len` bytes FFh, which is written in units of `unit`, erased in sectors of `sector` bytes (0: written over in
+    /// place), and is not armed. `len` must be a multiple of the unit. An erase goes by the same fuse as a write.
     ///
     /// # Errors
     ///
@@ -122,7 +122,7 @@ impl SimMedium {
         })
     }
 
-    /// Its last writes, for a trace.
+    /// Returns the last writes, for a trace.
     pub fn noted(&self) -> &LastWrites {
         &self.noted
     }

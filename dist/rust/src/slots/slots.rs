@@ -28,7 +28,7 @@ impl<M: Medium> Slots<M> {
     ///
     /// `WrongSize` if the medium's length is not 2 * (2 * G + C) with C from 1 to 16,777,216 and whole in
     /// the unit and the sector, G being the most of 16, the unit's size and the sector's, or if the sector is not 0, nor a
-    /// multiple of 256 up to 131,072; `TooLarge` if the image has more than C bytes;
+    /// multiple of 256 up to 262,144; `TooLarge` if the image has more than C bytes;
     /// `Failed` if a write failed, or other bytes were read back. They are looked for in this order. The first two hand
     /// the medium back unchanged.
     pub fn format(medium: M, image: &[u8]) -> Result<Slots<M>, (FormatFault, M)>
@@ -82,7 +82,7 @@ impl<M: Medium> Slots<M> {
         self.puts.end
     }
 
-    /// The bytes held back: those put last that make no whole unit of the medium yet.
+    /// Returns the bytes held back: those put last that make no whole unit of the medium yet.
     pub fn held(&self) -> &[u8] {
         self.puts.held.as_slice()
     }
@@ -125,7 +125,7 @@ impl<M: Medium> Slots<M> {
         }
     }
 
-    /// The medium, to be read. Bytes that are held back are not on it.
+    /// Returns the medium, to be read. Bytes that are held back are not on it.
     pub fn medium(&self) -> &M {
         &self.medium
     }
@@ -142,17 +142,17 @@ impl<M: Medium> Slots<M> {
 }
 
 impl<M: Faulty> Slots<M> {
-    /// As the medium's `arm`. It changes no byte.
+    /// Arms the medium, as `Faulty::arm`. Changes no byte.
     pub fn arm(&mut self, writes: u32, tear: &[u8], stop: bool) {
         self.medium.arm(writes, tear, stop);
     }
 
-    /// As the medium's `arm_lie`. It changes no byte.
+    /// Arms the medium for a lie, as `Faulty::arm_lie`. Changes no byte.
     pub fn arm_lie(&mut self, writes: u32, tear: &[u8]) {
         self.medium.arm_lie(writes, tear);
     }
 
-    /// As the medium's `disarm`. It changes no byte.
+    /// Clears the fuse of the medium, as `Faulty::disarm`. Changes no byte.
     pub fn disarm(&mut self) {
         self.medium.disarm();
     }

@@ -32,7 +32,7 @@ pub(crate) fn begin<M: Medium>(
     }
 }
 
-/// Puts these bytes after those that were put, as far as they make whole units, and holds the rest back.
+/// Puts `bytes` at `at`, after those that were put, as far as they make whole units, and holds the rest back.
 pub(crate) fn put<M: Medium>(
     medium: &mut M,
     puts: &mut Puts,

@@ -6,7 +6,7 @@ use crate::slots::erasing::erase_within;
 use crate::slots::read::stands_at;
 use crate::slots::{Medium, WriteFault};
 
-/// Writes these bytes there, and reads them back. All writes of the store go through it.
+/// Writes `bytes` to `medium` at `at`, and reads them back. All writes of the store go through this call.
 pub(crate) fn write<M: Medium>(medium: &mut M, at: u32, bytes: &[u8]) -> Result<(), WriteFault> {
     match medium.write(at, bytes) {
         Err(_) => Err(WriteFault::Failed),
@@ -19,7 +19,8 @@ pub(crate) fn write<M: Medium>(medium: &mut M, at: u32, bytes: &[u8]) -> Result<
     }
 }
 
-/// Writes these bytes there, and nothing for no bytes. On a medium with sectors it erases those before that begin in their range.
+/// Writes `bytes` to `medium` at `at`, and nothing for no bytes. On a medium with sectors the sectors that begin in their range are erased
+/// before.
 pub(crate) fn write_some<M: Medium>(medium: &mut M, at: u32, bytes: &[u8]) -> Result<(), WriteFault> {
     if bytes.is_empty() {
         return Ok(());

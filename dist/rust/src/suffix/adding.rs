@@ -1,6 +1,6 @@
 // Of crates/dfu_suffix/src/adding.rt, whose contracts are taken away.
 
-//! Files made of what a reader gives.
+//! Adding a suffix to all bytes of a reader.
 
 use crate::suffix::fault::SuffixFault;
 use crate::suffix::file::MAX_PAYLOAD;
@@ -11,7 +11,7 @@ use crate::wire::Ids;
 use crate::memory::{Global, Vec};
 use std::io::{Read, Write};
 
-/// The fault of `add` for one of gathering.
+/// Returns the fault of `add` for `fault`, that of gathering.
 fn fault_of(fault: GatherFault) -> SuffixFault {
     match fault {
         GatherFault::TooLarge => SuffixFault::TooLarge,
@@ -20,7 +20,7 @@ fn fault_of(fault: GatherFault) -> SuffixFault {
     }
 }
 
-/// The file of a payload, in memory.
+/// Returns the file of `payload` and its suffix with `ids`, in memory.
 fn with_suffix(mut payload: Vec<u8>, ids: Ids) -> Result<Vec<u8>, SuffixFault> {
     if has_suffix(&payload) {
         return Err(SuffixFault::AlreadySuffixed);
@@ -31,7 +31,7 @@ fn with_suffix(mut payload: Vec<u8>, ids: Ids) -> Result<Vec<u8>, SuffixFault> {
     }
 }
 
-/// The file of all that a reader gives, in memory.
+/// Returns the file of all bytes that `reader` gives and their suffix with `ids`, in memory.
 fn file_of<R: Read>(alloc: Global, reader: R, ids: Ids) -> Result<Vec<u8>, SuffixFault> {
     match gather(alloc, reader, MAX_PAYLOAD) {
         Ok(payload) => with_suffix(payload, ids),
@@ -39,10 +39,9 @@ fn file_of<R: Read>(alloc: Global, reader: R, ids: Ids) -> Result<Vec<u8>, Suffi
     }
 }
 
-/// Writes all that a reader gives and then a suffix of 16 bytes, with these identifiers and
-/// bcdDFU 0100h (USB DFU 1.1, appendix B). It answers the number of bytes written, at most
-/// 16,777,216. It gathers the whole file in memory before it writes the first byte, and it doesn't
-/// flush: the writer stays the caller's.
+/// Writes all bytes that a reader gives and then a suffix of 16 bytes, with these identifiers and bcdDFU 0100h (USB DFU 1.1, appendix B).
+/// The answer is the number of bytes written, at most 16,777,216. The whole file is gathered in memory before its first byte is written,
+/// and the writer is not flushed, because it stays the caller's.
 ///
 /// # Errors
 ///

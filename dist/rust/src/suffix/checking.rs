@@ -1,6 +1,6 @@
 // Of crates/dfu_suffix/src/checking.rt, whose contracts are taken away.
 
-//! Checks of a file that a reader gives.
+//! Checks of a file whose bytes a reader gives.
 
 use crate::suffix::crc::Crc;
 use crate::suffix::fault::SuffixFault;
@@ -9,9 +9,8 @@ use crate::suffix::findings::{Findings, findings_of};
 use crate::suffix::summary::{Summary, check_register};
 use std::io::Read;
 
-/// Checks all that a reader gives, as `read` of those bytes. Of these it keeps the register over
-/// them, their count and the last 16, and takes no memory, for any number of bytes. It reads up to
-/// 65,536 bytes at a time, into a buffer on the stack.
+/// Checks all bytes that a reader gives, as `read` of the bytes. Only the register over them, their count and the last 16 are kept, and no
+/// memory is taken, for any number of bytes. Up to 65,536 bytes are read at a time, into a buffer on the stack.
 ///
 /// # Errors
 ///
@@ -22,8 +21,8 @@ pub fn check<R: Read>(reader: R) -> Result<Summary, SuffixFault> {
     check_with(reader, &mut findings)
 }
 
-/// Does what `check` does, and writes into `findings` what the reason of BadLength or BadCrc is made of. After
-/// TooShort, TooLarge and Read they say nothing of the file.
+/// Checks as `check` does, and writes into `findings` the numbers of which the reason of BadLength or BadCrc is made. After TooShort,
+/// TooLarge and Read they say nothing of the file.
 ///
 /// # Errors
 ///

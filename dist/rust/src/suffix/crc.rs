@@ -14,46 +14,44 @@ pub struct Crc {
 }
 
 impl Crc {
-    /// The register over no bytes.
+    /// Returns the register over no bytes.
     pub fn new() -> Self {
         Crc {
             register: 0xffff_ffff,
         }
     }
 
-    /// Takes more bytes: a register over some bytes becomes the one over those and these. A program that
-    /// calls it links 8,192 bytes of tables; `update_small` does the same without them.
+    /// Takes more bytes: the register goes on from the bytes before them. A program that calls `update` links 8,192 bytes of tables;
+    /// `update_small` does the same without them.
     pub fn update(&mut self, bytes: &[u8]) {
         *self = Crc {
             register: after_bytes(self.register, bytes),
         };
     }
 
-    /// Takes more bytes, as `update` does, in about half as many instructions if there are 65,536 of them:
-    /// 4,096 and more are folded first, for which it has 6,064 bytes on the stack. Fewer are handled as `update`
-    /// does.
+    /// Takes more bytes, as `update` does, in about half as many instructions if there are 65,536 of them: 4,096 and more are folded first,
+    /// for which the call has 6,064 bytes on the stack. Fewer bytes are taken as by `update`.
     pub fn update_long(&mut self, bytes: &[u8]) {
         *self = Crc {
             register: folding::after_bytes(self.register, bytes),
         };
     }
 
-    /// Takes more bytes, as `update` does, by a table of 64 bytes, in over four times as many instructions:
-    /// for a device that has no room for the large tables. Only a program that nowhere calls `update`
-    /// or `update_long` links without these.
+    /// Takes more bytes, as `update` does, by a table of 64 bytes, in over four times as many instructions: for a device that has no room
+    /// for the large tables. Only a program that nowhere calls `update` or `update_long` links without them.
     pub fn update_small(&mut self, bytes: &[u8]) {
         *self = Crc {
             register: small::after_bytes(self.register, bytes),
         };
     }
 
-    /// The register, which is the dwCRC of a file that has these bytes before it.
+    /// Returns the register over the bytes so far: the dwCRC of a file whose other bytes these are.
     pub fn value(&self) -> u32 {
         self.register
     }
 }
 
-// One of the tables, by its place. A function has it, because each proof that names all tables is dear.
+// One of the tables, by its place. The tables are in a function of their own, because each proof that names all tables is dear.
 #[inline(always)]
 fn table(place: usize) -> &'static [u32; 256] {
     &TABLES[place]
@@ -65,7 +63,7 @@ fn entry(table: &[u32; 256], number: u32) -> u32 {
     table[(number & 0xff) as usize]
 }
 
-// The register after one more byte.
+// The register after a further byte.
 #[inline(always)]
 fn after_byte(register: u32, byte: u8) -> u32 {
     (register >> 8) ^ entry(table(7), register ^ u32::from(byte))
@@ -95,15 +93,15 @@ fn after_64_zeros(number: u32) -> u32 {
         ^ entry(table(3), number >> 24)
 }
 
-// The register after eight more bytes. Only the first four bytes wait for the register, as one number;
-// the others are loaded each by itself, which takes fewer instructions than to cut them out of a word.
+// The register after eight further bytes. Only the first four bytes wait for the register, as one number; the others are loaded each by
+// itself, because that takes fewer instructions than to cut them out of a word.
 #[inline(always)]
 fn after_eight(register: u32, bytes: &[u8]) -> u32 {
     let (first, second) = bytes.split_at(4);
     after_32_zeros(second) ^ after_64_zeros(register ^ LittleEndian::read_u32(first))
 }
 
-// The register after more bytes, each by itself.
+// The register after further bytes, one at a time.
 #[inline(always)]
 fn after_each(start: u32, bytes: &[u8]) -> u32 {
     let mut register = start;
@@ -113,14 +111,14 @@ fn after_each(start: u32, bytes: &[u8]) -> u32 {
     register
 }
 
-// The register after sixteen more bytes.
+// The register after sixteen further bytes.
 #[inline(always)]
 fn after_sixteen(register: u32, bytes: &[u8]) -> u32 {
     let (first, second) = bytes.split_at(8);
     after_eight(after_eight(register, first), second)
 }
 
-// The register after a few more bytes: the first eight at once if there are that many.
+// The register after a few further bytes: the first eight at once if there are that many.
 fn after_few(register: u32, bytes: &[u8]) -> u32 {
     match bytes.split_first_chunk::<8>() {
         Some((eight, more)) => after_each(after_eight(register, eight), more),
@@ -128,7 +126,7 @@ fn after_few(register: u32, bytes: &[u8]) -> u32 {
     }
 }
 
-/// The register after more bytes, sixteen at a time, so that two steps share one turn of the loop.
+/// Returns the register after `start` and `bytes`, sixteen at a time, so that two steps share one turn of the loop.
 pub(crate) fn after_bytes(start: u32, bytes: &[u8]) -> u32 {
     let mut register = start;
     let mut rest = bytes;

@@ -1,13 +1,12 @@
 // Of crates/dfu_suffix/src/fault.rt, whose contracts are taken away.
 
-//! Why a file is refused.
+//! Faults for which a file is refused.
 
 use core::fmt;
 use thiserror::Error;
 
-/// Why a file isn't read, checked or written. `read` and `check` answer the first of TooLarge,
-/// TooShort, NoSignature, BadLength, DfuSe, BadCrc whose condition holds, looked for in this
-/// order; `add` looks for TooLarge and then AlreadySuffixed.
+/// Faults for which a file isn't read, checked or written. `read` and `check` answer the first of TooLarge, TooShort, NoSignature,
+/// BadLength, DfuSe, BadCrc whose condition holds, looked for in this order; `add` looks for TooLarge and then AlreadySuffixed.
 #[derive(Clone, Copy, Debug, PartialEq, Eq, Error)]
 pub enum SuffixFault {
     /// The file has under 16 bytes.
@@ -22,7 +21,7 @@ pub enum SuffixFault {
     BadCrc,
     /// The bytes that are to get a suffix have one: `read` would answer Ok or DfuSe for them.
     AlreadySuffixed,
-    /// The file has over 16,777,216 bytes, or would have with the 16 of a suffix.
+    /// The file has over 16,777,216 bytes, or would have with the 16 bytes of a suffix.
     TooLarge,
     /// An allocation was refused, in `add`.
     NoMemory,
@@ -60,7 +59,7 @@ static NAMES: [&str; 10] = [
 ];
 
 impl SuffixFault {
-    /// The name of the fault, that of its variant, as `TooShort`.
+    /// Returns the name of the fault, that of its variant, as `TooShort`.
     pub fn name(self) -> &'static str {
         NAMES[self as usize]
     }

@@ -1,18 +1,17 @@
 // Of crates/dfu_suffix/src/folding.rt, whose contracts are taken away.
 
-//! The register of many bytes: they are folded onto the last 1,968 of them, so that only these go through the tables.
+//! The register of many bytes, which are folded onto their last 1,968, so that only these go through the tables.
 //!
-//! Seven shifts of a number below 2^32, by 0, 720, 848, 1184, 1280, 1920 and 1968 bytes, combine to 0
-//! (crates/dfu_suffix/proofs/Spread.antt). So a byte may be taken away if the bytes that come 48, 688, 784, 1120, 1248 and 1968 places
-//! later are each combined with it: the register stays the same. These places are multiples of sixteen, so that
-//! sixteen bytes go at once.
+//! Seven shifts of a number below 2^32, by 0, 720, 848, 1184, 1280, 1920 and 1968 bytes, combine to 0 (crates/dfu_suffix/proofs/Spread.antt). Therefore a
+//! byte may be taken away if the bytes that come 48, 688, 784, 1120, 1248 and 1968 places later are each combined with it, because the
+//! register stays the same. These places are multiples of sixteen, so that sixteen bytes go at once.
 
 use crate::suffix::crc;
 
-/// Fewest bytes that are worth folding; as many are folded at a time.
+/// Smallest number of bytes that are worth folding, and the number that is folded at a time.
 const FOLDED_BYTES: usize = 4096;
 
-/// The bytes of a residue, 1,968, and of a piece after it.
+/// Size of the room: a residue of 1,968 bytes, and a piece after it.
 const ROOM: usize = 6064;
 
 // A residue at the front of a room, which represents the register.
@@ -22,7 +21,7 @@ fn residue_for(register: u32) -> [u8; ROOM] {
     room
 }
 
-// Folds more bytes into the residue: it then represents the register after them.
+// Folds further bytes into the residue, which then represents the register after them.
 fn fold(room: &mut [u8; ROOM], bytes: &[u8]) {
     for place in 0..bytes.len() {
         room[place + 1968] = bytes[place]
@@ -47,7 +46,7 @@ fn register_of(room: &[u8; ROOM]) -> u32 {
     whole ^ first ^ second ^ third ^ fourth ^ fifth
 }
 
-// The register after so many bytes that they are worth folding.
+// The register after bytes that are enough to be worth folding.
 fn after_many(start: u32, bytes: &[u8]) -> u32 {
     let mut room = residue_for(start);
     let mut rest = bytes;
@@ -60,7 +59,7 @@ fn after_many(start: u32, bytes: &[u8]) -> u32 {
     register_of(&room)
 }
 
-/// The register after more bytes, folded if there are many.
+/// Returns the register after `start` and `bytes`, which are folded if there are many.
 pub(crate) fn after_bytes(start: u32, bytes: &[u8]) -> u32 {
     if bytes.len() < FOLDED_BYTES {
         crc::after_bytes(start, bytes)

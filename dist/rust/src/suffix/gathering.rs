@@ -1,12 +1,12 @@
 // Of crates/dfu_suffix/src/gathering.rt, whose contracts are taken away.
 
-//! All that a reader gives, up to a limit.
+//! Gathering of all bytes that a reader gives, up to a limit.
 
 use crate::suffix::file::{MAX_READS, READ_BYTES};
 use crate::memory::{Global, Vec};
 use std::io::Read;
 
-/// Faults for which the bytes of a reader were not all gathered.
+/// A fault for which the bytes of a reader were not all gathered.
 #[derive(Clone, Copy, Debug, PartialEq, Eq)]
 pub enum GatherFault {
     /// The reader gives more bytes than the limit.
@@ -17,7 +17,7 @@ pub enum GatherFault {
     Read,
 }
 
-/// All that the reader gives, which is at most `limit` bytes. It reads up to 65,536 bytes at a time.
+/// Gathers all bytes that the reader gives, at most `limit`. Up to 65,536 bytes are read at a time.
 ///
 /// # Errors
 ///

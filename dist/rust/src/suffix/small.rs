@@ -29,13 +29,13 @@ fn after_4_zeros(number: u32) -> u32 {
     (number >> 4) ^ AFTER_4[(number & 0xf) as usize]
 }
 
-// The register after one more byte.
+// The register after a further byte.
 #[inline(always)]
 fn after_byte(register: u32, byte: u8) -> u32 {
     after_4_zeros(after_4_zeros(register ^ u32::from(byte)))
 }
 
-/// The register after more bytes, each by itself.
+/// Returns the register after `start` and `bytes`, one byte at a time.
 pub(crate) fn after_bytes(start: u32, bytes: &[u8]) -> u32 {
     let mut register = start;
     for byte in bytes {

@@ -7,12 +7,12 @@ use crate::suffix::file::{DFUSE, MIN_SUFFIX};
 use byteorder::{ByteOrder, LittleEndian};
 use crate::wire::Ids;
 
-/// A file's fields and the length of its payload, as `check` answers them.
+/// Fields of a file and the length of its payload, as `check` answers them.
 #[derive(Clone, Copy, Debug, PartialEq, Eq)]
 pub struct Summary {
     /// Length of the payload in bytes, at most 16,777,200.
     pub payload: u32,
-    /// bLength: how many bytes the suffix has, from 16 to 255.
+    /// bLength: the number of bytes of the suffix, from 16 to 255.
     pub suffix: u8,
     /// The device that the file is for.
     pub ids: Ids,
@@ -33,7 +33,7 @@ fn u16_at(bytes: &[u8], at: usize) -> u16 {
     LittleEndian::read_u16(field)
 }
 
-/// The number in the four bytes from `at`, the low one first.
+/// Returns the number in the four bytes of `bytes` from index `at` on, the low byte first.
 pub(crate) fn u32_at(bytes: &[u8], at: usize) -> u32 {
     let (_, field) = bytes.split_at(at);
     LittleEndian::read_u32(field)
@@ -48,7 +48,7 @@ fn ids_of(tail: &[u8]) -> Ids {
     }
 }
 
-/// Returns the fields of the last 16 of `count` bytes, or the first fault of the file but TooLarge and BadCrc.
+/// Returns the fields in the last 16 of `count` bytes, or the first fault of the file other than TooLarge and BadCrc.
 pub(crate) fn parse_tail(tail: &[u8], count: u32) -> Result<Summary, SuffixFault> {
     if count < MIN_SUFFIX {
         return Err(SuffixFault::TooShort);
@@ -73,8 +73,12 @@ pub(crate) fn parse_tail(tail: &[u8], count: u32) -> Result<Summary, SuffixFault
     })
 }
 
-/// The summary of a file of `count` bytes, or its first fault but TooLarge, by its last 16 bytes and the register over all of it. The
-/// register is 0 exactly if dwCRC is right.
+/// Returns the summary of a file of `count` bytes, by `tail`, its last 16 bytes, and by `register`, that over all of the file, which is 0
+/// exactly if dwCRC is right.
+///
+/// # Errors
+///
+/// The first fault of the file other than TooLarge.
 pub(crate) fn check_register(tail: &[u8], count: u32, register: u32) -> Result<Summary, SuffixFault> {
     match parse_tail(tail, count) {
         Ok(_) if register != 0 => Err(SuffixFault::BadCrc),

@@ -1,19 +1,18 @@
 // Of crates/dfu_suffix/src/writing.rt, whose contracts are taken away.
 
-//! A whole text for a writer, by a call that isn't inlined: the crates above make it often.
+//! Writing of a whole text, by a call that isn't inlined because the crates above make it often.
 
 use std::io::Write;
 
-/// The writer failed, or took nothing of what was left.
+/// Fault of a writer that failed, or took nothing of what was left.
 #[derive(Clone, Copy, Debug, PartialEq, Eq)]
 pub struct OutputError;
 
-/// Writes the whole text. It doesn't flush.
+/// Writes the whole text, and doesn't flush.
 ///
 /// # Errors
 ///
-/// OutputError at the first error of the writer, with no second try, and if it takes nothing of
-/// what is left.
+/// OutputError at the first error of the writer, with no second try, and if the writer takes nothing of what is left.
 #[inline(never)]
 pub fn write_whole<W: Write>(writer: &mut W, text: &[u8]) -> Result<(), OutputError> {
     let mut rest = text;

@@ -49,7 +49,7 @@ static NAMES: [&str; 16] = [
 ];
 
 impl Code {
-    /// The code of this number; `UnknownCode` if it is over 15.
+    /// Returns the code with number `byte`; `UnknownCode` if `byte` is over 15.
     pub fn from_byte(byte: u8) -> Result<Code, WireFault> {
         variant_numbered!(byte, WireFault::UnknownCode, Code:
             0 Ok, 1 Target, 2 File, 3 Write, 4 Erase, 5 CheckErased, 6 Prog, 7 Verify, 8 Address, 9 NotDone,
@@ -57,12 +57,12 @@ impl Code {
         )
     }
 
-    /// The number of the code, 0 to 15.
+    /// Returns the number of the code, 0 to 15.
     pub fn byte(self) -> u8 {
         self as u8
     }
 
-    /// The name of the code in the standard, as `errWRITE`.
+    /// Returns the name of the code in the standard, as `errWRITE`.
     pub fn name(self) -> &'static str {
         NAMES[self as usize]
     }

@@ -5,7 +5,7 @@
 use core::fmt;
 use thiserror::Error;
 
-/// Faults of bytes or numbers that are not a value of the wire. Each reader says in which order it looks.
+/// A fault of bytes or numbers that are not a value of the wire. Each reader says in which order it looks.
 #[derive(Clone, Copy, Debug, PartialEq, Eq, Error)]
 pub enum WireFault {
     /// There are fewer bytes than the value has: no bytes of a functional descriptor, or fewer than its
@@ -50,7 +50,7 @@ static NAMES: [&str; 7] = [
 ];
 
 impl WireFault {
-    /// The name of the fault, that of its variant, as `Short`.
+    /// Returns the name of the fault, that of its variant, as `Short`.
     pub fn name(self) -> &'static str {
         NAMES[self as usize]
     }

@@ -49,7 +49,8 @@ pub struct Functional {
 }
 
 impl Functional {
-    /// The descriptor with these bmAttributes, of which bits 4 to 7 are ignored, and these numbers.
+    /// Returns the descriptor with bmAttributes `attributes`, of which bits 4 to 7 are ignored, wDetachTimeOut `detach_ms`, wTransferSize
+    /// `transfer` and bcdDFUVersion `version`.
     pub fn of_attributes(attributes: u8, detach_ms: u16, transfer: u16, version: u16) -> Functional {
         Functional {
             can_download: is_set(attributes, 0),
@@ -124,7 +125,7 @@ impl Functional {
     }
 }
 
-/// bmAttributes of these flags, with the reserved bits 0.
+/// Returns bmAttributes of the four flags, with the reserved bits 0.
 fn attributes_of(can_download: bool, can_upload: bool, tolerant: bool, will_detach: bool) -> u8 {
     u8::from(can_download)
         | u8::from(can_upload) << 1

@@ -2,8 +2,8 @@
 
 //! Identifiers as text.
 
-/// The number that four hexadecimal digits of either case write, the highest first; nothing for any
-/// other text. So scripts and options write idVendor, idProduct and bcdDevice.
+/// Returns the number that `digits`, four hexadecimal digits of either case, write, the highest first; None for any other text. So scripts
+/// and options write idVendor, idProduct and bcdDevice.
 pub fn identifier(digits: &[u8]) -> Option<u16> {
     let mut bytes = [0u8; 2];
     match hex::decode_to_slice(digits, &mut bytes) {

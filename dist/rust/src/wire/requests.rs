@@ -39,9 +39,8 @@ pub enum Request {
 }
 
 impl Request {
-    /// The setup that asks for this, with index 0, and value 0 if the table has none. It is
-    /// `None` only for `OtherClass` and `NotDfu`. `Setup::request` of the result is the request
-    /// again.
+    /// Returns the setup of the request, with index 0, and value 0 if the table has none. It is `None` only for `OtherClass` and `NotDfu`.
+    /// `Setup::request` of the result is the request again.
     pub fn setup(&self) -> Option<Setup> {
         let (kind, request, value, length) = match *self {
             Request::Detach { timeout } => (OUT, 0, timeout, 0),
@@ -62,7 +61,8 @@ impl Request {
         })
     }
 
-    /// The name of the request in the standard, as `DETACH`; `other-class` and `not-dfu` for the two that are not one of the seven.
+    /// Returns the name of the request in the standard, as `DETACH`; `other-class` and `not-dfu` for the two that are not one of the
+    /// seven.
     pub fn name(self) -> &'static str {
         match self {
             Request::Detach { .. } => "DETACH",

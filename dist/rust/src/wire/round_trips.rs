@@ -4,22 +4,22 @@
 
 use crate::wire::{Functional, Request, Setup, Status, WireFault};
 
-/// `Functional::decode` of what `Functional::encode` writes is the descriptor again.
+/// Returns what `Functional::decode` reads from the bytes of `Functional::encode`: `functional` again.
 pub fn reread_functional(functional: &Functional) -> Result<Functional, WireFault> {
     Functional::decode(&functional.encode())
 }
 
-/// `Setup::decode` of what `Setup::encode` writes is the setup again.
+/// Returns what `Setup::decode` reads from the bytes of `Setup::encode`: `setup` again.
 pub fn reread_setup(setup: &Setup) -> Setup {
     Setup::decode(&setup.encode())
 }
 
-/// `Status::decode` of what `Status::encode` writes is the status again.
+/// Returns what `Status::decode` reads from the bytes of `Status::encode`: `status` again.
 pub fn reread_status(status: &Status) -> Result<Status, WireFault> {
     Status::decode(&status.encode())
 }
 
-/// `Setup::request` of what `Request::setup` gives is the request again.
+/// Returns the `Setup::request` of the setup that `Request::setup` gives: `request` again; None if it gives no setup.
 pub fn asked_again(request: &Request) -> Option<Request> {
     match request.setup() {
         Some(setup) => Some(setup.request()),

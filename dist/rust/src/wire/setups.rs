@@ -29,7 +29,7 @@ pub struct Setup {
 }
 
 impl Setup {
-    /// Reads a setup. It never fails: any eight bytes are one.
+    /// Reads `bytes` as a setup. The call never fails: any eight bytes are one.
     pub fn decode(bytes: &[u8; 8]) -> Setup {
         Setup {
             kind: bytes[0],

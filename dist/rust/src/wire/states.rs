@@ -39,7 +39,7 @@ static NAMES: [&str; 11] = [
 ];
 
 impl State {
-    /// The state of this number; `UnknownState` if it is over 10.
+    /// Returns the state with number `byte`; `UnknownState` if `byte` is over 10.
     pub fn from_byte(byte: u8) -> Result<State, WireFault> {
         variant_numbered!(byte, WireFault::UnknownState, State:
             0 AppIdle, 1 AppDetach, 2 DfuIdle, 3 DownloadSync, 4 DownloadBusy, 5 DownloadIdle, 6 ManifestSync,
@@ -47,12 +47,12 @@ impl State {
         )
     }
 
-    /// The number of the state, 0 to 10.
+    /// Returns the number of the state, 0 to 10.
     pub fn byte(self) -> u8 {
         self as u8
     }
 
-    /// The name of the state in the standard, as `dfuIDLE`.
+    /// Returns the name of the state in the standard, as `dfuIDLE`.
     pub fn name(self) -> &'static str {
         NAMES[self as usize]
     }

@@ -5,7 +5,7 @@
 use crate::wire::{Code, State, WireFault};
 use byteorder::{ByteOrder, LittleEndian};
 
-/// The most milliseconds that the three bytes of bwPollTimeout hold: 16,777,215.
+/// Largest number of milliseconds that the three bytes of bwPollTimeout hold: 16,777,215.
 const LONGEST_POLL: u32 = 0xff_ffff;
 
 /// The answer to GETSTATUS: 6 bytes on the wire.
@@ -26,7 +26,7 @@ pub struct Status {
 }
 
 impl Status {
-    /// A status of these fields; `PollTooLong` if the poll time is over 16,777,215.
+    /// Returns a status of `code`, `poll_ms` and `state`; `PollTooLong` if `poll_ms` is over 16,777,215.
     pub fn new(code: Code, poll_ms: u32, state: State) -> Result<Status, WireFault> {
         if poll_ms > LONGEST_POLL {
             return Err(WireFault::PollTooLong);
@@ -38,7 +38,7 @@ impl Status {
         })
     }
 
-    /// The status code.
+    /// Returns the status code.
     pub fn code(&self) -> Code {
         self.code
     }
@@ -48,7 +48,7 @@ impl Status {
         self.poll
     }
 
-    /// The state that the device enters right after this answer.
+    /// Returns the state that the device enters right after the answer with the status.
     pub fn state(&self) -> State {
         self.state
     }

@@ -10,7 +10,7 @@ gcc -std=gnu11 -O2 -Wall -Wextra -Werror -I "$top/include" -o asker "$top/tests/
 asked() {
     wanted=$1 most=$2 settings=$3
     shift 3
-    for _ in 1 2 3 4 5 6 7 8 9 10; do
+    for _ in $(seq 40); do
         # shellcheck disable=SC2086
         env $settings ./asker "$@" > said 2>&1 || break
         if [ "$most" = - ] || [ "$(cut -d ' ' -f 2 said)" -le "$most" ]; then

@@ -86,6 +86,13 @@ fn told(job: Subcommand) -> String {
             let asked = joined(&["judge"]) + &listed(&files) + &joined(&[&interface, &device]);
             asked + &set(dfuse, "dfuse") + &set(json, "json")
         }
+        Subcommand::Plan {
+            part,
+            boot,
+            areas,
+            parts,
+            json,
+        } => joined(&["plan", &part, &boot, &areas, given(&parts)]) + &set(json, "json"),
         job => made_told(job),
     }
 }
@@ -100,7 +107,7 @@ fn outcome(line: &str) -> Outcome<String> {
 }
 
 /// Words, and the job that they ask for.
-static JOBS: [(&str, &str); 52] = [
+static JOBS: [(&str, &str); 60] = [
     (
         "dfu add a b --pid 0001",
         "add;a;b;ffff;0001;ffff;none;none;",
@@ -148,6 +155,17 @@ static JOBS: [(&str, &str); 52] = [
     ("dfu check a --dfuse", "words 2"),
     ("dfu extract a b --json", "words 2"),
     ("dfu judge a b --device 1.2 c", "judge;a;b;c;0;1.2;"),
+    ("dfu plan --part a --boot b", "plan;a;b;2;none;"),
+    (
+        "dfu plan --parts d --areas=c --boot b --part a",
+        "plan;a;b;c;d;",
+    ),
+    ("dfu plan --json --boot=b --part=a", "plan;a;b;2;none;json;"),
+    ("dfu plan --part a", "words 2"),
+    ("dfu plan --boot b", "words 2"),
+    ("dfu plan a --part a --boot b", "words 2"),
+    ("dfu plan --part a --part a --boot b", "words 2"),
+    ("dfu check a --boot b", "words 2"),
     ("dfu", "words 2"),
     ("dfu check", "words 2"),
     ("dfu add a", "words 2"),

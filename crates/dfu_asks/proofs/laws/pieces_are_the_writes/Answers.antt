@@ -1,16 +1,17 @@
 use Rattle.std.proofs.Common.{arith}
 use Rattle.dfu_asks.specs.Steps.{step_writes}
 use Rattle.dfu_asks.specs.Carried.{total}
-use Rattle.dfu_asks.proofs.Bits.{bit_of}
-use Rattle.dfu_asks.proofs.Carrying.{all_carried, step_carried, broken_carried}
+use Rattle.dfu_asks.proofs.Bits.{piece_is_part_of_writes}
+use Rattle.dfu_asks.proofs.Carrying.{carried_series_is_all_writes, series_carried_to_next_piece, torn_piece_breaks_series}
 use Rattle.dfu_asks.proofs.laws.pieces_are_the_writes.Goals as goal
 
 pub returns-clause-all : goal.returns-clause-all
-returns-clause-all c w ws m = all_carried w ws m (total ws) (omega arith)
+returns-clause-all c w ws m = carried_series_is_all_writes w ws m (total ws) (omega arith)
 
 pub returns-clause-next : goal.returns-clause-next
-returns-clause-next c ss m n p within piece = step_carried (step_writes ss) m n p.write within (bit_of ss n p piece)
+returns-clause-next c ss m n p within piece = series_carried_to_next_piece (step_writes ss) m n p.write within (piece_is_part_of_writes ss
+    n p piece)
 
 pub returns-clause-torn : goal.returns-clause-torn
 returns-clause-torn c w fault ss m now n p within piece torn =
-    broken_carried w fault (step_writes ss) m now n p.write within (bit_of ss n p piece) torn
+    torn_piece_breaks_series w fault (step_writes ss) m now n p.write within (piece_is_part_of_writes ss n p piece) torn

@@ -6,16 +6,16 @@ use Rattle.dfu_device.specs.declared.device_state.DeviceState.{DeviceState}
 use Rattle.dfu_device.specs.Parts.{stage_of}
 use Rattle.dfu_device.specs.Rows.{Handles, body_length}
 use Rattle.dfu_asks.specs.Lent.{LentDevice}
-use Rattle.dfu_asks.specs.Mapped.{Unseen}
-use Rattle.dfu_asks.specs.Asks.{store_in, unseen_in, device_with, IsDevice}
+use Rattle.dfu_asks.specs.Mapped.{UnseenState}
+use Rattle.dfu_asks.specs.Asks.{flash_store, store_with_unseen, device_with, IsDevice}
 use Rattle.dfu_asks.specs.Verdict.{IsBodyOf}
-use Rattle.dfu_asks.proofs.LongSetups.{after_free, found_long, long_elsewhere, long_here}
-use Rattle.dfu_asks.proofs.Refuses.{enters}
+use Rattle.dfu_asks.proofs.LongSetups.{long_body_puts_nothing, found_setup_is_long, long_body_for_other_interface, long_body_is_stalled}
+use Rattle.dfu_asks.proofs.Refuses.{device_enters_mode}
 use Rattle.dfu_asks.proofs.long.mode_after_long.Goals as goal
 
--- The row leads from a device to the one in this mode.
-abbrev Leads : List ℕ → LentDevice → List ℕ → DeviceState → Type 0
-Leads setup a flash after = IsDevice (record a { mode = after }) flash × ((body : List ℕ) → IsBodyOf setup body → (u : Unseen)
+-- A row leads from a device to the device in this mode.
+abbrev RowLeadsTo : List ℕ → LentDevice → List ℕ → DeviceState → Type 0
+RowLeadsTo setup a flash after = IsDevice (record a { mode = after }) flash × ((body : List ℕ) → IsBodyOf setup body → (u : UnseenState)
     → Handles setup body (device_with u a flash) Stall [] (device_with u (record a { mode = after }) flash))
 
 pub returns-then-setup-eq0-clause-row : goal.returns-then-setup-eq0-clause-row
@@ -23,23 +23,25 @@ returns-then-setup-eq0-clause-row c a flash is =
     let p = c.decode-setup.result in
     let m = c.args.mode in
     let config = c.args.config.now in
-    let s = store_in a flash in
+    let s = flash_store a flash in
     let says : c.is_long.result ≡ nat_lt config.functional.transfer (body_length p) = c.is_long.ensures
     ∙ ap (λ (f : Functional). nat_lt f.transfer (body_length p)) c.functional.ensures in
-    let long = (found_long config c.args.setup.now p c.is_long.result c.decode-setup.ensures.only says c.if-not-is_long.false).0 in
-    subst (λ (n : DeviceState). Leads c.args.setup.now a flash n) (sym c.after_long.ensures) (
-      enters a _ flash is.device (after_free m (length a.block) s),
-      λ body body_is u. long_here c.args.setup.now p c.decode-setup.ensures.fields (device_with u a flash) m (spare_of (unseen_in u s))
+    let long = (found_setup_is_long config c.args.setup.now p c.is_long.result c.decode-setup.ensures.only says c.if-not-is_long.false).0 in
+    subst (λ (n : DeviceState). RowLeadsTo c.args.setup.now a flash n) (sym c.after_long.ensures) (
+      device_enters_mode a _ flash is.device (long_body_puts_nothing m (length a.block) s),
+      λ body body_is u. long_body_is_stalled c.args.setup.now p c.decode-setup.ensures.fields (device_with u a flash) m
+          (spare_of (store_with_unseen u s))
           a.block
-          (λ i. stage_of (is.mode_is i) (spare_of (unseen_in u s)) a.block)
+          (λ i. stage_of (is.mode_is i) (spare_of (store_with_unseen u s)) a.block)
           (omega (arith, long, ap (λ k. k.functional.transfer) is.config_is)) c.if-setup-eq0.true body
           (body_is p c.decode-setup.ensures.fields),
     )
 
 pub returns-else-setup-eq0-clause-row : goal.returns-else-setup-eq0-clause-row
 returns-else-setup-eq0-clause-row c a flash is =
-    subst (λ (n : DeviceState). Leads c.args.setup.now a flash n) is.mode_is (
+    subst (λ (n : DeviceState). RowLeadsTo c.args.setup.now a flash n) is.mode_is (
       is.device,
-      λ body body_is u. long_elsewhere c.args.setup.now c.decode-setup.result c.decode-setup.ensures.fields (device_with u a flash)
+      λ body body_is u. long_body_for_other_interface c.args.setup.now c.decode-setup.result c.decode-setup.ensures.fields (device_with u a
+          flash)
           c.if-setup-eq0.false body,
     )

@@ -1,12 +1,12 @@
 use Rattle.std.proofs.Common.{◌≡◌, ◌+◌, ◌≤◌, List, [], ◌∷◌, length, if◌then◌else◌, not, sym, ap, subst, arith}
 use Rattle.dfu_asks.specs.declared.pending_writes.WriteInputs.{WriteInputs}
 use Rattle.dfu_asks.specs.Steps.{Step, step_writes, put_steps, close_step}
-use Rattle.dfu_asks.specs.Carried.{total, IsPiece}
-use Rattle.dfu_asks.specs.Jobs.{grain_for, tail_place}
-use Rattle.dfu_asks.specs.Cuts.{step_of}
-use Rattle.dfu_asks.proofs.Pieces.{piece_behind}
-use Rattle.dfu_asks.proofs.JobPieces.{steps_total}
-use Rattle.dfu_asks.proofs.SequenceSteps.{put_are, put_few}
+use Rattle.dfu_asks.specs.Carried.{total, IsStepPiece}
+use Rattle.dfu_asks.specs.Jobs.{input_grain, held_bytes_place}
+use Rattle.dfu_asks.specs.Cuts.{step_of_cut}
+use Rattle.dfu_asks.proofs.Pieces.{piece_of_later_steps}
+use Rattle.dfu_asks.proofs.JobPieces.{total_of_two_step_lists}
+use Rattle.dfu_asks.proofs.SequenceSteps.{put_ops_are_steps, put_ops_have_few_bytes}
 use Rattle.dfu_asks.proofs.next_piece.block_piece.Goals as goal
 
 pub sequence_piece-requires : goal.sequence_piece-requires
@@ -16,19 +16,20 @@ sequence_piece-requires c =
     c.requires.held in
     let most : length mid.stock.block.now ≤ 4096 = subst (λ (s : WriteInputs). length s.block.now ≤ 4096) (sym c.shut_piece.ensures.same)
     c.requires.block in
-    put_few mid.stock mid.front c.args.spare mid.stock.put_end few most
+    put_ops_have_few_bytes mid.stock mid.front c.args.spare mid.stock.put_end few most
 
 pub returns-clause-found : goal.returns-clause-found
 returns-clause-found c = λ yes.
     let before = c.args.cut.now in
     let mid = c.shut_piece.new.cut in
-    let p = step_of c.sequence_piece.new.cut in
+    let p = step_of_cut c.sequence_piece.new.cut in
     let put =
-    λ (s : WriteInputs). put_steps (grain_for s) (tail_place (grain_for s) c.args.spare s.put_end s.held.now) s.held.now s.block.now in
-    let shut = if c.args.close then close_step (grain_for before.stock) c.args.spare ∷ [] else [] in
-    piece_behind shut (put before.stock) before.rest mid.rest p (c.shut_piece.ensures.behind (ap not c.if-shut_piece.false))
-    (subst (λ (s : WriteInputs). IsPiece (put s) mid.rest p) c.shut_piece.ensures.same
-    (subst (λ (ss : List Step). IsPiece ss mid.rest p) (put_are mid.stock mid.front c.args.spare mid.stock.put_end)
+    λ (s : WriteInputs). put_steps (input_grain s) (held_bytes_place (input_grain s) c.args.spare s.put_end s.held.now) s.held.now
+    s.block.now in
+    let shut = if c.args.close then close_step (input_grain before.stock) c.args.spare ∷ [] else [] in
+    piece_of_later_steps shut (put before.stock) before.rest mid.rest p (c.shut_piece.ensures.behind (ap not c.if-shut_piece.false))
+    (subst (λ (s : WriteInputs). IsStepPiece (put s) mid.rest p) c.shut_piece.ensures.same
+    (subst (λ (ss : List Step). IsStepPiece ss mid.rest p) (put_ops_are_steps mid.stock mid.front c.args.spare mid.stock.put_end)
     (c.sequence_piece.ensures.found yes)))
 
 pub returns-clause-none : goal.returns-clause-none
@@ -37,10 +38,11 @@ returns-clause-none c = λ no.
     let mid = c.shut_piece.new.cut in
     let now = c.sequence_piece.new.cut in
     let put =
-    λ (s : WriteInputs). put_steps (grain_for s) (tail_place (grain_for s) c.args.spare s.put_end s.held.now) s.held.now s.block.now in
-    let shut = if c.args.close then close_step (grain_for before.stock) c.args.spare ∷ [] else [] in
+    λ (s : WriteInputs). put_steps (input_grain s) (held_bytes_place (input_grain s) c.args.spare s.put_end s.held.now) s.held.now
+    s.block.now in
+    let shut = if c.args.close then close_step (input_grain before.stock) c.args.spare ∷ [] else [] in
     let count : total (step_writes (put before.stock)) + now.rest ≡ mid.rest =
     subst (λ (s : WriteInputs). total (step_writes (put s)) + now.rest ≡ mid.rest) c.shut_piece.ensures.same
     (subst (λ (ss : List Step). total (step_writes ss) + now.rest ≡ mid.rest)
-    (put_are mid.stock mid.front c.args.spare mid.stock.put_end) (c.sequence_piece.ensures.behind no)) in
-    omega (arith, steps_total shut (put before.stock), c.shut_piece.ensures.behind (ap not c.if-shut_piece.false), count)
+    (put_ops_are_steps mid.stock mid.front c.args.spare mid.stock.put_end) (c.sequence_piece.ensures.behind no)) in
+    omega (arith, total_of_two_step_lists shut (put before.stock), c.shut_piece.ensures.behind (ap not c.if-shut_piece.false), count)

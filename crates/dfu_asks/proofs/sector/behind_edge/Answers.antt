@@ -6,6 +6,6 @@ pub returns : goal.returns
 returns c =
     let at = c.args.at in
     let s = c.args.sector in
-    let q = at / 32768 in
-    let whole : q % s * 32768 + at % 32768 + q / s * 32768 * s ≡ at = grind (arith, mod-add-div' q s, mod-add-div' at 32768) in
-    sym (add-mul-mod_self_right (q % s * 32768 + at % 32768) (q / s * 32768) s) ∙ ap (λ (k : ℕ). k % s) whole
+    let q = at / 16384 in
+    let whole : q % s * 16384 + at % 16384 + q / s * 16384 * s ≡ at = grind (arith, mod-add-div' q s, mod-add-div' at 16384) in
+    sym (add-mul-mod_self_right (q % s * 16384 + at % 16384) (q / s * 16384) s) ∙ ap (λ (k : ℕ). k % s) whole

@@ -1,6 +1,6 @@
 use Rattle.std.proofs.Common.{◌≡◌, ◌↔◌, ◌≤◌, ◌<◌, IsTrue, ℕ, min, length, slice_index, refl, subst, arith}
-use Rattle.dfu_asks.specs.Ahead.{IsClear}
-use Rattle.dfu_asks.proofs.Clear.{clear_told}
+use Rattle.dfu_asks.specs.Ahead.{IsErasedAhead}
+use Rattle.dfu_asks.proofs.Clear.{clear_stretch_is_erased}
 use Rattle.dfu_asks.proofs.start.is_clear.Goals as goal
 
 pub returns-then-size-eq0 : goal.returns-then-size-eq0
@@ -11,6 +11,7 @@ returns c =
     let flash = c.args.flash.now in
     let at = c.args.at in
     let end : c.min-end.result ≡ min c.stretch_end.result (length flash) = omega (arith, c.min-end.ensures) in
-    subst (λ (k : ℕ). IsTrue c.are_erased.result ↔ IsClear k flash at c.args.len) c.size-size.ensures.value
-    (clear_told c.size-size.result flash at c.args.len c.stretch_end.result (omega (arith, c.if-size-eq0.false)) c.stretch_end.ensures
-    (subst (λ (to : ℕ). IsTrue c.are_erased.result ↔ ((p : ℕ) → at ≤ p → p < to → slice_index flash p ≡ 255)) end c.are_erased.ensures))
+    subst (λ (k : ℕ). IsTrue c.is_flash_erased.result ↔ IsErasedAhead k flash at c.args.len) c.size-size.ensures.value
+    (clear_stretch_is_erased c.size-size.result flash at c.args.len c.stretch_end.result (omega (arith, c.if-size-eq0.false))
+    c.stretch_end.ensures
+    (subst (λ (to : ℕ). IsTrue c.is_flash_erased.result ↔ ((p : ℕ) → at ≤ p → p < to → slice_index flash p ≡ 255)) end c.is_flash_erased.ensures))

@@ -1,7 +1,7 @@
 use Rattle.std.proofs.Common.{ap, inl, inr, refl, subst, sym, ◌∙◌, IfSome}
 use Rattle.std.specs.Io.Buffered.{into_inner_error_writer, writer_buffer, writer_contents, writer_inner}
 use Rattle.dfu_cmd.specs.Buffering.{HasFront}
-use Rattle.dfu_cmd.proofs.Fronts.{front_out}
+use Rattle.dfu_cmd.proofs.Fronts.{buffer_front_is_out}
 use Rattle.dfu_cmd.proofs.buffering.run_buffered_with_fault.Goals as goal
 
 pub returns-in-Ok : goal.returns-in-Ok
@@ -10,7 +10,7 @@ returns-in-Ok g c = record {
   end = c.run_with_fault-exit.result.0;
   run = c.run_with_fault-exit.ensures.run;
   printed = c.run_with_fault-exit.ensures.printed;
-  comes_out = inl (c.in-Ok.ensures.ok, refl);
+  written_comes_out = inl (c.in-Ok.ensures.ok, refl);
 }
 
 pub returns-in-Err : goal.returns-in-Err
@@ -18,11 +18,11 @@ returns-in-Err g c =
     let left = into_inner_error_writer c.in-Err.error in
     let behind = c.into_parts-writer.ensures.inner ∙ ap writer_inner c.into_inner-in-Err.ensures in
     let written = writer_contents g.W.Write.contents c.run_with_fault-exit.new.writer in
-    let front = front_out written (g.W.Write.contents (writer_inner left)) (writer_buffer left) c.in-Err.ensures.err in
+    let front = buffer_front_is_out written (g.W.Write.contents (writer_inner left)) (writer_buffer left) c.in-Err.ensures.err in
     record {
       written = written;
       end = c.run_with_fault-exit.result.0;
       run = c.run_with_fault-exit.ensures.run;
       printed = c.run_with_fault-exit.ensures.printed;
-      comes_out = inr (subst (λ x. IfSome written (λ w. HasFront w (g.W.Write.contents x))) (sym behind) front, refl);
+      written_comes_out = inr (subst (λ x. IfSome written (λ w. HasFront w (g.W.Write.contents x))) (sym behind) front, refl);
     }

@@ -1,4 +1,4 @@
-use Rattle.dfu_cmd.specs.RunText.{runs, stops, prints_all, prints_part}
+use Rattle.dfu_cmd.specs.RunText.{runs, stops, whole_text_is_printed, text_part_is_printed}
 use Rattle.std.proofs.Common.{refl}
 use Rattle.dfu_cmd.proofs.running.end_text.Goals as goal
 
@@ -6,7 +6,7 @@ pub returns-in-Ok-clause-run : goal.returns-in-Ok-clause-run
 returns-in-Ok-clause-run g c = λ file given old ended. runs (rw c.in-Ok.is at ended) refl
 
 pub returns-in-Ok-clause-printed : goal.returns-in-Ok-clause-printed
-returns-in-Ok-clause-printed g c = λ file given old printed. prints_all (rw c.in-Ok.is at printed) refl
+returns-in-Ok-clause-printed g c = λ file given old printed. whole_text_is_printed (rw c.in-Ok.is at printed) refl
 
 pub returns-in-Err-clause-run : goal.returns-in-Err-clause-run
 returns-in-Err-clause-run g c = λ file given old ended.
@@ -14,4 +14,4 @@ returns-in-Err-clause-run g c = λ file given old ended.
 
 pub returns-in-Err-clause-printed : goal.returns-in-Err-clause-printed
 returns-in-Err-clause-printed g c = λ file given old printed.
-    prints_part (g.W.Write.contents c.args.writer.now) c.in-Err.fault (rw c.in-Err.is at printed) c.stop_text.ensures
+    text_part_is_printed (g.W.Write.contents c.args.writer.now) c.in-Err.fault (rw c.in-Err.is at printed) c.stop_text.ensures

@@ -1,9 +1,9 @@
 use Rattle.std.proofs.Common.{arith}
-use Rattle.dfu_conformance.specs.inside.Stepped.{drifts}
-use Rattle.dfu_conformance.proofs.DfusePasses.{one_row}
+use Rattle.dfu_conformance.specs.inside.Stepped.{drift_leads}
+use Rattle.dfu_conformance.proofs.DfusePasses.{test_after_next_row}
 use Rattle.dfu_conformance.proofs.held.drift.Goals as goal
 
 pub loop-one-preserved : goal.loop-one-preserved
 loop-one-preserved c n a r below within =
-    one_row (drifts c.args.before.now n a r) c.args.moves.now c.loop-one.one-index _ _ _ _ (omega arith)
+    test_after_next_row (drift_leads c.args.before.now n a r) c.args.moves.now c.loop-one.one-index _ _ _ _ (omega arith)
     (c.loop-one.invariant n a r below within) (c.slide.ensures n a r below within)

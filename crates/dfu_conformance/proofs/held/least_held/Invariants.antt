@@ -1,6 +1,6 @@
 use Rattle.std.specs.Prelude.{◌≡◌}
-use Rattle.dfu_conformance.specs.inside.Stepped.{anywhere, least_below}
+use Rattle.dfu_conformance.specs.inside.Stepped.{is_held_anywhere, least_below}
 use Rattle.dfu_conformance.proofs.held.least_held.Given as goal
 
 abbrev pub invariant-loop-readings : goal.invariant-loop-readings
-invariant-loop-readings l = l.least ≡ least_below (anywhere l.places) l.readings
+invariant-loop-readings l = l.least ≡ least_below (is_held_anywhere l.places) l.readings

@@ -1,16 +1,16 @@
-use Rattle.dfu_device.specs.AcceptedBytes.{is_downloading, accepted_in, dnload_added, downloads, block_of}
-use Rattle.dfu_device.proofs.History.{one_gathered}
-use Rattle.dfu_device.proofs.RowGathers.{row_adds, step_adds, history_adds, start_adds}
-use Rattle.dfu_device.proofs.TakenHistory.{asked_took, time_took, block_by, known}
+use Rattle.dfu_device.specs.AcceptedBytes.{is_downloading, accepted_in, accepted_with_dnload, ends_in_download, acknowledged_block}
+use Rattle.dfu_device.proofs.History.{gathered_bytes_unique}
+use Rattle.dfu_device.proofs.RowGathers.{row_adds_own_bytes, step_adds_own_bytes, history_adds_own_bytes, history_from_start_adds}
+use Rattle.dfu_device.proofs.TakenHistory.{setup_accepts_body, time_accepts_nothing, block_by, gathering_of_accepted_bytes}
 use Rattle.dfu_device.proofs.laws.rows_take.Goals as goal
 
 pub returns : goal.returns
 returns c = record {
-  asked = asked_took;
-  time = time_took;
-  row = row_adds is_downloading accepted_in dnload_added block_by known;
-  step = step_adds is_downloading accepted_in dnload_added block_by known;
-  history = history_adds is_downloading accepted_in dnload_added block_by known;
-  from_start = start_adds is_downloading accepted_in dnload_added block_by known;
-  one = one_gathered downloads block_of;
+  asked = setup_accepts_body;
+  time = time_accepts_nothing;
+  row = row_adds_own_bytes is_downloading accepted_in accepted_with_dnload block_by gathering_of_accepted_bytes;
+  step = step_adds_own_bytes is_downloading accepted_in accepted_with_dnload block_by gathering_of_accepted_bytes;
+  history = history_adds_own_bytes is_downloading accepted_in accepted_with_dnload block_by gathering_of_accepted_bytes;
+  from_start = history_from_start_adds is_downloading accepted_in accepted_with_dnload block_by gathering_of_accepted_bytes;
+  one = gathered_bytes_unique ends_in_download acknowledged_block;
 }

@@ -5,7 +5,7 @@ use Rattle.dfu_wire.specs.Request.{SetupRequest}
 use Rattle.dfu_device.specs.Rows.{is_close}
 use Rattle.dfu_device.proofs.objection.is_close.Goals as goal
 
--- A setup is read in one way, and asks for one request.
+-- A setup has one reading, and asks for one request.
 pub returns : goal.returns
 returns c = (
   λ yes. (c.decode.result, c.request.result, c.decode.ensures.fields, c.request.ensures.asks, sym c.closes.ensures ∙ yes),

@@ -6,19 +6,19 @@ use Rattle.dfu_slots.specs.StoreView.{SlotsState}
 use Rattle.dfu_device.specs.Setting.{Setting}
 use Rattle.dfu_asks.specs.declared.reply.Reply.{Reply}
 use Rattle.dfu_asks.specs.Steps.{Step}
-use Rattle.dfu_asks.specs.Carried.{IsPiece}
+use Rattle.dfu_asks.specs.Carried.{IsStepPiece}
 use Rattle.dfu_asks.specs.Lent.{LentDevice}
 use Rattle.dfu_asks.specs.Asks.{device_of, steps_in}
 use Rattle.dfu_asks.specs.Calls.{WritesPending, DevicePieceReported}
 use Rattle.dfu_asks.specs.Refused.{HasRemainingWrites}
 use Rattle.dfu_core.specs.declared.record.DfuRecord.{DfuRecord}
-use Rattle.dfu_core.specs.RecordMeaning.{IsSetUp, IsRecordOf, with_memory}
+use Rattle.dfu_core.specs.RecordMeaning.{IsSetupOfConfig, IsRecordOf, with_memory}
 use Rattle.dfu_core.specs.Numbers.{reply_number}
-use Rattle.dfu_core.specs.Calls.{RecordCall, RecordReport}
+use Rattle.dfu_core.specs.Calls.{RecordAfterCall, RecordAfterReport}
 use Rattle.dfu_core.specs.Further.{PiecesAdvance}
-use Rattle.dfu_core.specs.Writes.{IsPendingSomewhere, refuses_unfound, refuses_piece}
-use Rattle.dfu_device_c.proofs.Found.{not_taken}
-use Rattle.dfu_device_c.proofs.Split.{lent_is, in_memory, IsParted, is_parted, has_room, split_in, split_after, unchanged, same_front, goes}
+use Rattle.dfu_core.specs.Writes.{IsPendingSomewhere, device_is_not_found, piece_is_refused}
+use Rattle.dfu_device_c.proofs.Found.{no_piece_at_idle}
+use Rattle.dfu_device_c.proofs.Split.{split_memory_is_lent, call_in_split_memory, IsDeviceOfSplitMemory, found_device_has_split_memory, has_room, device_memory_is_split, memory_is_split_after_call, unchanged, front_same_with_other_tail, goes}
 use Rattle.dfu_device_c.proofs.calls.dfu_core_took.Goals.{After-took}
 use Rattle.dfu_device_c.proofs.calls.dfu_core_took.Goals as goal
 
@@ -26,7 +26,8 @@ pub split_at_mut-front-requires : goal.split_at_mut-front-requires
 split_at_mut-front-requires c = omega (arith, IfOk-at_ok _ c.in-Ok.is c.found.ensures.room, c.from.ensures)
 
 pub took-requires : goal.took-requires
-took-requires c = has_room (is_parted _ _ _ _ c.split_at_mut-front.result.0.now _ _ c.in-Ok.is c.found.ensures.ok c.found.ensures.config
+took-requires c = has_room (found_device_has_split_memory _ _ _ _ c.split_at_mut-front.result.0.now _ _ c.in-Ok.is c.found.ensures.ok
+    c.found.ensures.config
     c.found.ensures.room c.split_at_mut-front.ensures.value (omega (arith, c.split_at_mut-front.ensures.front_len, c.from.ensures)))
 
 pub returns-in-Err : goal.returns-in-Err
@@ -34,7 +35,7 @@ returns-in-Err c = record {
   step = (
     record { config = refl; flash = refl },
     inr (inl (
-      refuses_unfound c.in-Err.refusal (to_z-of_z w32 _ (omega (arith, c.number.type_inv)) ∙ c.number.ensures)
+      device_is_not_found c.in-Err.refusal (to_z-of_z w32 _ (omega (arith, c.number.type_inv)) ∙ c.number.ensures)
           (IfErr-at_err _ c.in-Err.is c.found.ensures.err),
       refl,
       refl,
@@ -45,24 +46,25 @@ returns-in-Err c = record {
   short = λ less. absurd (omega (arith, less, c.if-out-lt6.false));
 }
 
--- The device that the record is, and the two parts of its memory.
-parted : (c : After-took) → IsParted c.args.config.now c.args.device.now c.in-Ok.asking c.args.block.now
+-- The device of the record, and the two parts of its memory.
+record_device_is_split : (c : After-took) → IsDeviceOfSplitMemory c.args.config.now c.args.device.now c.in-Ok.asking c.args.block.now
     c.split_at_mut-front.result.0.now c.split_at_mut-front.result.1.now
-parted c = is_parted _ _ _ _ _ _ _ c.in-Ok.is c.found.ensures.ok c.found.ensures.config c.found.ensures.room
+record_device_is_split c = found_device_has_split_memory _ _ _ _ _ _ _ c.in-Ok.is c.found.ensures.ok c.found.ensures.config
+    c.found.ensures.room
     c.split_at_mut-front.ensures.value (omega (arith, c.split_at_mut-front.ensures.front_len, c.from.ensures))
 
--- The piece was taken: whatever is replied, the device is kept.
-went : (c : After-took) (reply : Reply) (r' : DfuRecord) {n : ℤ} → c.took.result ≡ Ok reply → n ≡ reply_number reply →
+-- The report was taken; with any reply, the record was written for the device after the call.
+reported_device_is_kept : (c : After-took) (reply : Reply) (r' : DfuRecord) {n : ℤ} → c.took.result ≡ Ok reply → n ≡ reply_number reply →
     let k = c.args.config.now in
     let a' = c.took.new.self in
     let memory = c.split_at_mut-front.result.0.now ++ c.took.new.held in
-    (IsSetUp k a'.config a'.unit a'.sector → IsRecordOf k r' a') → RecordCall k c.args.device.now c.args.block.now r' memory
-    (λ x y. RecordReport (with_memory c.args.block.now x) c.args.flash.now (not (c.args.failed == 0)) c.args.out.now n
+    (IsSetupOfConfig k a'.config a'.unit a'.sector → IsRecordOf k r' a') → RecordAfterCall k c.args.device.now c.args.block.now r' memory
+    (λ x y. RecordAfterReport (with_memory c.args.block.now x) c.args.flash.now (not (c.args.failed == 0)) c.args.out.now n
     (with_memory memory y) c.took.new.out)
-went c reply r' is number_is kept =
-    let p = parted c in
+reported_device_is_kept c reply r' is number_is kept =
+    let p = record_device_is_split c in
     let done = c.took.ensures in
-    let after = split_after p _ _ _ done.same refl refl in
+    let after = memory_is_split_after_call p _ _ _ done.same refl refl in
     let taken = IfOk-at_ok _ is done.taken in
     goes p done.same kept
     (λ fits. record {
@@ -71,15 +73,17 @@ went c reply r' is number_is kept =
     })
     (record {
       work = taken.work;
-      left = subst (λ (l : LentDevice). HasRemainingWrites l taken.work) (sym (lent_is (split_in p))) taken.is_left;
+      left = subst (λ (l : LentDevice). HasRemainingWrites l taken.work) (sym (split_memory_is_lent (device_memory_is_split p)))
+          taken.is_left;
       reply = reply;
       number_is = number_is;
-      took = in_memory (λ l l'. (len : ℕ) (s : SlotsState) (was mid : List ℕ) (asks : WritesPending l len s was mid) (piece : Step)
-          → IsPiece (steps_in l asks.work) asks.work.done piece → Torn mid piece.write.at piece.write.bytes c.args.flash.now
+      took = call_in_split_memory (λ l l'. (len : ℕ) (s : SlotsState) (was mid : List ℕ) (asks : WritesPending l len s was mid) (piece :
+          Step)
+          → IsStepPiece (steps_in l asks.work) asks.work.done piece → Torn mid piece.write.at piece.write.bytes c.args.flash.now
           → DevicePieceReported (device_of l s) len s was piece.write
           (not (c.args.failed == 0)) c.args.flash.now c.args.out.now l' c.took.new.out reply)
-          (split_in p) after (IfOk-at_ok _ is done.outcome);
-      further = in_memory (λ l l'. PiecesAdvance l reply l') (split_in p) after (IfOk-at_ok _ is done.further);
+          (device_memory_is_split p) after (IfOk-at_ok _ is done.outcome);
+      further = call_in_split_memory (λ l l'. PiecesAdvance l reply l') (device_memory_is_split p) after (IfOk-at_ok _ is done.further);
     })
 
 pub returns-in-Ok-Asks : goal.returns-in-Ok-Asks
@@ -88,9 +92,10 @@ returns-in-Ok-Asks c =
     record {
       step = (
         record { config = refl; flash = refl },
-        inl (went at _ _ c.in-Ok-Asks.is (sym (ap reply_number c.in-Ok-Asks.field-0-is)) (c.keep.ensures c.args.config.now)),
+        inl (reported_device_is_kept at _ _ c.in-Ok-Asks.is (sym (ap reply_number c.in-Ok-Asks.field-0-is)) (c.keep.ensures
+            c.args.config.now)),
       );
-      block = same_front (parted at) c.took.new.held;
+      block = front_same_with_other_tail (record_device_is_split at) c.took.new.held;
       short = λ less. absurd (omega (arith, less, c.if-out-lt6.false));
     }
 
@@ -100,31 +105,31 @@ returns-in-Ok-Answered c =
     record {
       step = (
         record { config = refl; flash = refl },
-        inl (went at _ _ c.in-Ok-Answered.is
+        inl (reported_device_is_kept at _ _ c.in-Ok-Answered.is
             (to_z-of_z w32 _ (omega (arith, c.number_of.type_inv)) ∙ c.number_of.ensures ∙ sym (ap reply_number c.in-Ok-Answered.field-0-is))
             (c.keep-in-Ok-Answered.ensures c.args.config.now)),
       );
-      block = same_front (parted at) c.took.new.held;
+      block = front_same_with_other_tail (record_device_is_split at) c.took.new.held;
       short = λ less. absurd (omega (arith, less, c.if-out-lt6.false));
     }
 
 pub returns-in-Err-took : goal.returns-in-Err-took
 returns-in-Err-took c =
-    let p = parted (goal.at.returns-in-Err-took c).After-took in
+    let p = record_device_is_split (goal.at.returns-in-Err-took c).After-took in
     let done = c.in-Err-took.ensures in
     record {
       step = (
         record { config = refl; flash = refl },
         inr (inl (
-          refuses_piece c.in-Ok.asking (to_z-of_z w32 _ (omega (arith, c.number-in-Err-took.type_inv)) ∙ c.number-in-Err-took.ensures)
+          piece_is_refused c.in-Ok.asking (to_z-of_z w32 _ (omega (arith, c.number-in-Err-took.type_inv)) ∙ c.number-in-Err-took.ensures)
               p.config p.room p.kept
-              (subst (λ (l : LentDevice). ¬ IsPendingSomewhere l) (sym (lent_is (split_in p)))
-              (not_taken c.in-Err-took.field-0 _ _ (omega (arith, c.if-out-lt6.false)) done.refused)),
+              (subst (λ (l : LentDevice). ¬ IsPendingSomewhere l) (sym (split_memory_is_lent (device_memory_is_split p)))
+              (no_piece_at_idle c.in-Err-took.field-0 _ _ (omega (arith, c.if-out-lt6.false)) done.refused)),
           refl,
           unchanged p _ _ refl done.unchanged.1,
           done.unchanged.2,
         )),
       );
-      block = same_front p c.took.new.held;
+      block = front_same_with_other_tail p c.took.new.held;
       short = λ less. absurd (omega (arith, less, c.if-out-lt6.false));
     }

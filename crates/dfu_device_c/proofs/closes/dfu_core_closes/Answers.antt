@@ -1,10 +1,10 @@
 use Rattle.std.proofs.Common.{◌≡◌, ◌⊎◌, ℕ, ℤ, pos, List, inl, inr, refl, subst, sym, ◌∙◌, w32, arith}
 use Rattle.std.proofs.lemmas.Int.{to_z-of_z}
 use Rattle.dfu_core.specs.Closes.{CloseResult}
-use Rattle.dfu_asks.specs.Addressed.{addressed}
+use Rattle.dfu_asks.specs.Addressed.{addressed_setup}
 use Rattle.dfu_core.specs.Idle.{IsIdleRecord, RefusesSetup}
-use Rattle.dfu_core.specs.Numbers.{told_number}
-use Rattle.dfu_device_c.proofs.Told.{two, kept_in}
+use Rattle.dfu_core.specs.Numbers.{yes_no_number}
+use Rattle.dfu_device_c.proofs.Told.{yes_no_is_two_numbers, record_device_is_in_mode}
 use Rattle.dfu_device_c.proofs.closes.dfu_core_closes.Goals as goal
 
 pub returns : goal.returns
@@ -12,18 +12,18 @@ returns c =
     let k = c.args.config.now in
     let r = c.args.device.now in
     let said = c.mode_closes.result in
-    let own = addressed k.interface c.args.setup.now in
+    let own = addressed_setup k.interface c.args.setup.now in
     let number = to_z-of_z w32 c.told_number.result (omega (arith, c.told_number.type_inv)) ∙ c.told_number.ensures in
-    let told : CloseResult k r own (told_number said) =
-    subst (λ (x : List ℕ). CloseResult k r x (told_number said)) c.addressed-own.ensures (λ block flash a kept device. (
+    let told : CloseResult k r own (yes_no_number said) =
+    subst (λ (x : List ℕ). CloseResult k r x (yes_no_number said)) c.addressed-own.ensures (λ block flash a kept device. (
       said,
       refl,
       c.mode_closes.ensures _ flash
-          (kept_in k r c.in-Ok.found.1 c.in-Ok.ensures.set_up c.in-Ok.ensures.only block flash a kept device),
+          (record_device_is_in_mode k r c.in-Ok.found.1 c.in-Ok.ensures.set_up c.in-Ok.ensures.only block flash a kept device),
     )) in
     record {
       outcome = inl (subst (λ (n : ℤ). ((n ≡ pos 0) ⊎ (n ≡ pos 1)) × IsIdleRecord k r × CloseResult k r own n) (sym number)
-          (two said _ refl, c.in-Ok.ensures.idle, told));
+          (yes_no_is_two_numbers said _ refl, c.in-Ok.ensures.idle, told));
     }
 
 pub returns-in-Err : goal.returns-in-Err

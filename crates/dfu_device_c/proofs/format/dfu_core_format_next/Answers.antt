@@ -1,9 +1,9 @@
 use Rattle.std.proofs.Common.{ℕ, length, refl, sym, subst, inl, inr}
 use Rattle.dfu_asks.specs.Steps.{Step}
-use Rattle.dfu_asks.specs.Carried.{IsPiece, ErasesWhole}
+use Rattle.dfu_asks.specs.Carried.{IsStepPiece, ErasesSectorOrPrograms}
 use Rattle.dfu_asks.specs.Phases.{remaining_steps}
-use Rattle.dfu_core.specs.Formatting.{IsFormatting}
-use Rattle.dfu_device_c.proofs.Handed.{is_kind, programs, by_number, same_step}
+use Rattle.dfu_core.specs.Formatting.{IsFormatRecord}
+use Rattle.dfu_device_c.proofs.Handed.{kind_is_erase_or_program, program_kind_does_not_erase, step_by_number, step_by_number_is_by_flag}
 use Rattle.dfu_device_c.proofs.format.dfu_core_format_next.Goals.{After-next}
 use Rattle.dfu_device_c.proofs.format.dfu_core_format_next.Goals as goal
 
@@ -15,8 +15,8 @@ returns-in_default-formatting_of c = record {
   );
 }
 
--- The record is the format whose next write is asked for.
-is_format : (c : After-next) → IsFormatting c.args.config.now c.args.device.now c.in-Some-formatting_of.formatting
+-- The record stands for the format whose next write is handed out.
+is_format : (c : After-next) → IsFormatRecord c.args.config.now c.args.device.now c.in-Some-formatting_of.formatting
 is_format c = c.in-Some-formatting_of.ensures.some c.args.config.now (record {
   config_is = c.in-Some.ensures.config;
   unit_is = c.in-Some.ensures.unit;
@@ -41,19 +41,19 @@ returns c =
     let p = c.in-Some-next.piece in
     let image = c.args.image.now in
     let flash = c.args.flash.now in
-    let same = same_step p.erases c.kind_of-ask.result p.at p.len c.next.new.out c.kind_of-ask.ensures in
+    let same = step_by_number_is_by_flag p.erases c.kind_of-ask.result p.at p.len c.next.new.out c.kind_of-ask.ensures in
     record {
       outcome = inl (record {
         number_is = refl;
         config = c.in-Some.ensures.allowed;
         formatting = f;
         is = is;
-        kind = is_kind p.erases c.kind_of-ask.result c.kind_of-ask.ensures;
-        piece = subst (λ (s : Step). IsPiece (remaining_steps f (length flash) image) f.done s) (sym same) says.piece;
+        kind = kind_is_erase_or_program p.erases c.kind_of-ask.result c.kind_of-ask.ensures;
+        piece = subst (λ (s : Step). IsStepPiece (remaining_steps f (length flash) image) f.done s) (sym same) says.piece;
         some = says.most.some;
-        most = λ two. says.most.programs (programs p.erases c.kind_of-ask.result c.kind_of-ask.ensures two);
-        sector = subst (λ (n : ℕ). ErasesWhole n (by_number c.kind_of-ask.result p.at p.len c.next.new.out)) is.sector
-            (subst (λ (s : Step). ErasesWhole f.sector.size s) (sym same) says.sector);
+        most = λ two. says.most.programs (program_kind_does_not_erase p.erases c.kind_of-ask.result c.kind_of-ask.ensures two);
+        sector = subst (λ (n : ℕ). ErasesSectorOrPrograms n (step_by_number c.kind_of-ask.result p.at p.len c.next.new.out)) is.sector
+            (subst (λ (s : Step). ErasesSectorOrPrograms f.sector.size s) (sym same) says.sector);
         within = says.within.0;
       });
     }

@@ -5,8 +5,8 @@ use Rattle.dfu_asks.specs.declared.sector.Sector.{Sector}
 use Rattle.dfu_asks.specs.declared.formatting.FormatProgress.{FormatProgress}
 use Rattle.dfu_asks.specs.declared.formatting.FormatProgress.TheVariants as format_progress
 use Rattle.dfu_core.specs.declared.record.DfuRecord.{DfuRecord}
-use Rattle.dfu_core.specs.Formatting.{IsFormatting}
-use Rattle.dfu_core.specs.Formats.{progress_number, FormatReport}
+use Rattle.dfu_core.specs.Formatting.{IsFormatRecord}
+use Rattle.dfu_core.specs.Formats.{progress_number, FormatPieceReport}
 use Rattle.dfu_device_c.proofs.format.dfu_core_format_took.Goals.{After-took}
 use Rattle.dfu_device_c.proofs.format.dfu_core_format_took.Goals as goal
 
@@ -18,20 +18,21 @@ returns-in_default-formatting_of c = record {
   );
 }
 
--- The record is the format whose piece it was.
-is_format : (c : After-took) → IsFormatting c.args.config.now c.args.device.now c.in-Some-formatting_of.formatting
+-- The record stands for the format to which the piece belongs.
+is_format : (c : After-took) → IsFormatRecord c.args.config.now c.args.device.now c.in-Some-formatting_of.formatting
 is_format c = c.in-Some-formatting_of.ensures.some c.args.config.now (record {
   config_is = c.in-Some.ensures.config;
   unit_is = c.in-Some.ensures.unit;
   sector_is = c.in-Some.ensures.sector;
 })
 
--- The piece was taken, and this came of it: the record is what is kept then.
-went : (c : After-took) (came : FormatProgress) (r' : DfuRecord) {n : ℤ} → c.took.result ≡ Some came → n ≡ progress_number came
-    → (came ≡ format_progress.Asks → IsFormatting c.args.config.now r' c.took.new.self) → (came ≢ format_progress.Asks → r'.work ≡ 0)
+-- The report was taken with the outcome `came`, and the record was written for the format after it.
+reported_format_is_kept : (c : After-took) (came : FormatProgress) (r' : DfuRecord) {n : ℤ} → c.took.result ≡ Some came → n
+    ≡ progress_number came
+    → (came ≡ format_progress.Asks → IsFormatRecord c.args.config.now r' c.took.new.self) → (came ≢ format_progress.Asks → r'.work ≡ 0)
     → r' ≡ record c.args.device.now { work = r'.work; spare = r'.spare; sum = r'.sum; done = r'.done; generation = r'.generation }
-    → FormatReport c.args.config.now c.args.device.now c.args.flash.now c.args.image.now (not (c.args.failed == 0)) n r'
-went c came r' is number_is on over rest = record {
+    → FormatPieceReport c.args.config.now c.args.device.now c.args.flash.now c.args.image.now (not (c.args.failed == 0)) n r'
+reported_format_is_kept c came r' is number_is on over rest = record {
   config = c.in-Some.ensures.allowed;
   before = c.in-Some-formatting_of.formatting;
   is = is_format c;
@@ -59,7 +60,7 @@ returns-in-Some-Asks c =
     let same = c.in-Some-Asks.ensures.same in
     let kept = c.keep_format.ensures in
     record {
-      outcome = inl (went at format_progress.Asks _ (c.in-Some-Asks.is ∙ ap Some c.in-Some-Asks.field-0-is) refl
+      outcome = inl (reported_format_is_kept at format_progress.Asks _ (c.in-Some-Asks.is ∙ ap Some c.in-Some-Asks.field-0-is) refl
           (λ e. record {
             work = kept.work;
             unit = same.unit ∙ is.unit;
@@ -73,13 +74,13 @@ returns-in-Some-Asks c =
 
 pub returns-in-Some-Formatted : goal.returns-in-Some-Formatted
 returns-in-Some-Formatted c = record {
-  outcome = inl (went (goal.at.returns-in-Some-Formatted c).After-took format_progress.Formatted _
+  outcome = inl (reported_format_is_kept (goal.at.returns-in-Some-Formatted c).After-took format_progress.Formatted _
       (c.in-Some-Formatted.is ∙ ap Some c.in-Some-Formatted.field-0-is) refl (λ e. cc) (λ other. refl) refl);
 }
 
 pub returns-in-Some-Broken : goal.returns-in-Some-Broken
 returns-in-Some-Broken c = record {
-  outcome = inl (went (goal.at.returns-in-Some-Broken c).After-took (format_progress.Broken c.in-Some-Broken.field-0-0) _
+  outcome = inl (reported_format_is_kept (goal.at.returns-in-Some-Broken c).After-took (format_progress.Broken c.in-Some-Broken.field-0-0) _
       (c.in-Some-Broken.is ∙ ap Some c.in-Some-Broken.field-0-is)
       (to_z-of_z w32 _ (omega (arith, c.format_number.type_inv)) ∙ c.format_number.ensures) (λ e. cc) (λ other. refl) refl);
 }

@@ -3,30 +3,30 @@ use Rattle.std.proofs.lemmas.Bool.{false≢true}
 use Rattle.dfu_device.specs.declared.answer.Answer.TheVariants as answer
 use Rattle.dfu_device.specs.declared.objection.Objection.{Objection}
 use Rattle.dfu_device.specs.Rows.{RefusingClose}
-use Rattle.dfu_asks.specs.Addressed.{addressed}
+use Rattle.dfu_asks.specs.Addressed.{addressed_setup}
 use Rattle.dfu_core.specs.RecordMeaning.{with_memory}
-use Rattle.dfu_core.specs.Numbers.{STALL, NO_CLOSE}
-use Rattle.dfu_core.specs.Refuse.{objection_in, CauseResult, ClosesNone, CloseRefused}
-use Rattle.dfu_device_c.proofs.Told.{kept_in}
-use Rattle.dfu_device_c.proofs.Moved.{takes_cause}
-use Rattle.dfu_device_c.proofs.Refusals.{close_leads}
+use Rattle.dfu_core.specs.Numbers.{STALL_NUMBER, NO_CLOSE_NUMBER}
+use Rattle.dfu_core.specs.Refuse.{objection_of_status, RecordTakesRow, ClosesNoDownload, RefuseCloseOutcome}
+use Rattle.dfu_device_c.proofs.Told.{record_device_is_in_mode}
+use Rattle.dfu_device_c.proofs.Moved.{record_takes_cause_row}
+use Rattle.dfu_device_c.proofs.Refusals.{refused_close_takes_row}
 use Rattle.dfu_device_c.proofs.refuse.dfu_core_refuse_close.Goals as goal
 
 pub returns-then-not-mode_closes : goal.returns-then-not-mode_closes
 returns-then-not-mode_closes c =
     let k = c.args.config.now in
     let r = c.args.device.now in
-    let none : ClosesNone k r c.addressed-own.result = λ a kept block flash device closes.
+    let none : ClosesNoDownload k r c.addressed-own.result = λ a kept block flash device closes.
     let told = c.mode_closes.ensures (with_memory block a) flash
-    (kept_in k r c.in-Ok.found.1 c.in-Ok.ensures.set_up c.in-Ok.ensures.only block flash a kept device) in
+    (record_device_is_in_mode k r c.in-Ok.found.1 c.in-Ok.ensures.set_up c.in-Ok.ensures.only block flash a kept device) in
     false≢true (sym c.if-not-mode_closes.true ∙ told.closes.1 closes) in
-    let outcome : CloseRefused k r (addressed k.interface c.args.setup.now) c.args.status NO_CLOSE r = inr (
+    let outcome : RefuseCloseOutcome k r (addressed_setup k.interface c.args.setup.now) c.args.status NO_CLOSE_NUMBER r = inr (
       refl,
       inl (
         refl,
         c.in-Ok.ensures.idle,
         c.in-Some.ensures.some.1,
-        subst (λ (x : List ℕ). ClosesNone k r x) c.addressed-own.ensures none,
+        subst (λ (x : List ℕ). ClosesNoDownload k r x) c.addressed-own.ensures none,
       ),
     ) in
     record { outcome = outcome; step = λ block flash. (record { config = refl; flash = refl }, refl, outcome) }
@@ -39,15 +39,16 @@ returns c =
     let m' = c.after_refused_close.result in
     let why = c.in-Some.objection in
     let own = c.addressed-own.result in
-    let outcome : CloseRefused k r (addressed k.interface c.args.setup.now) c.args.status STALL r' = inl (
+    let outcome : RefuseCloseOutcome k r (addressed_setup k.interface c.args.setup.now) c.args.status STALL_NUMBER r' = inl (
       refl,
       c.in-Ok.ensures.idle,
       c.in-Some.ensures.some.1,
-      subst (λ (x : List ℕ). CauseResult k r (RefusingClose x (objection_in c.args.status)) answer.Stall r') c.addressed-own.ensures
-          (subst (λ (w : Objection). CauseResult k r (RefusingClose own w) answer.Stall r') c.in-Some.ensures.some.0
-          (takes_cause k r r' c.in-Ok.found.1 m' c.in-Ok.ensures.only c.in-Ok.ensures.idle.idle c.set_mode.ensures.mode
+      subst (λ (x : List ℕ). RecordTakesRow k r (RefusingClose x (objection_of_status c.args.status)) answer.Stall r')
+          c.addressed-own.ensures
+          (subst (λ (w : Objection). RecordTakesRow k r (RefusingClose own w) answer.Stall r') c.in-Some.ensures.some.0
+          (record_takes_cause_row k r r' c.in-Ok.found.1 m' c.in-Ok.ensures.only c.in-Ok.ensures.idle.idle c.set_mode.ensures.mode
           c.set_mode.ensures.others (RefusingClose own why) answer.Stall
-          (λ l flash config mode device. close_leads k c.in-Ok.found.1 m' why l flash config mode device own
+          (λ l flash config mode device. refused_close_takes_row k c.in-Ok.found.1 m' why l flash config mode device own
           ((c.mode_closes.ensures l flash (record {
             config_is = config ∙ sym c.in-Ok.ensures.set_up.config_is;
             mode_is = sym mode;

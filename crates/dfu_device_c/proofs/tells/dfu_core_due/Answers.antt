@@ -1,26 +1,28 @@
 use Rattle.std.proofs.Common.{◌≡◌, min, ℕ, ℤ, pos, Option, Some, None, IfSome, IfNone, sym, ap, ◌∙◌, subst, inl, inr, w32, arith}
 use Rattle.std.proofs.lemmas.Int.{to_z-of_z}
 use Rattle.dfu_asks.specs.Times.{due_of}
-use Rattle.dfu_core.specs.Due.{LATEST}
+use Rattle.dfu_core.specs.Due.{LONGEST_DUE}
 use Rattle.dfu_core.specs.Idle.{RefusesRecord}
-use Rattle.dfu_device_c.proofs.Told.{told_due}
+use Rattle.dfu_device_c.proofs.Told.{due_result_of_record}
 use Rattle.dfu_device_c.proofs.tells.dfu_core_due.Goals as goal
 
--- The number says what is due.
-says : (o : Option ℕ) (n : ℤ) (due : ℕ) → IfSome o (λ ms. n ≡ pos (min LATEST ms)) → IfNone o (n ≡ pos 0) → IfSome o (λ ms. ms ≡ due)
-    → IfNone o (due ≡ 0) → n ≡ pos (min LATEST due)
-says (Some ms) n due some none is nothing = some ∙ ap (λ (k : ℕ). pos (min LATEST k)) is
-says None n due some none is nothing = none ∙ ap (λ (k : ℕ). pos (min LATEST k)) (sym nothing)
+-- The number is the milliseconds that are due, at most LONGEST_DUE, and 0 if none are.
+due_number_is_milliseconds : (o : Option ℕ) (n : ℤ) (due : ℕ) → IfSome o (λ ms. n ≡ pos (min LONGEST_DUE ms)) → IfNone o (n ≡ pos 0) →
+    IfSome o (λ ms. ms ≡ due)
+    → IfNone o (due ≡ 0) → n ≡ pos (min LONGEST_DUE due)
+due_number_is_milliseconds (Some ms) n due some none is nothing = some ∙ ap (λ (k : ℕ). pos (min LONGEST_DUE k)) is
+due_number_is_milliseconds None n due some none is nothing = none ∙ ap (λ (k : ℕ). pos (min LONGEST_DUE k)) (sym nothing)
 
 pub returns : goal.returns
 returns c = record {
   outcome = inl (
     c.in-Ok.ensures.config,
-    told_due c.args.config.now c.args.device.now c.in-Ok.found.1 _ c.in-Ok.ensures.set_up c.in-Ok.ensures.only
+    due_result_of_record c.args.config.now c.args.device.now c.in-Ok.found.1 _ c.in-Ok.ensures.set_up c.in-Ok.ensures.only
         (to_z-of_z w32 c.due_number.result (omega (arith, c.due_number.type_inv))
-        ∙ says c.mode_due.result c.due_number.result _ c.due_number.ensures.some c.due_number.ensures.none c.mode_due.ensures.some
+        ∙ due_number_is_milliseconds c.mode_due.result c.due_number.result _ c.due_number.ensures.some c.due_number.ensures.none
+        c.mode_due.ensures.some
         c.mode_due.ensures.none
-        ∙ ap (λ (n : ℕ). pos (min LATEST (due_of c.in-Ok.found.0.config c.in-Ok.found.1 n))) c.from-block_len.ensures),
+        ∙ ap (λ (n : ℕ). pos (min LONGEST_DUE (due_of c.in-Ok.found.0.config c.in-Ok.found.1 n))) c.from-block_len.ensures),
   );
 }
 

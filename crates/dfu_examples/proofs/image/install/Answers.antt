@@ -12,12 +12,13 @@ put_image : {T E : Type 0} (mid now : SlotsState) (image : List ℕ) (result : R
 put_image mid now image (Ok x) put done = done ∙ put
 put_image mid now image (Err e) put done = tt
 
-put_either : {T E : Type 0} (was mid now : SlotsState) (image : List ℕ) (result : Result T E) → take (length image) (spare_of mid) ≡ image
+put_leaves_old_or_new_image : {T E : Type 0} (was mid now : SlotsState) (image : List ℕ) (result : Result T E) →
+    take (length image) (spare_of mid) ≡ image
     → image_of mid ≡ image_of was
     → OnErr result ((image_of now ≡ image_of mid) ⊎ (image_of now ≡ take (length image) (spare_of mid)))
     → OnErr result ((image_of now ≡ image_of was) ⊎ (image_of now ≡ image))
-put_either was mid now image (Ok x) put kept either = tt
-put_either was mid now image (Err e) put kept either = ⊎_elim (λ same. inl (same ∙ kept)) (λ new. inr (new ∙ put)) either
+put_leaves_old_or_new_image was mid now image (Ok x) put kept either = tt
+put_leaves_old_or_new_image was mid now image (Err e) put kept either = ⊎_elim (λ same. inl (same ∙ kept)) (λ new. inr (new ∙ put)) either
 
 pub returns-clause-installed : goal.returns-clause-installed
 returns-clause-installed g c = put_image c.put.new.self c.commit.new.self c.args.image.now c.commit.result
@@ -25,6 +26,6 @@ returns-clause-installed g c = put_image c.put.new.self c.commit.new.self c.args
 
 pub returns-clause-old_or_new : goal.returns-clause-old_or_new
 returns-clause-old_or_new g c =
-    put_either c.args.slots.now c.put.new.self c.commit.new.self c.args.image.now c.commit.result
+    put_leaves_old_or_new_image c.args.slots.now c.put.new.self c.commit.new.self c.args.image.now c.commit.result
     (put_front (spare_of c.begin.new.self) (spare_of c.put.new.self) c.args.image.now c.in_ok-put.ensures.front)
     (c.in_ok-put.ensures.image ∙ c.in_ok-begin.ensures.image) c.commit.ensures.kept

@@ -1,17 +1,19 @@
 use Rattle.std.proofs.Common.{arith, rules, ap, ◌∙◌, ◌++◌, ℕ}
-use Rattle.dfu_fs.specs.Changing.{with_register, fields}
-use Rattle.dfu_fs.proofs.ChangeLaws.{is_changed, refuses}
+use Rattle.dfu_fs.specs.Changing.{with_register, suffix_fields}
+use Rattle.dfu_fs.proofs.ChangeLaws.{rewritten_file_is_changed, change_refused_by_fault}
 use Rattle.dfu_fs.proofs.changing.with_ids.Goals as goal
 
 pub returns-in-Err : goal.returns-in-Err
-returns-in-Err c = refuses c.args.change.now c.args.bytes.now c.in-Err.fault ((c.read.ensures.fault c.in-Err.fault).0 c.in-Err.is)
+returns-in-Err c =
+    change_refused_by_fault c.args.change.now c.args.bytes.now c.in-Err.fault ((c.read.ensures.fault c.in-Err.fault).0 c.in-Err.is)
 
 pub returns-in-Ok-rewritten : goal.returns-in-Ok-rewritten
 returns-in-Ok-rewritten c =
     let found = c.in-Ok.ensures.found in
-    is_changed c.args.change.now c.in-Ok.file.payload found.0 c.args.bytes.now c.in-Ok-rewritten.text.items
+    rewritten_file_is_changed c.args.change.now c.in-Ok.file.payload found.0 c.args.bytes.now c.in-Ok-rewritten.text.items
     c.front_of.result.now c.in-Ok.file.ids c.changed-ids.result c.in-Ok.file.dfu c.in-Ok.file.suffix
     found.1 found.2 c.front_of.ensures (search rules) (omega arith) (omega arith) (omega arith)
     (c.in-Ok-rewritten.ensures
-    ∙ (ap (λ (d : ℕ). with_register (c.front_of.result.now ++ fields c.changed-ids.result d c.suffix.result)) c.dfu.ensures.value
-    ∙ ap (λ (s : ℕ). with_register (c.front_of.result.now ++ fields c.changed-ids.result c.in-Ok.file.dfu s)) c.suffix.ensures.value))
+    ∙ (ap (λ (d : ℕ). with_register (c.front_of.result.now ++ suffix_fields c.changed-ids.result d c.suffix.result)) c.dfu.ensures.value
+    ∙ ap (λ (s : ℕ). with_register (c.front_of.result.now ++ suffix_fields c.changed-ids.result c.in-Ok.file.dfu s))
+    c.suffix.ensures.value))

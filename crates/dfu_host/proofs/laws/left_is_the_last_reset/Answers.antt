@@ -1,5 +1,5 @@
-use Rattle.dfu_host.proofs.Leaving.{ends_unconfirmed, begins_to_compare, restart_elsewhere}
+use Rattle.dfu_host.proofs.Leaving.{nothing_confirms_after_close, compare_follows_close, restart_before_close}
 use Rattle.dfu_host.proofs.laws.left_is_the_last_reset.Goals as goal
 
 pub returns : goal.returns
-returns c = record { ends = ends_unconfirmed; compares = begins_to_compare; elsewhere = restart_elsewhere }
+returns c = record { ends = nothing_confirms_after_close; compares = compare_follows_close; elsewhere = restart_before_close }

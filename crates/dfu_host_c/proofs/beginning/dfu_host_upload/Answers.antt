@@ -1,6 +1,6 @@
 use Rattle.std.proofs.Common.{rules, inl, inr, refl}
 use Rattle.dfu_host_c.proofs.Beginnings.{no_fault}
-use Rattle.dfu_host_c.proofs.Refused.{refused_for}
+use Rattle.dfu_host_c.proofs.Refused.{refused_for_first_fault}
 use Rattle.dfu_host_c.proofs.beginning.dfu_host_upload.Goals as goal
 
 pub returns-in-Ok-upload : goal.returns-in-Ok-upload
@@ -20,7 +20,7 @@ returns-in-Err-upload c = record {
     record {
       functional = c.in-Ok.functional;
       is_functional = c.in-Ok.ensures.ok;
-      refused = refused_for _ _ c.in-Err-upload.is c.upload.ensures.refused (search rules);
+      refused = refused_for_first_fault _ _ c.in-Err-upload.is c.upload.ensures.refused (search rules);
     },
     refl,
   ));

@@ -4,7 +4,7 @@ use Rattle.dfu_host_c.specs.Refusals.{refused_number}
 use Rattle.dfu_host_c.specs.declared.refusals.Refusal.TheVariants as refusal
 use Rattle.dfu_host_c.proofs.file.dfu_host_file.Goals as goal
 
--- The number that C gets for what was read.
+-- The number that C gets for the result of reading a file.
 abbrev answer : {T : Type 0} → Result T SuffixFault → ℤ
 answer (Ok read) = pos 0
 answer (Err fault) = refused_number (refusal.File fault)
@@ -15,7 +15,7 @@ returns-in-Err-clause-fault c = λ fault first.
     ap answer (sym c.in-Err.is ∙ (c.file_in.ensures.fault fault).1 first) in
     (rw (← same) (search rules), refl)
 
--- The reading found a file.
+-- Reading found a file.
 abbrev Found : {T : Type 0} → Result T SuffixFault → Type 0
 Found (Ok read) = Unit {0}
 Found (Err fault) = ⊥

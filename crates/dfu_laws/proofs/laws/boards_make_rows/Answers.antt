@@ -1,5 +1,6 @@
-use Rattle.dfu_laws.proofs.board.Boards.{run_refines, idle_refines, run_keeps, run_stays, run_installs}
+use Rattle.dfu_laws.proofs.board.Boards.{runs_refine_device_table, idle_runs_refine_table, runs_keep_image, image_stays_in_run, manifestation_installs}
 use Rattle.dfu_laws.proofs.board.Cut.{write_laws}
+use Rattle.dfu_laws.proofs.board.SlotRuns.{idle_runs_keep_slots}
 use Rattle.dfu_laws.proofs.laws.boards_make_rows.Goals as goal
 
 pub returns : goal.returns
@@ -9,9 +10,10 @@ returns c =
     let takes = c.rows_take.ensures.row in
     let only = c.active_image_is_one.ensures.only in
     record {
-      power = run_refines laws takes only;
-      idle = idle_refines laws takes only;
-      keeps = run_keeps laws takes only;
-      stays = run_stays laws takes only;
-      installs = run_installs laws takes only;
+      power = runs_refine_device_table laws takes only;
+      idle = idle_runs_refine_table laws takes only;
+      slots = idle_runs_keep_slots laws takes;
+      keeps = runs_keep_image laws takes only;
+      stays = image_stays_in_run laws takes only;
+      installs = manifestation_installs laws takes only;
     }

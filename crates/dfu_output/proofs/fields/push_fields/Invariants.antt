@@ -1,7 +1,8 @@
 use Rattle.std.specs.Prelude.{◌≡◌, drop}
 use Rattle.std.specs.String.{string_bytes}
-use Rattle.dfu_output.specs.Fields.{with_fields}
+use Rattle.dfu_output.specs.Fields.{text_with_fields}
 use Rattle.dfu_output.proofs.fields.push_fields.Given as goal
 
 abbrev pub invariant-loop-label : goal.invariant-loop-label
-invariant-loop-label l = with_fields (string_bytes l.line) (drop l.label-index l.fields) ≡ with_fields (string_bytes l.fn.line) l.fields
+invariant-loop-label l = text_with_fields (string_bytes l.line) (drop l.label-index l.fields)
+    ≡ text_with_fields (string_bytes l.fn.line) l.fields

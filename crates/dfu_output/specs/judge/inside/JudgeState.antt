@@ -4,11 +4,12 @@ use Rattle.std.specs.Io.KnownBytes.{Appends}
 use Rattle.dfu_conformance.specs.declared.event.LogEvent.{LogEvent}
 use Rattle.dfu_conformance.specs.declared.verdict.Departure.{Departure}
 use Rattle.dfu_conformance.specs.MayAnswer.{CandidatesExact, PlainCandidatesExact}
-use Rattle.dfu_output.specs.judge.Course.{LogCourse, EventLeads, Judges}
+use Rattle.dfu_output.specs.judge.Course.{LogCourse, EventLeads, CourseOfText}
 use Rattle.dfu_output.specs.judge.Lines.{LinesState}
 use Rattle.dfu_output.specs.judge.Texts.{departure_text}
 
--- The devices that a judge holds, the lines, how many events came, and after how many of them one state was left.
+-- State of the judging: the devices that a judge holds, the lines, the number of events that came, and the number after which one state was
+-- left.
 pub record JudgingState : Type 0 where
   pub whole : List (List ℕ)
   pub since : List (List ℕ)
@@ -16,8 +17,8 @@ pub record JudgingState : Type 0 where
   pub events : ℕ
   pub single : ℕ
 
--- It is the state after a text was judged so far.
-pub record IsAt (s : JudgingState) (text : List ℕ) (c : LogCourse) : Type 0 where
+-- The state is that after the text, whose course is `c`.
+pub record IsStateAfter (s : JudgingState) (text : List ℕ) (c : LogCourse) : Type 0 where
   pub whole : CandidatesExact s.whole c.events
   pub since : PlainCandidatesExact s.since c.since
   pub line : s.lines.line ≡ c.line
@@ -31,23 +32,23 @@ abbrev pub departure_words : (number : ℕ) → Option Departure → List ℕ
 departure_words n None = []
 departure_words n (Some d) = departure_text n d
 
--- An event came, with this departure, if any.
+-- An event came, with its departure, if any, and led to the next course.
 pub record LogEventResult (text : List ℕ) (c : LogCourse) (event : LogEvent) (departure : Option Departure) (s : JudgingState) : Type 0 where
   pub next : LogCourse
   pub comes : EventLeads c event next
-  pub at : IsAt s text next
+  pub at : IsStateAfter s text next
   pub out : next.out ≡ c.out ++ departure_words s.lines.number departure
 
--- A text was judged so far, with this departure at its last byte, if any.
+-- A text was judged so far, with the departure at its last byte, if any.
 pub record JudgedText (interface : ℕ) (text : List ℕ) (c : LogCourse) (departure : Option Departure) (s : JudgingState) : Type 0 where
   pub next : LogCourse
-  pub judged : Judges interface text next
-  pub at : IsAt s text next
+  pub judged : CourseOfText interface text next
+  pub at : IsStateAfter s text next
   pub out : next.out ≡ c.out ++ departure_words s.lines.number departure
 
 -- A text was judged so far, and what is printed of it is out.
-pub record Going (interface : ℕ) (old new : Option (List ℕ)) (text : List ℕ) (s : JudgingState) : Type 0 where
+pub record JudgedSoFar (interface : ℕ) (old new : Option (List ℕ)) (text : List ℕ) (s : JudgingState) : Type 0 where
   pub course : LogCourse
-  pub judged : Judges interface text course
-  pub at : IsAt s text course
+  pub judged : CourseOfText interface text course
+  pub at : IsStateAfter s text course
   pub out : Appends old new course.out

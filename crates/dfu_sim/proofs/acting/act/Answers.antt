@@ -1,16 +1,16 @@
 use Rattle.dfu_host.specs.Table.{deed}
-use Rattle.dfu_sim.specs.inside.Acting.{delivery_in}
-use Rattle.dfu_sim.proofs.Acts.{sends_by, acts_send, acts_wait, acts_reset}
+use Rattle.dfu_sim.specs.inside.Acting.{delivery_of_given}
+use Rattle.dfu_sim.proofs.Acts.{request_by_rows, send_action_delivered, wait_action_delivered, reset_action_delivered}
 use Rattle.dfu_sim.proofs.acting.act.Goals as goal
 
 pub returns-in-Send : goal.returns-in-Send
 returns-in-Send g c =
     let h = c.args.host.now in
-    let delivery = delivery_in c.args.delivery in
+    let delivery = delivery_of_given c.args.delivery in
     record {
       heard = c.tell.ensures.heard;
-      acts = acts_send (deed h.task h.phase) delivery _ c.in-Send.body c.tell.ensures.heard c.come_back-back.result
-          c.in-Send.ensures.act (sends_by delivery c.reach-came.ensures c.come_back-back.ensures) c.as_slice.ensures.value
+      acts = send_action_delivered (deed h.task h.phase) delivery _ c.in-Send.body c.tell.ensures.heard c.come_back-back.result
+          c.in-Send.ensures.act (request_by_rows delivery c.reach-came.ensures c.come_back-back.ensures) c.as_slice.ensures.value
           c.tell.ensures.hears;
       room = c.tell.ensures.room;
       same = c.tell.ensures.same;
@@ -22,7 +22,8 @@ returns-in-Wait g c =
     let row = c.take.ensures.row in
     record {
       heard = row.heard;
-      acts = acts_wait (deed h.task h.phase) (delivery_in c.args.delivery) c.in-Wait.ms c.args.device.now c.wait-seen.new.device row.heard
+      acts = wait_action_delivered (deed h.task h.phase) (delivery_of_given c.args.delivery) c.in-Wait.ms c.args.device.now
+          c.wait-seen.new.device row.heard
           c.in-Wait.ensures.act (c.wait-seen.ensures.hears _ _ row.hears);
       room = row.room;
       same = row.same;
@@ -34,7 +35,8 @@ returns-in-Reset g c =
     let row = c.take-in-Reset.ensures.row in
     record {
       heard = row.heard;
-      acts = acts_reset (deed h.task h.phase) (delivery_in c.args.delivery) c.args.device.now c.reset_bus-seen.new.device row.heard
+      acts = reset_action_delivered (deed h.task h.phase) (delivery_of_given c.args.delivery) c.args.device.now c.reset_bus-seen.new.device
+          row.heard
           c.in-Reset.ensures.act (c.reset_bus-seen.ensures.hears _ _ row.hears);
       room = row.room;
       same = row.same;

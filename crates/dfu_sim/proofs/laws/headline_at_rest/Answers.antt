@@ -1,5 +1,5 @@
-use Rattle.dfu_sim.proofs.HeadlineKept.{holds_at_rest}
+use Rattle.dfu_sim.proofs.HeadlineKept.{headline_at_start}
 use Rattle.dfu_sim.proofs.laws.headline_at_rest.Goals as goal
 
 pub returns : goal.returns
-returns g = holds_at_rest
+returns g = headline_at_start

@@ -1,5 +1,5 @@
-use Rattle.dfu_sim.proofs.Steady.{uploads_give, rest_is_steady}
+use Rattle.dfu_sim.proofs.Steady.{uploads_are_active, rest_is_steady}
 use Rattle.dfu_sim.proofs.laws.uploads_give_the_image.Goals as goal
 
 pub returns : goal.returns
-returns g = record { gives = uploads_give; rest = rest_is_steady }
+returns g = record { gives = uploads_are_active; rest = rest_is_steady }

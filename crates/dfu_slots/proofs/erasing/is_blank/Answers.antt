@@ -1,17 +1,17 @@
 use Rattle.std.proofs.Common.{ℕ, ◌≡◌, ◌+◌, ◌-◌, ◌∙◌, List, sym, subst, arith}
 use Rattle.std.proofs.lemmas.Bool.{true≢false}
 use Rattle.dfu_slots.specs.Medium.{IsBlank}
-use Rattle.dfu_slots.proofs.Blank.{blank_more, blank_front, blank_back, front_blank, piece_blank, blank_piece}
+use Rattle.dfu_slots.proofs.Blank.{blank_ranges_join, blank_range_front, blank_range_back, front_of_ff_array, blank_if_piece_stands, piece_stands_if_blank}
 use Rattle.dfu_slots.proofs.erasing.is_blank.Goals as goal
 
 pub loop-done-preserved : goal.loop-done-preserved
 loop-done-preserved g c =
     let m : List ℕ = (g.M.Medium.state c.args.medium.now).bytes in (
       omega (arith, c.min-size.ensures, c.loop-done-test.true, c.loop-done.invariant.0),
-      blank_more m c.args.at c.loop-done.done c.min-size.result
+      blank_ranges_join m c.args.at c.loop-done.done c.min-size.result
           (omega (arith, c.requires, c.min-size.ensures, c.loop-done-test.true, c.loop-done.invariant.0)) c.loop-done.invariant.1
-          (piece_blank m (c.args.at + c.loop-done.done) c.min-size.result _
-          (front_blank c.min-size.result 256 (omega (arith, c.min-size.ensures)))
+          (blank_if_piece_stands m (c.args.at + c.loop-done.done) c.min-size.result _
+          (front_of_ff_array c.min-size.result 256 (omega (arith, c.min-size.ensures)))
           (c.stands_at.ensures.0 c.if-stands_at.true)),
     )
 
@@ -22,10 +22,11 @@ returns-else-stands_at g c =
     omega (arith, c.min-size.ensures, c.loop-done-test.true, c.loop-done.invariant.0) in (
       λ t. absurd (true≢false (sym t)),
       λ whole.
-          let back = blank_back m c.args.at c.loop-done.done (c.min-size.result + (c.args.len - c.loop-done.done - c.min-size.result))
+          let back = blank_range_back m c.args.at c.loop-done.done (c.min-size.result + (c.args.len - c.loop-done.done - c.min-size.result))
           (omega (arith, c.requires, rest)) (subst (λ (n : ℕ). IsBlank m c.args.at n) rest whole) in
-          let piece = blank_front m (c.args.at + c.loop-done.done) c.min-size.result (c.args.len - c.loop-done.done - c.min-size.result)
+          let piece = blank_range_front m (c.args.at + c.loop-done.done) c.min-size.result (c.args.len - c.loop-done.done -
+          c.min-size.result)
           (omega (arith, c.requires, rest)) back in
-          absurd (true≢false (sym (c.stands_at.ensures.1 (blank_piece m (c.args.at + c.loop-done.done) c.min-size.result _
-          (front_blank c.min-size.result 256 (omega (arith, c.min-size.ensures))) piece)) ∙ c.if-stands_at.false)),
+          absurd (true≢false (sym (c.stands_at.ensures.1 (piece_stands_if_blank m (c.args.at + c.loop-done.done) c.min-size.result _
+          (front_of_ff_array c.min-size.result 256 (omega (arith, c.min-size.ensures))) piece)) ∙ c.if-stands_at.false)),
     )

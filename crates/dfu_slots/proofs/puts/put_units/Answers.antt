@@ -4,13 +4,13 @@ use Rattle.dfu_slots.specs.Medium.{Write, AllWrites, BrokenWrites}
 use Rattle.dfu_slots.specs.Writes.{put_writes}
 use Rattle.dfu_slots.specs.Operations.{ops_writes, held_from, operations}
 use Rattle.dfu_slots.specs.inside.Carry.{MayCarryAll}
-use Rattle.dfu_slots.proofs.MayCarry.{may_put}
-use Rattle.dfu_slots.proofs.Sequences.{put_are}
+use Rattle.dfu_slots.proofs.MayCarry.{may_carry_put}
+use Rattle.dfu_slots.proofs.Sequences.{put_ops_make_writes}
 use Rattle.dfu_slots.proofs.puts.put_units.Given as given
 use Rattle.dfu_slots.proofs.puts.put_units.Goals.{After-carry_out}
 use Rattle.dfu_slots.proofs.puts.put_units.Goals as goal
 
--- The operations make the writes of a put.
+-- The operations of the put make its writes.
 are : (g : given.Over) (c : goal.After-carry_out g) → let m = g.M.Medium.state c.args.medium.now in
     let block = c.args.bytes.now in
     let held = c.args.held.now.items in
@@ -22,7 +22,7 @@ are g c =
     let block = c.args.bytes.now in
     ap (λ (h : List ℕ). ops_writes m.grain.sector h block (replicate 16 0)
     (operations m.grain (Put c.args.slot c.args.end (length h) (length block)))) c.as_slice-front.ensures.value
-    ∙ put_are m.grain c.args.held.now.items block (replicate 16 0) c.args.slot c.args.end
+    ∙ put_ops_make_writes m.grain c.args.held.now.items block (replicate 16 0) c.args.slot c.args.end
 
 pub carry_out-requires : goal.carry_out-requires
 carry_out-requires g c =
@@ -31,7 +31,7 @@ carry_out-requires g c =
     let q = c.requires in
     subst (λ (h : List ℕ). MayCarryAll m h block (replicate 16 0)
     (operations m.grain (Put c.args.slot c.args.end (length h) (length block)))) (sym c.as_slice-front.ensures.value)
-    (may_put m c.args.slot c.args.end c.args.held.now.items block (replicate 16 0) q.sized q.part q.ahead q.within q.place)
+    (may_carry_put m c.args.slot c.args.end c.args.held.now.items block (replicate 16 0) q.sized q.part q.ahead q.within q.place)
 
 pub returns-in-Err-clause-writes : goal.returns-in-Err-clause-writes
 returns-in-Err-clause-writes g c = subst

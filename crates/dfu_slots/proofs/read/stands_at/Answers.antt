@@ -1,41 +1,41 @@
 use Rattle.std.proofs.Common.{ℕ, List, ◌≡◌, ◌+◌, ◌-◌, ◌∙◌, length, slice_range, sym, ap, subst, refl, arith}
 use Rattle.std.proofs.lemmas.Bool.{true≢false, eqb-true}
 use Rattle.std.proofs.lemmas.List.{length-take-le}
-use Rattle.dfu_slots.proofs.ReadBack.{ReadBack, cut_is, read_there, back_none, piece_back, piece_missing, back_done}
+use Rattle.dfu_slots.proofs.ReadBack.{ReadBack, cut_list_joins, read_bytes_are_there, nothing_read_back, piece_read_back, bytes_missing_with_piece, all_read_back}
 use Rattle.dfu_slots.proofs.read.stands_at.Given as given
 use Rattle.dfu_slots.proofs.read.stands_at.Goals.{After-are_same}
 use Rattle.dfu_slots.proofs.read.stands_at.Goals as goal
 
--- The bytes that were read are those that follow the bytes that were read back.
+-- The bytes that were read follow those that were read back before.
 there : (g : given.Over) (c : goal.After-are_same g) → let m = (g.M.Medium.state c.args.medium.now).bytes in
     let place = length m - c.loop-rest.ahead in
     slice_range m place (place + length c.split_at.result.0.now) ≡ c.read.new.out
-there g c = read_there (g.M.Medium.state c.args.medium.now).bytes c.split_at.result.0.now
+there g c = read_bytes_are_there (g.M.Medium.state c.args.medium.now).bytes c.split_at.result.0.now
     (ap (λ (n : ℕ). n - c.loop-rest.ahead) c.len-in-loop-rest.ensures)
     (length-take-le c.min-size.result c.loop-rest.buffer (omega (arith, c.min-size.ensures, c.min-size.array_long))
     ∙ sym c.split_at.ensures.front_len) c.read.ensures
 
 pub loop-rest-init : goal.loop-rest-init
 loop-rest-init g c =
-    back_none (g.M.Medium.state c.args.medium.now).bytes c.args.at c.args.bytes.now c.requires.within c.len.result c.len.ensures
+    nothing_read_back (g.M.Medium.state c.args.medium.now).bytes c.args.at c.args.bytes.now c.requires.within c.len.result c.len.ensures
 
 pub loop-rest-preserved : goal.loop-rest-preserved
 loop-rest-preserved g c =
     let m : List ℕ = (g.M.Medium.state c.args.medium.now).bytes in
     subst (λ (n : ℕ). ReadBack m c.args.at c.args.bytes.now (c.loop-rest.ahead - n) c.split_at.result.1.now) c.split_at.ensures.front_len
-    (piece_back c.loop-rest.invariant c.split_at.result.0.now c.split_at.result.1.now
-    (cut_is c.min-size.result c.split_at.ensures.front c.split_at.ensures.back)
+    (piece_read_back c.loop-rest.invariant c.split_at.result.0.now c.split_at.result.1.now
+    (cut_list_joins c.min-size.result c.split_at.ensures.front c.split_at.ensures.back)
     (there g (goal.at.loop-rest-preserved g c).After-are_same ∙ c.are_same.ensures.0 c.if-not-are_same.false))
 
 pub returns-then-not-are_same : goal.returns-then-not-are_same
 returns-then-not-are_same g c = (
   λ t. absurd (true≢false (sym t)),
-  λ all. absurd (piece_missing c.loop-rest.invariant c.split_at.result.0.now c.split_at.result.1.now
-      (cut_is c.min-size.result c.split_at.ensures.front c.split_at.ensures.back)
+  λ all. absurd (bytes_missing_with_piece c.loop-rest.invariant c.split_at.result.0.now c.split_at.result.1.now
+      (cut_list_joins c.min-size.result c.split_at.ensures.front c.split_at.ensures.back)
       (λ s. true≢false (sym (c.are_same.ensures.1 (sym (there g (goal.at.returns-then-not-are_same g c).After-are_same) ∙ s))
       ∙ c.if-not-are_same.true)) all),
 )
 
 pub returns : goal.returns
 returns g c =
-    (λ t. back_done c.loop-rest.invariant (eqb-true _ _ (sym c.is_empty.ensures ∙ c.loop-rest-test.false)), λ all. refl)
+    (λ t. all_read_back c.loop-rest.invariant (eqb-true _ _ (sym c.is_empty.ensures ∙ c.loop-rest-test.false)), λ all. refl)

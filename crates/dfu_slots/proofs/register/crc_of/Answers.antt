@@ -1,7 +1,7 @@
 use Rattle.std.proofs.Common.{take, length, arith}
 use Rattle.std.proofs.lemmas.List.{length-take-le}
 use Rattle.dfu_slots.specs.Image.{slot_of}
-use Rattle.dfu_slots.proofs.Registering.{piece_on, front_done}
+use Rattle.dfu_slots.proofs.Registering.{piece_on, register_of_whole_front}
 use Rattle.dfu_slots.proofs.register.crc_of.Goals as goal
 
 pub loop-at-preserved : goal.loop-at-preserved
@@ -15,4 +15,4 @@ loop-at-preserved g c =
 pub returns : goal.returns
 returns g c =
     let bytes = (slot_of (g.M.Medium.state c.args.medium.now) c.args.slot_at).data_bytes in
-    front_done bytes c.args.len c.loop-at.at c.loop-at.crc c.loop-at-test.false c.loop-at.invariant
+    register_of_whole_front bytes c.args.len c.loop-at.at c.loop-at.crc c.loop-at-test.false c.loop-at.invariant

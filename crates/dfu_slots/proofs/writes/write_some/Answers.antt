@@ -1,11 +1,11 @@
 use Rattle.std.proofs.Common.{◌≡◌, ◌≢◌, ◌==◌, ◌<◌, false, List, [], ◌∷◌, length, sym, ◌∙◌, subst, arith}
 use Rattle.dfu_slots.specs.Units.{Grain, IsMultiple}
 use Rattle.dfu_slots.specs.Medium.{Write, BrokenWrites}
-use Rattle.dfu_slots.specs.Writes.{erases}
+use Rattle.dfu_slots.specs.Writes.{sector_erases}
 use Rattle.dfu_slots.specs.inside.Series.{Series}
-use Rattle.dfu_slots.proofs.Series.{broken_first, series_after, series_one}
-use Rattle.dfu_slots.proofs.SizedOn.{erases_same, some_is}
-use Rattle.dfu_slots.proofs.Ahead.{erases_writable}
+use Rattle.dfu_slots.proofs.Series.{broken_in_first_part, series_after, series_of_one_write}
+use Rattle.dfu_slots.proofs.SizedOn.{erases_keep_size, write_some_with_sectors}
+use Rattle.dfu_slots.proofs.Ahead.{range_writable_after_erases}
 use Rattle.dfu_slots.proofs.writes.write_some.Goals as goal
 
 pub write-requires-in-Ok : goal.write-requires-in-Ok
@@ -15,12 +15,12 @@ write-requires-in-Ok g c =
     let at = c.args.at in
     let n = length c.args.bytes.now in
     let some : 0 < m.grain.sector = omega (arith, c.if-sector-eq0.false, c.sector.ensures) in
-    let same = erases_same m e at n c.requires.sized some c.requires.within c.in-Ok.ensures in
+    let same = erases_keep_size m e at n c.requires.sized some c.requires.within c.in-Ok.ensures in
     record {
       within = omega (arith, c.requires.within, same.size);
       place = subst (λ (w : Grain). IsMultiple w.unit at) (sym same.grain) c.requires.place;
       whole = subst (λ (w : Grain). IsMultiple w.unit n) (sym same.grain) c.requires.whole;
-      blank = erases_writable m e at n c.requires.sized some c.requires.within c.in-Ok.ensures c.requires.ahead;
+      blank = range_writable_after_erases m e at n c.requires.sized some c.requires.within c.in-Ok.ensures c.requires.ahead;
     }
 
 pub returns-in-Err : goal.returns-in-Err
@@ -31,8 +31,9 @@ returns-in-Err g c =
     let bytes = c.args.bytes.now in
     let some : m.grain.sector ≢ 0 = λ e. c.if-sector-eq0.false (c.sector.ensures ∙ e) in
     let filled : (length bytes == 0) ≡ false = sym c.is_empty.ensures ∙ c.if-is_empty.false in
-    subst (λ (ws : List Write). BrokenWrites c.in-Err.fault m ws now) (sym (some_is m.grain.sector at bytes filled some))
-    (broken_first c.in-Err.fault (erases m.grain.sector at (length bytes)) (record { at = at; bytes = bytes } ∷ []) m now c.in-Err.ensures)
+    subst (λ (ws : List Write). BrokenWrites c.in-Err.fault m ws now) (sym (write_some_with_sectors m.grain.sector at bytes filled some))
+    (broken_in_first_part c.in-Err.fault (sector_erases m.grain.sector at (length bytes))
+    (record { at = at; bytes = bytes } ∷ []) m now c.in-Err.ensures)
 
 pub returns-in-Ok : goal.returns-in-Ok
 returns-in-Ok g c =
@@ -43,6 +44,6 @@ returns-in-Ok g c =
     let bytes = c.args.bytes.now in
     let some : m.grain.sector ≢ 0 = λ e. c.if-sector-eq0.false (c.sector.ensures ∙ e) in
     let filled : (length bytes == 0) ≡ false = sym c.is_empty.ensures ∙ c.if-is_empty.false in
-    subst (λ (ws : List Write). Series m ws c.write-in-Ok.result now) (sym (some_is m.grain.sector at bytes filled some))
-    (series_after (erases m.grain.sector at (length bytes)) (record { at = at; bytes = bytes } ∷ []) m mid now c.write-in-Ok.result
-    c.in-Ok.ensures (series_one mid now at bytes c.write-in-Ok.result c.write-in-Ok.ensures.ok c.write-in-Ok.ensures.failed))
+    subst (λ (ws : List Write). Series m ws c.write-in-Ok.result now) (sym (write_some_with_sectors m.grain.sector at bytes filled some))
+    (series_after (sector_erases m.grain.sector at (length bytes)) (record { at = at; bytes = bytes } ∷ []) m mid now c.write-in-Ok.result
+    c.in-Ok.ensures (series_of_one_write mid now at bytes c.write-in-Ok.result c.write-in-Ok.ensures.ok c.write-in-Ok.ensures.failed))

@@ -1,6 +1,6 @@
-use Rattle.dfu_suffix.proofs.StreamLaws.{Seen}
+use Rattle.dfu_suffix.proofs.StreamLaws.{StreamSeen}
 use Rattle.dfu_suffix.proofs.checking.check_with.Given as goal
 
 -- The bytes so far, and what is kept of them.
 abbrev pub invariant-loop-turn : goal.invariant-loop-turn
-invariant-loop-turn g l = Seen (g.R.Read.remaining l.fn.reader) (g.R.Read.remaining l.reader) l.turn l.crc l.count l.window
+invariant-loop-turn g l = StreamSeen (g.R.Read.remaining l.fn.reader) (g.R.Read.remaining l.reader) l.turn l.crc l.count l.window

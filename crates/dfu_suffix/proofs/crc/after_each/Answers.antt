@@ -1,9 +1,10 @@
-use Rattle.dfu_suffix.proofs.Tables.{byte_more, no_bytes}
+use Rattle.dfu_suffix.proofs.Tables.{register_after_next_byte, no_bytes_leave_register}
 use Rattle.dfu_suffix.proofs.crc.after_each.Goals as goal
 
 pub loop-byte-init : goal.loop-byte-init
-loop-byte-init c = no_bytes c.args.start
+loop-byte-init c = no_bytes_leave_register c.args.start
 
 pub loop-byte-preserved : goal.loop-byte-preserved
-loop-byte-preserved c = byte_more c.args.start c.loop-byte.register _ c.args.bytes.now c.loop-byte.byte-index c.loop-byte-test.true
+loop-byte-preserved c = register_after_next_byte c.args.start c.loop-byte.register _ c.args.bytes.now c.loop-byte.byte-index
+    c.loop-byte-test.true
     c.loop-byte.invariant c.after_byte-register.ensures

@@ -3,7 +3,7 @@ use Rattle.std.proofs.lemmas.List.{take-append-drop}
 use Rattle.byteorder.specs.Endian.{little_number}
 use Rattle.dfu_suffix.specs.Register.{after_bits, bits_of}
 use Rattle.dfu_suffix.proofs.Bytes.{AreBytes-drop, AreBytes-take}
-use Rattle.dfu_suffix.proofs.Tables.{Four, eight_step, four}
+use Rattle.dfu_suffix.proofs.Tables.{IsFourByteNumber, eight_bytes_shift_register, four_bytes_make_number}
 use Rattle.dfu_suffix.specs.Laws.{AreBytes}
 use Rattle.dfu_suffix.proofs.crc.after_eight.Goals as goal
 
@@ -14,16 +14,17 @@ returns c =
     let xs = c.split_at.result.0.now in
     let ys = c.split_at.result.1.now in
     let each : AreBytes bytes = λ k. omega (arith, c.type_inv.bytes k) in
-    let p : Four c.read_u32.result xs = record {
+    let p : IsFourByteNumber c.read_u32.result xs = record {
       long = omega arith;
       bytes = subst AreBytes (sym cut.front) (AreBytes-take 4 bytes each);
       number = c.read_u32.ensures;
       small = omega arith;
     } in
-    let q : Four (little_number 4 ys) ys = four ys (omega arith) (subst AreBytes (sym cut.back) (AreBytes-drop bytes 4 each)) in
+    let q : IsFourByteNumber (little_number 4 ys) ys = four_bytes_make_number ys (omega arith) (subst AreBytes (sym cut.back)
+    (AreBytes-drop bytes 4 each)) in
     let joined : xs ++ ys ≡ bytes = (λ i. cut.front i ++ cut.back i) ∙ take-append-drop 4 bytes in
     let second = c.after_32_zeros.ensures in
     let first = c.after_64_zeros.ensures in
     (λ i. bit_xor (second i) (first i))
-    ∙ (eight_step c.args.register c.read_u32.result (little_number 4 ys) xs ys p q
+    ∙ (eight_bytes_shift_register c.args.register c.read_u32.result (little_number 4 ys) xs ys p q
     ∙ ap (λ (ts : List ℕ). after_bits c.args.register (bits_of ts)) joined)

@@ -2,6 +2,6 @@ use Rattle.std.proofs.Common.{◌≡◌}
 use Rattle.dfu_suffix.specs.Register.{shifts}
 use Rattle.dfu_suffix.proofs.findings.before_four.Given as goal
 
--- So many shifts make the register of the number.
+-- The shifts that are left take the number to the register.
 abbrev pub invariant-loop-turn : goal.invariant-loop-turn
 invariant-loop-turn l = shifts l.turn l.number ≡ l.register

@@ -2,7 +2,7 @@ use Rattle.std.proofs.Common.{◌≡◌, List, ℕ, length, refl, take, ap, ◌�
 use Rattle.dfu_suffix.specs.Laws.{AreBytes}
 use Rattle.dfu_suffix.specs.inside.Folding.{register_of_residue}
 use Rattle.dfu_suffix.specs.Register.{after_bits, bits_of}
-use Rattle.dfu_suffix.proofs.FoldRooms.{folds_end, folds_more}
+use Rattle.dfu_suffix.proofs.FoldRooms.{fold_ends_in_front, fold_turn_takes_byte}
 use Rattle.dfu_suffix.proofs.folding.fold.Goals as goal
 
 pub loop-place-init : goal.loop-place-init
@@ -12,12 +12,14 @@ loop-place-init c = record { long = c.told-room; each = c.fits-room; so_far = re
 pub loop-place-preserved : goal.loop-place-preserved
 loop-place-preserved c =
     let each : AreBytes c.args.bytes.now = λ k. omega (arith, c.type_inv.bytes k) in
-    folds_more (register_of_residue (take 1968 c.args.room.now)) c.args.bytes.now c.loop-place.room c.loop-place.place c.loop-place.invariant
+    fold_turn_takes_byte (register_of_residue (take 1968 c.args.room.now)) c.args.bytes.now c.loop-place.room c.loop-place.place
+    c.loop-place.invariant
     each c.loop-place-test.true c.requires
 
 pub returns : goal.returns
 returns c =
     let all : c.loop-place.place ≡ length c.args.bytes.now = omega arith in
     ap (λ (xs : List ℕ). register_of_residue (take 1968 xs)) c.copy_within.ensures.after
-    ∙ folds_end (register_of_residue (take 1968 c.args.room.now)) c.loop-place.place c.args.bytes.now c.loop-place.room c.loop-place.invariant all
+    ∙ fold_ends_in_front (register_of_residue (take 1968 c.args.room.now)) c.loop-place.place c.args.bytes.now c.loop-place.room
+    c.loop-place.invariant all
     c.requires

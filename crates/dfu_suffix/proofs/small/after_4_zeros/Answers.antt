@@ -1,5 +1,5 @@
-use Rattle.dfu_suffix.proofs.SmallTable.{half_step}
+use Rattle.dfu_suffix.proofs.SmallTable.{small_table_shifts_four_bits}
 use Rattle.dfu_suffix.proofs.small.after_4_zeros.Goals as goal
 
 pub returns : goal.returns
-returns c = half_step c.args.number
+returns c = small_table_shifts_four_bits c.args.number

@@ -1,5 +1,5 @@
-use Rattle.dfuse_host.proofs.Takes.{over_in_time, stays_over}
+use Rattle.dfuse_host.proofs.Takes.{session_over_within_actions, over_session_never_changes}
 use Rattle.dfuse_host.proofs.laws.sessions_end.Goals as goal
 
 pub returns : goal.returns
-returns c = record { in_time = over_in_time; stays = stays_over }
+returns c = record { in_time = session_over_within_actions; stays = over_session_never_changes }

@@ -16,6 +16,7 @@
 #![cfg_attr(feature = "device", doc = "| [`slots`] | a store of two slots, which keeps one whole image active | `device` |")]
 #![cfg_attr(feature = "device", doc = "| [`boot`] | a new image on trial, and its copy to where it runs | `device` |")]
 #![cfg_attr(feature = "device", doc = "| [`home`] | two areas: the active image comes to the slot where it runs | `device` |")]
+#![cfg_attr(feature = "device", doc = "| [`places`] | where gates, headers and data lie on unequal sectors | `device` |")]
 #![cfg_attr(feature = "host", doc = "| [`host`] | a machine that says which request comes next: [`host::Session`] | `host` |")]
 #![cfg_attr(feature = "dfuse", doc = "| [`dfuse`] | ST's extension: memories, a session, files | `dfuse` |")]
 #![cfg_attr(feature = "formats", doc = "| [`formats`] | Intel HEX, S-records, UF2 and ELF | `formats` |")]
@@ -50,6 +51,9 @@ pub mod boot;
 
 #[cfg(feature = "device")]
 pub mod home;
+
+#[cfg(feature = "device")]
+pub mod places;
 
 #[cfg(feature = "device")]
 pub mod dfu;

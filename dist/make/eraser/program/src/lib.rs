@@ -10,6 +10,7 @@
 //! | [`pcap`] | captures of usbmon and of USBPcap |
 //! | [`output`] | the lines that are printed |
 //! | [`files`] | files that are checked, made and replaced; lines as JSON objects |
+//! | [`plan`] | a table of parts, and the text of a placement on one |
 //! | [`words`], [`command`] | the words of the command line, and what is done |
 //! | [`callers`] | a bootloader, a flashing tool and two media, each over a trait of its driver: no command uses them |
 #![no_std]
@@ -27,5 +28,6 @@ pub mod files;
 pub mod link;
 pub mod output;
 pub mod pcap;
+pub mod plan;
 pub mod sim;
 pub mod words;

@@ -87,7 +87,7 @@ const fn unit_of(write_size: usize) -> Unit {
 
 /// The sector of flash that is erased by so many bytes.
 const fn sector_of(erase_size: usize) -> u32 {
-    assert!(erase_size > 0 && erase_size <= 131_072, "ERASE_SIZE is 1 to 131072");
+    assert!(erase_size > 0 && erase_size <= 262_144, "ERASE_SIZE is 1 to 262144");
     if erase_size % 256 == 0 {
         return erase_size as u32;
     }

@@ -2,12 +2,12 @@
 
 //! The sizes of a run area, and its blank parts.
 
-use crate::slots::{MAX_SECTOR, PAGE};
+use crate::slots::{MAX_SECTOR, PAGE, flash_byte_at};
 
 /// Bytes that are programmed at a time.
 pub(crate) const PROGRAM: u32 = 256;
 
-/// Returns whether a run area of so many bytes may have sectors of so many.
+/// Returns true if a run area of `len` bytes may have sectors of `sector` bytes.
 pub(crate) fn is_run_area(len: usize, sector: u32) -> bool {
     sector > 0
         && sector % PAGE == 0
@@ -16,7 +16,7 @@ pub(crate) fn is_run_area(len: usize, sector: u32) -> bool {
         && len % sector as usize == 0
 }
 
-/// Returns whether the bytes from one place to before another are all FFh.
+/// Returns true if the bytes of `run` from `from` to before `to` are all FFh.
 ///
 /// # What the caller must keep to
 ///
@@ -27,7 +27,7 @@ pub fn are_blank(run: &[u8], from: u32, to: u32) -> bool {
     debug_assert!(to as usize <= run.len());
     let mut at = from;
     while at < to {
-        if run[at as usize] != 0xff {
+        if flash_byte_at(run, at as usize) != 0xff {
             return false;
         }
         at += 1;

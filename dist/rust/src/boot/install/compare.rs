@@ -2,16 +2,23 @@
 
 //! Places at which a run area differs from an image.
 
+use crate::slots::flash_byte_at;
+
+// Returns whether a byte of the run area is the image's.
+fn is_same(image: &[u8], run: &[u8], at: usize) -> bool {
+    flash_byte_at(run, at) == flash_byte_at(image, at)
+}
+
 // Returns whether the four bytes from there on are the same.
 fn are_four_same(image: &[u8], run: &[u8], at: u32) -> bool {
     let at = at as usize;
-    run[at] == image[at]
-        && run[at + 1] == image[at + 1]
-        && run[at + 2] == image[at + 2]
-        && run[at + 3] == image[at + 3]
+    is_same(image, run, at)
+        && is_same(image, run, at + 1)
+        && is_same(image, run, at + 2)
+        && is_same(image, run, at + 3)
 }
 
-/// The first byte that differs, from one place to before another.
+/// Returns the index of the first byte in which `image` and `run` differ, from `from` to before `to`; None if there is none.
 pub(crate) fn first_difference(image: &[u8], run: &[u8], from: u32, to: u32) -> Option<u32> {
     let mut at = from;
     // (four at a time take half as many instructions)
@@ -19,7 +26,7 @@ pub(crate) fn first_difference(image: &[u8], run: &[u8], from: u32, to: u32) -> 
         at += 4;
     }
     while at < to {
-        if run[at as usize] != image[at as usize] {
+        if !is_same(image, run, at as usize) {
             return Some(at);
         }
         at += 1;
@@ -27,7 +34,8 @@ pub(crate) fn first_difference(image: &[u8], run: &[u8], from: u32, to: u32) -> 
     None
 }
 
-/// The first byte of the image that differs from that place on; if there is none, the first one from the front.
+/// Returns the index of the first byte of `image` from `from` on that differs in `run`; if there is none, that of the first one from the
+/// front; None if the whole image is there.
 pub(crate) fn next_difference(image: &[u8], run: &[u8], from: u32) -> Option<u32> {
     match first_difference(image, run, from, image.len() as u32) {
         Some(at) => Some(at),

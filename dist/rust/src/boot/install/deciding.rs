@@ -1,6 +1,6 @@
 // Of crates/dfu_boot/src/install/deciding.rt, whose contracts are taken away.
 
-//! Operation that is due next.
+//! The choice of the operation that is due next.
 
 use crate::boot::install::area::{PROGRAM, are_blank, is_run_area};
 use crate::boot::install::compare::next_difference;

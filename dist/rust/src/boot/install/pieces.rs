@@ -2,10 +2,12 @@
 
 //! The bytes that are programmed.
 
-// Makes `out` these bytes, and FFh after them.
+use crate::slots::read_flash;
+
+// Makes `out` these bytes of flash, and FFh after them.
 fn fill_up(bytes: &[u8], out: &mut [u8; 256]) {
     *out = [0xff; 256];
-    out[..bytes.len()].copy_from_slice(bytes);
+    read_flash(bytes, &mut out[..bytes.len()]);
 }
 
 /// Makes `out` the 256 bytes that are programmed from that offset on: those of the image, and FFh after its end.

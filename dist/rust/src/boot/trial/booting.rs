@@ -1,6 +1,6 @@
 // Of crates/dfu_boot/src/trial/booting.rt, whose contracts are taken away.
 
-//! A start that is carried out.
+//! A start that is carried out on a medium.
 
 use crate::boot::trial::look;
 use crate::slots::{Medium, OpenFault};

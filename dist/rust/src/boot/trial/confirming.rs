@@ -11,7 +11,7 @@ use crate::slots::{Medium, data_at};
 pub enum Confirmation {
     /// By this operation.
     By(Operation),
-    /// It is confirmed.
+    /// The image is confirmed.
     Confirmed,
     /// No image that may run begins there.
     Elsewhere,

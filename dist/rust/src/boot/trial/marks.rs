@@ -4,12 +4,12 @@
 
 use crate::slots::{Medium, gate_of};
 
-/// Returns the bytes of a mark: a unit, and 16 at least.
+/// Returns the number of bytes of a mark: a unit, and 16 at least.
 pub(crate) fn mark_size<M: Medium>(medium: &M) -> u32 {
     medium.unit().size().max(16)
 }
 
-/// Returns the place of that mark, of the slot that begins there.
+/// Returns the place of mark number `i` of the slot that begins at `at`.
 pub(crate) fn mark_at<M: Medium>(medium: &M, at: u32, i: u32) -> u32 {
     let _len = medium.len();
     let size = mark_size(medium);
@@ -21,7 +21,7 @@ fn is_blank(bytes: &[u8]) -> bool {
     bytes.iter().all(|byte| *byte == 0xff)
 }
 
-/// Returns whether one of so many bytes from there on, at most 256, is not FFh.
+/// Returns true if one of the `len` bytes from `at` on, at most 256, is not FFh.
 pub(crate) fn is_marked<M: Medium>(medium: &M, at: u32, len: u32) -> bool {
     let mut buffer = [0; 256];
     let bytes = &mut buffer[..len as usize];
@@ -29,12 +29,12 @@ pub(crate) fn is_marked<M: Medium>(medium: &M, at: u32, len: u32) -> bool {
     !is_blank(bytes)
 }
 
-/// Returns whether that mark is set, of the slot that begins there.
+/// Returns true if mark number `i` of the slot that begins at `at` is set.
 pub(crate) fn is_set<M: Medium>(medium: &M, at: u32, i: u32) -> bool {
     is_marked(medium, mark_at(medium, at, i), mark_size(medium))
 }
 
-/// Counts the recorded starts of the image in the slot that begins there.
+/// Returns the number of recorded starts of the image in the slot that begins at `at`.
 pub(crate) fn starts<M: Medium>(medium: &M, tries: u32, at: u32) -> u32 {
     let mut done = 0;
     while done < tries {

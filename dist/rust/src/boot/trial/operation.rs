@@ -4,21 +4,22 @@
 
 use crate::slots::{Failed, Medium};
 
-/// One operation on the medium, which the caller carries out. Whatever becomes of it, only the bytes of its range may change.
+/// One operation on the medium, which the caller must carry out. Whatever becomes of the operation, only the bytes of its range may
+/// change.
 #[derive(Clone, Copy, Debug, PartialEq, Eq)]
 pub enum Operation {
-    /// So many zeros, at most 256, are programmed from there on: a mark, all of whose bytes are FFh. Place, and length.
+    /// A program of zeros, at most 256, over a mark, all of whose bytes are FFh: the place of the first byte, and the number of bytes.
     Mark(u32, u32),
     /// The sector that begins there is erased: a gate is closed.
     Close(u32),
 }
 
 impl Operation {
-    /// Carries it out on a medium. Nothing is read back: the next look at the medium shows what became of it.
+    /// Performs the operation on `medium`. Nothing is read back: the next look at the medium shows what became of the operation.
     ///
     /// # Errors
     ///
-    /// The medium answered that it failed.
+    /// Failed if the medium answered that it failed.
     ///
     /// # What the caller must keep to
     ///

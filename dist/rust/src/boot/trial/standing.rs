@@ -7,7 +7,7 @@
 pub struct Settled {
     /// Place at which the slot of the active image begins.
     pub slot: u32,
-    /// Tells whether that image is confirmed.
+    /// True if that image is confirmed.
     pub is_confirmed: bool,
 }
 

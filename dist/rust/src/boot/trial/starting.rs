@@ -1,6 +1,6 @@
 // Of crates/dfu_boot/src/trial/starting.rt, whose contracts are taken away.
 
-//! What starts.
+//! The image that starts: the choice at a power-on, and the operation that must come before it.
 
 use crate::boot::trial::marks::{is_marked, mark_at, mark_size};
 use crate::boot::trial::{Operation, Standing};

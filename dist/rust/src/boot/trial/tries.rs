@@ -6,7 +6,7 @@ use crate::boot::trial::marks::mark_size;
 use crate::slots::Medium;
 use thiserror::Error;
 
-/// Faults for which so many tries are refused. They are looked for in this order.
+/// A fault for which a number of tries is refused. The faults are checked in this order.
 #[derive(Clone, Copy, Debug, PartialEq, Eq, Error)]
 pub enum TriesFault {
     /// The medium has no sectors, so no marks are erased with a header.
@@ -20,7 +20,7 @@ pub enum TriesFault {
     TooMany,
 }
 
-/// Refuses tries that an image of this medium can't have: it has 2 or more, whose marks fit in a sector.
+/// Refuses a number of `tries` that an image of `medium` can't have: an image has 2 or more, whose marks fit in a sector.
 ///
 /// # Errors
 ///

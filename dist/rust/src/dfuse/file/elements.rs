@@ -1,6 +1,6 @@
 // Of crates/dfu_formats/src/dfuse/elements.rt, whose contracts are taken away.
 
-//! Elements, one after the other.
+//! Elements of a target, one after the other.
 
 use crate::dfuse::file::element::Element;
 use crate::dfuse::file::fault::FileFault;
@@ -13,7 +13,7 @@ struct Split<'f> {
     rest: &'f [u8],
 }
 
-/// Takes an element off the front.
+/// Takes an element off the front of `bytes`. Returns the element and the bytes after it.
 fn take_element(bytes: &[u8]) -> Result<Split<'_>, FileFault> {
     if bytes.len() < 8 {
         return Err(FileFault::ElementPastTheTarget);
@@ -40,12 +40,16 @@ fn take_element(bytes: &[u8]) -> Result<Split<'_>, FileFault> {
     })
 }
 
-/// Checks that no bytes are left; this fault if some are.
+/// Checks that `rest` has no bytes.
+///
+/// # Errors
+///
+/// `fault` if it has some.
 pub(crate) fn check_end(rest: &[u8], fault: FileFault) -> Result<(), FileFault> {
     if rest.is_empty() { Ok(()) } else { Err(fault) }
 }
 
-/// Checks that the bytes are so many elements, and nothing else.
+/// Checks that the bytes are `count` elements, and nothing else.
 pub(crate) fn check_elements(count: u32, bytes: &[u8]) -> Result<(), FileFault> {
     let mut rest = bytes;
     for _ in 0..count {
@@ -65,7 +69,7 @@ pub struct Elements<'f> {
 }
 
 impl<'f> Elements<'f> {
-    /// The elements that were checked.
+    /// Returns the `left` elements at the front of `rest`, which must have been checked.
     pub(crate) fn new(left: u32, rest: &'f [u8]) -> Elements<'f> {
         Elements { left, rest }
     }
@@ -75,7 +79,7 @@ impl<'f> Elements<'f> {
         self.left
     }
 
-    /// Takes the first element off. Without one it changes nothing.
+    /// Takes the first element off. If no element is left, nothing changes.
     pub fn next_element(&mut self) -> Option<Element<'f>> {
         if self.left == 0 {
             return None;

@@ -1,12 +1,12 @@
 // Of crates/dfu_formats/src/dfuse/fault.rt, whose contracts are taken away.
 
-//! Why a file is refused.
+//! Faults for which a DfuSe file is refused.
 
 use core::fmt;
 use thiserror::Error;
 
-/// Why bytes aren't a DfuSe file: the first of these that holds. Up to BadCrc the suffix is looked at, from the end of the file; then the
-/// rest from its front, target by target.
+/// A fault of bytes that aren't a DfuSe file: the first of these that holds. Up to BadCrc the suffix is looked at, from the end of the
+/// file; then the other bytes from their front, target by target.
 #[derive(Clone, Copy, Debug, PartialEq, Eq, Error)]
 pub enum FileFault {
     /// The file has over 16,777,216 bytes.
@@ -39,7 +39,7 @@ pub enum FileFault {
     EmptyElement,
     /// An element ends past address FFFFFFFFh.
     AddressPastTheEnd,
-    /// There are more bytes after the last target.
+    /// Bytes follow the last target.
     Trailing,
 }
 

@@ -17,7 +17,11 @@ pub struct File<'f> {
     targets: &'f [u8],
 }
 
-/// The file with this body, and these identifiers in its suffix.
+/// Reads the file of `whole` bytes with body `bytes`, and with `ids` in its suffix.
+///
+/// # Errors
+///
+/// The first fault of the body, as `read` has them.
 fn read_body(ids: Ids, whole: usize, bytes: &[u8]) -> Result<File<'_>, FileFault> {
     if bytes.len() < 11 {
         return Err(FileFault::NoPrefix);
@@ -47,7 +51,11 @@ fn read_body(ids: Ids, whole: usize, bytes: &[u8]) -> Result<File<'_>, FileFault
     }
 }
 
-/// Reads the fields of the bytes, or returns their first fault.
+/// Reads the fields of `bytes`.
+///
+/// # Errors
+///
+/// Their first fault.
 fn read_file(bytes: &[u8]) -> Result<File<'_>, FileFault> {
     match read_suffix(bytes) {
         Ok(suffixed) => read_body(suffixed.ids, bytes.len(), suffixed.payload),
@@ -55,8 +63,8 @@ fn read_file(bytes: &[u8]) -> Result<File<'_>, FileFault> {
     }
 }
 
-/// Reads a DfuSe file. The size in its prefix may count the suffix, as dfu-util's tools have it, or not, as ST's. A file with a wrong
-/// dwCRC is refused for that, whatever else is in it.
+/// Reads a DfuSe file. The size in its prefix may count the suffix, as dfu-util's tools have it, or not, as ST's. A file with a wrong dwCRC
+/// is refused for the CRC, whatever else is wrong.
 ///
 /// # Errors
 ///
@@ -66,17 +74,17 @@ pub fn read(bytes: &[u8]) -> Result<File<'_>, FileFault> {
 }
 
 impl<'f> File<'f> {
-    /// The device that the file is for.
+    /// Returns the identifiers of the device that the file is for.
     pub fn ids(&self) -> Ids {
         self.ids
     }
 
-    /// The targets, in the order of the file.
+    /// Returns the targets, in the order of the file.
     pub fn targets(&self) -> Targets<'f> {
         Targets::new(self.count, self.targets)
     }
 
-    /// The alternate setting that all targets are for, if it is the same.
+    /// Returns the alternate setting that all targets are for; None if they are for different ones, or there are none.
     pub fn setting(&self) -> Option<u8> {
         let mut targets = self.targets();
         let first = match targets.next_target() {

@@ -6,7 +6,7 @@ use crate::dfuse::file::fault::FileFault;
 use crate::dfuse::file::marks::is_target;
 use crate::dfuse::file::numbers::number_at;
 
-/// Fields of a target before its elements, the bytes of these, and the bytes after the target.
+/// Fields of a target before its elements, the bytes of the elements, and the bytes after the target.
 #[derive(Debug, PartialEq, Eq)]
 pub(crate) struct Heading<'f> {
     pub setting: u8,
@@ -17,7 +17,7 @@ pub(crate) struct Heading<'f> {
     pub rest: &'f [u8],
 }
 
-/// Takes the 274 bytes at the front of a target.
+/// Takes the 274 bytes at the front of a target off the front of `bytes`.
 pub(crate) fn take_heading(bytes: &[u8]) -> Result<Heading<'_>, FileFault> {
     if bytes.len() < 274 {
         return Err(FileFault::NoTarget);

@@ -8,7 +8,7 @@ use crate::dfuse::file::listing::put;
 use core::fmt;
 use thiserror::Error;
 
-/// Faults for which a file has no image for a setting: the first of these that holds.
+/// A fault for which a file has no image for a setting: the first of these that holds.
 #[derive(Clone, Copy, Debug, PartialEq, Eq, Error)]
 pub enum ImageFault {
     /// No target is for this alternate setting.
@@ -29,19 +29,19 @@ impl fmt::Display for ImageFault {
     }
 }
 
-/// Sorts elements by their addresses.
+/// Sorts `elements` by their addresses.
 fn sort_all(elements: &mut [Element<'_>]) {
     elements.sort_unstable_by_key(|element| element.address);
 }
 
-/// Sorts the first `count` elements by their addresses.
+/// Sorts the first `count` elements of `room` by their addresses.
 fn sort(count: usize, room: &mut [Element<'_>]) {
     sort_all(&mut room[..count]);
 }
 
 impl<'f> File<'f> {
-    /// Puts the elements of all targets of an alternate setting into the front of `room`, in the order of the file. It answers how many
-    /// there are. A session wants them by their addresses.
+    /// Puts the elements of all targets of an alternate setting into the front of `room`, in the order of the file, and returns their
+    /// number. A session wants elements by their addresses.
     ///
     /// # Errors
     ///
@@ -65,11 +65,12 @@ impl<'f> File<'f> {
         Ok(count)
     }
 
-    /// Lists the elements by their addresses. It does not look whether they overlap: a session refuses that.
+    /// Writes the elements of alternate setting `setting` to the front of `room`, by their addresses. Returns their number. Elements that
+    /// overlap are listed too, because a session refuses them.
     ///
     /// # Errors
     ///
-    /// NoSuchSetting, or TooManyElements if `room` has fewer places.
+    /// NoSuchSetting, or TooManyElements if `room` has fewer places than there are elements.
     pub fn image(&self, setting: u8, room: &mut [Element<'f>]) -> Result<usize, ImageFault> {
         let count = match self.listed(setting, room) {
             Ok(count) => count,

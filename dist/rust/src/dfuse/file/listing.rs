@@ -5,7 +5,7 @@
 use crate::dfuse::file::element::Element;
 use crate::dfuse::file::elements::Elements;
 
-/// Puts elements into `room` after the first `from`, and answers how many there are then, or None if they don't fit.
+/// Puts elements into `room` after the first `from`, and returns how many elements it has then, or None if they don't fit.
 pub(crate) fn put<'f>(
     elements: Elements<'f>,
     from: usize,
@@ -23,8 +23,8 @@ pub(crate) fn put<'f>(
     Some(count)
 }
 
-/// Puts elements that a reader of `formats` gave into the front of `room`, in their order: how many they are, or None if they don't fit.
-/// Elements of one file are by their addresses, as a session wants them.
+/// Puts elements that a reader of `formats` gave into the front of `room`, in their order, and returns their number, or None if
+/// they don't fit. Elements of one file are by their addresses, as a session wants them.
 #[cfg(feature = "formats")]
 pub fn list<'p>(pieces: &'p [crate::formats::Element], room: &mut [Element<'p>]) -> Option<usize> {
     if pieces.len() > room.len() {

@@ -2,7 +2,7 @@
 
 //! Numbers in bytes.
 
-/// The number in the four bytes from a place on, the low one first.
+/// Returns the number in the four bytes of `bytes` from index `place` on, the low byte first.
 pub(crate) fn number_at(place: usize, bytes: &[u8]) -> u32 {
     let (_, behind) = bytes.split_at(place);
     let (field, _) = behind.split_at(4);

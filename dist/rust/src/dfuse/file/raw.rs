@@ -8,20 +8,20 @@ use crate::suffix::SuffixFault;
 use core::fmt;
 use thiserror::Error;
 
-/// Faults for which a file can't be written to an address: the first of these that holds.
+/// A fault for which a file can't be written to an address: the first of these that holds.
 #[derive(Clone, Copy, Debug, PartialEq, Eq, Error)]
 pub enum RawFault {
     /// The file has over 16,777,216 bytes.
     TooLarge,
-    /// It has a signature, and bLength is under 16 or over the file's length.
+    /// The file has a signature, and bLength is under 16 or over the file's length.
     BadLength,
-    /// It has a signature and isn't a DfuSe file, and dwCRC isn't the register over the bytes before it.
+    /// The file has a signature and isn't a DfuSe file, and dwCRC isn't the register over the bytes before it.
     BadCrc,
     /// bcdDFU is 011Ah, or the file begins with the letters DfuSe.
     HasAddresses,
-    /// There are no bytes before the suffix, if there is one.
+    /// The file is empty, or empty before its suffix.
     Empty,
-    /// The last byte would have an address past FFFFFFFFh.
+    /// The last byte would get an address past FFFFFFFFh.
     AddressPastTheEnd,
 }
 
@@ -41,7 +41,7 @@ impl fmt::Display for RawFault {
     }
 }
 
-/// Returns the refusal of a file with this fault, if it is refused.
+/// Returns the refusal of a file in which suffix finds `fault`; None if the file is not refused.
 fn refusal(fault: SuffixFault) -> Option<RawFault> {
     match fault {
         SuffixFault::TooLarge => Some(RawFault::TooLarge),
@@ -52,7 +52,7 @@ fn refusal(fault: SuffixFault) -> Option<RawFault> {
     }
 }
 
-/// Returns the bytes before a suffix; a file without one has nothing else.
+/// Returns the bytes of a file before a suffix, or all of `bytes` if the file has none.
 fn payload_of(bytes: &[u8]) -> Result<&[u8], RawFault> {
     match crate::suffix::read(bytes) {
         Ok(file) => Ok(file.payload()),
@@ -63,12 +63,12 @@ fn payload_of(bytes: &[u8]) -> Result<&[u8], RawFault> {
     }
 }
 
-/// Returns whether a file begins with the letters DfuSe.
+/// Returns true if `bytes` begin with the letters DfuSe.
 fn has_prefix(bytes: &[u8]) -> bool {
     bytes.len() >= 5 && is_prefixed(bytes)
 }
 
-/// An element of bytes at an address.
+/// Returns the element of `bytes` at `address`.
 fn placed_at(address: u32, bytes: &[u8]) -> Result<Element<'_>, RawFault> {
     if has_prefix(bytes) {
         return Err(RawFault::HasAddresses);
@@ -82,8 +82,8 @@ fn placed_at(address: u32, bytes: &[u8]) -> Result<Element<'_>, RawFault> {
     Ok(Element { address, bytes })
 }
 
-/// Reads a file without addresses, which goes to this one. Its suffix (USB DFU 1.1, appendix B), if it has one, is left out. A file
-/// with a damaged suffix, or that begins as a DfuSe file, is refused: it would be written whole.
+/// Reads a file without addresses as an element at `address`. Its suffix (USB DFU 1.1, appendix B), if it has one, is left out. A file with
+/// a damaged suffix, or that begins as a DfuSe file, is refused, because its suffix or its prefix would be written too.
 ///
 /// # Errors
 ///

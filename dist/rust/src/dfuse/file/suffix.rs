@@ -14,19 +14,19 @@ pub(crate) struct Suffixed<'f> {
     pub ids: Ids,
 }
 
-/// The last 16 bytes.
+/// Returns the last 16 bytes of `bytes`.
 fn tail(bytes: &[u8]) -> &[u8] {
     let (_, tail) = bytes.split_at(bytes.len() - 16);
     tail
 }
 
-/// The number in two of the last 16 bytes.
+/// Returns the number in the two bytes of `tail` from index `place` on, the low byte first.
 fn field(place: usize, tail: &[u8]) -> u16 {
     let (_, field) = tail.split_at(place);
     LittleEndian::read_u16(field)
 }
 
-/// Returns whether dwCRC isn't the register over the bytes before it.
+/// Returns true if the dwCRC of `bytes` isn't the register over the bytes before it.
 fn has_bad_crc(bytes: &[u8]) -> bool {
     let (before, _) = bytes.split_at(bytes.len() - 4);
     let (_, crc) = tail(bytes).split_at(12);
@@ -49,7 +49,7 @@ fn suffixed_by(bytes: &[u8]) -> Suffixed<'_> {
     }
 }
 
-/// Returns whether this is the fault that a DfuSe file has.
+/// Returns true if `fault` is the one that a DfuSe file has.
 fn is_dfuse(fault: SuffixFault) -> bool {
     match fault {
         SuffixFault::DfuSe => true,
@@ -57,7 +57,7 @@ fn is_dfuse(fault: SuffixFault) -> bool {
     }
 }
 
-/// Returns the fault for which a file with another fault is not a DfuSe file.
+/// Returns the refusal of a file with a fault other than `DfuSe`.
 fn refusal(fault: SuffixFault) -> FileFault {
     match fault {
         SuffixFault::TooLarge => FileFault::TooLarge,
@@ -77,7 +77,7 @@ fn read_signed(bytes: &[u8]) -> Result<Suffixed<'_>, FileFault> {
     }
 }
 
-/// Reads the suffix, by the small table: a file is read once, and a library for C has no large ones.
+/// Reads the suffix, by the small table, because a file is read once, and a library for C has no large tables.
 pub(crate) fn read_suffix(bytes: &[u8]) -> Result<Suffixed<'_>, FileFault> {
     let fault = match crate::suffix::read_small(bytes) {
         Ok(_) => return Err(FileFault::NotDfuSe),

@@ -1,6 +1,6 @@
 // Of crates/dfu_formats/src/dfuse/targets.rt, whose contracts are taken away.
 
-//! Targets, one after the other.
+//! Targets of a file, one after the other.
 
 use crate::dfuse::file::elements::{Elements, check_elements, check_end};
 use crate::dfuse::file::fault::FileFault;
@@ -11,15 +11,15 @@ use crate::dfuse::file::headings::take_heading;
 pub struct Target<'f> {
     /// The alternate setting.
     pub setting: u8,
-    /// Tells whether the target has a name: 0 if it has none.
+    /// 0 if the target has no name; any other number if it has one.
     pub named: u32,
     /// The 255 bytes for its name, which ends at the first 0.
     pub name: &'f [u8],
-    /// Its elements.
+    /// Elements of the target.
     pub elements: Elements<'f>,
 }
 
-/// Checks that the bytes are so many targets, each with as many elements as it says, and nothing else.
+/// Checks that the bytes are `count` targets, each with as many elements as it says, and nothing else.
 pub(crate) fn check_targets(count: u8, bytes: &[u8]) -> Result<(), FileFault> {
     let mut rest = bytes;
     for _ in 0..count {
@@ -42,7 +42,7 @@ pub struct Targets<'f> {
 }
 
 impl<'f> Targets<'f> {
-    /// The targets that were checked.
+    /// Returns the `left` targets at the front of `rest`, which must have been checked.
     pub(crate) fn new(left: u8, rest: &'f [u8]) -> Targets<'f> {
         Targets { left, rest }
     }
@@ -52,7 +52,7 @@ impl<'f> Targets<'f> {
         self.left
     }
 
-    /// Takes the first target off. Without one it changes nothing.
+    /// Takes the first target off. If no target is left, nothing changes.
     #[inline(always)]
     pub fn next_target(&mut self) -> Option<Target<'f>> {
         if self.left == 0 {

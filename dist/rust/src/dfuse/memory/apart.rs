@@ -5,12 +5,12 @@
 use crate::dfuse::memory::pages::Pages;
 use crate::dfuse::memory::ranges::end_of;
 
-/// Returns whether two ranges share no address.
+/// Returns true if `one` and `other` share no address.
 fn is_apart(one: &Pages, other: &Pages) -> bool {
     end_of(one) <= other.start as u64 || end_of(other) <= one.start as u64
 }
 
-/// Returns whether a range shares no address with any of these.
+/// Returns true if `one` shares no address with any of `others`.
 fn is_apart_from(one: &Pages, others: &[Pages]) -> bool {
     for other in others {
         if !is_apart(one, other) {
@@ -20,7 +20,7 @@ fn is_apart_from(one: &Pages, others: &[Pages]) -> bool {
     true
 }
 
-/// Returns whether no two ranges share an address.
+/// Returns true if no two of `ranges` share an address.
 pub(crate) fn are_apart(ranges: &[Pages]) -> bool {
     let mut count = 0;
     for one in ranges {

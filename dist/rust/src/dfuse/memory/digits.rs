@@ -4,7 +4,7 @@
 
 use crate::dfuse::memory::text::Number;
 
-/// The value of a digit, or 16.
+/// Returns the value of hexadecimal digit `byte`, of either case, or 16 if `byte` is not one.
 fn digit_value(byte: u8) -> u64 {
     match byte {
         b'0'..=b'9' => (byte - b'0') as u64,
@@ -14,7 +14,7 @@ fn digit_value(byte: u8) -> u64 {
     }
 }
 
-/// Counts the digits in this base at the front.
+/// Returns the number of digits of base `base` at the front of `text`.
 fn digits_in(base: u64, text: &[u8]) -> usize {
     let mut count: usize = 0;
     for byte in text {
@@ -26,7 +26,7 @@ fn digits_in(base: u64, text: &[u8]) -> usize {
     count
 }
 
-/// The number that up to eight digits in this base say.
+/// Returns the number that `digits`, at most eight, make in base `base`.
 fn said(base: u64, digits: &[u8]) -> u64 {
     let mut value: u64 = 0;
     for byte in digits {
@@ -35,7 +35,7 @@ fn said(base: u64, digits: &[u8]) -> u64 {
     value
 }
 
-/// The number at the front, in this base and in at most so many digits. All digits there belong to it.
+/// Takes the number at the front, in the base and in at most `most` digits. All digits at the front belong to it.
 pub(crate) fn take_number(base: u64, most: usize, text: &[u8]) -> Option<Number<'_>> {
     let count = digits_in(base, text);
     if count == 0 || count > most {

@@ -5,25 +5,25 @@
 use core::fmt;
 use thiserror::Error;
 
-/// Faults of a string that isn't a memory map. It is read from the front, and the first fault met is the answer; Overlaps is looked for
-/// once all is read.
+/// Faults of a string that isn't a memory map. The string is read from the front, and the first fault that is met is the answer; Overlaps
+/// is looked for once all is read.
 #[derive(Clone, Copy, Debug, PartialEq, Eq, Error)]
 pub enum MapFault {
-    /// It doesn't begin with `@`, or has no `/` after the name.
+    /// The string doesn't begin with `@`, or has no `/` after the name.
     NoMap,
-    /// After `/` there isn't an address of one to eight hexadecimal digits, with or without `0x`, and another `/`.
+    /// Behind `/` stands no address of one to eight hexadecimal digits, with or without `0x`, and another `/`.
     BadAddress,
-    /// There isn't a count of one to five digits, from 1 on, and a `*`.
+    /// A range lacks a count of one to five digits, from 1 on, and a `*`.
     BadCount,
-    /// There isn't a size of one to five digits, from 1 on.
+    /// A range lacks a size of one to five digits, from 1 on.
     BadSize,
-    /// After the size, and a unit, there isn't a letter from `a` to `g`.
+    /// Behind the size and its unit stands no letter from `a` to `g`.
     BadType,
-    /// The pages end past address FFFFFFFFh.
+    /// The pages of a range end past address FFFFFFFFh.
     PastTheEnd,
-    /// There are over 32 ranges.
+    /// The map has over 32 ranges.
     TooManyRanges,
-    /// After a range there is neither the end, nor `,` nor `/`.
+    /// Behind a range stands neither the end, nor `,`, nor `/`.
     Trailing,
     /// Two ranges share an address.
     Overlaps,

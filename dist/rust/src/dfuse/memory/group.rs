@@ -1,6 +1,6 @@
 // Of crates/dfu_formats/src/memory/group.rt, whose contracts are taken away.
 
-//! A range, as the string has it: a count, a size with its unit, and a letter.
+//! A range, as the string spells it: a count, a size with its unit, and a letter.
 
 use crate::dfuse::memory::digits::take_number;
 use crate::dfuse::memory::fault::MapFault;
@@ -22,7 +22,7 @@ pub(crate) struct Group<'t> {
     pub rest: &'t [u8],
 }
 
-/// Returns the bytes of a unit, or 0.
+/// Returns the number of bytes of the unit that letter `byte` says, or 0 if it says none.
 fn unit_of(byte: u8) -> u64 {
     match byte {
         b'K' => 1024,
@@ -32,7 +32,7 @@ fn unit_of(byte: u8) -> u64 {
     }
 }
 
-/// A size in the unit at the front; in bytes, if there is no unit.
+/// Takes the unit at the front of `text`. Returns `value` in that unit as a number of bytes; `value` itself if there is no unit.
 fn take_unit(value: u64, text: &[u8]) -> Number<'_> {
     match front(text) {
         Some((byte, rest)) if unit_of(byte) != 0 => Number {
@@ -65,7 +65,7 @@ fn take_size(text: &[u8]) -> Result<Number<'_>, MapFault> {
     }
 }
 
-/// Returns the access that the bits of a letter say, from `a`, which has only the lowest bit.
+/// Returns the access that the bits of a letter say: `a` has only the lowest bit.
 fn access_of(letter: u8) -> Access {
     let bits = letter - b'a' + 1;
     Access {
@@ -75,7 +75,7 @@ fn access_of(letter: u8) -> Access {
     }
 }
 
-/// Takes the letter that says what may be done with the pages.
+/// Takes the letter that says the access to the pages.
 fn take_access(text: &[u8]) -> Result<Allowed<'_>, MapFault> {
     match front(text) {
         Some((letter, rest)) if letter >= b'a' && letter <= b'g' => Ok(Allowed {
@@ -86,7 +86,7 @@ fn take_access(text: &[u8]) -> Result<Allowed<'_>, MapFault> {
     }
 }
 
-/// Takes a range that begins at this address.
+/// Takes a range that begins at `start`.
 pub(crate) fn take_group(start: u64, text: &[u8]) -> Result<Group<'_>, MapFault> {
     let count = match take_count(text) {
         Ok(count) => count,

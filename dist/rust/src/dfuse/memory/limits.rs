@@ -1,9 +1,9 @@
 // Of crates/dfu_formats/src/memory/limits.rt, whose contracts are taken away.
 
-//! Limits.
+//! Limits of a memory map.
 
 /// The number of addresses.
 pub(crate) const ADDRESSES: u64 = 0x1_0000_0000;
 
-/// The most ranges that a map has.
+/// Largest number of ranges of a map.
 pub(crate) const MOST_RANGES: usize = 32;

@@ -19,7 +19,11 @@ pub struct Map<'t> {
     ranges: ArrayVec<Pages, MOST_RANGES>,
 }
 
-/// Reads the map of a string, or returns its first fault.
+/// Reads the map of string `text`.
+///
+/// # Errors
+///
+/// Its first fault.
 fn read_map(text: &[u8]) -> Result<Map<'_>, MapFault> {
     let named = match take_name(text) {
         Ok(named) => named,
@@ -43,7 +47,7 @@ fn read_map(text: &[u8]) -> Result<Map<'_>, MapFault> {
 }
 
 impl<'t> Map<'t> {
-    /// Reads the string of an alternate setting.
+    /// Reads `text`, the string of an alternate setting.
     ///
     /// # Errors
     ///
@@ -52,27 +56,27 @@ impl<'t> Map<'t> {
         read_map(text)
     }
 
-    /// The name of the memory.
+    /// Returns the name of the memory.
     pub fn name(&self) -> &'t [u8] {
         self.name
     }
 
-    /// The ranges, in the order of the string.
+    /// Returns the ranges, at most 32, in the order of the string.
     pub fn ranges(&self) -> &[Pages] {
         &self.ranges
     }
 
-    /// The range that has this address.
+    /// Returns the range that has `address`; None if none has.
     pub fn range_at(&self, address: u32) -> Option<Pages> {
         lookups::range_at(address as u64, &self.ranges)
     }
 
-    /// The page that has this address.
+    /// Returns the page that has `address`; None if none has.
     pub fn page_at(&self, address: u32) -> Option<Page> {
         lookups::page_at(address as u64, &self.ranges)
     }
 
-    /// Returns whether each address from the first up to before the second lies in a range that grants what is wanted.
+    /// Returns true if each address from `start` to before `end` lies in a range that grants `wanted`.
     pub fn grants(&self, wanted: Access, start: u64, end: u64) -> bool {
         lookups::all_granted(wanted, start, end, &self.ranges)
     }

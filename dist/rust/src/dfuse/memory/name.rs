@@ -1,6 +1,6 @@
 // Of crates/dfu_formats/src/memory/name.rt, whose contracts are taken away.
 
-//! The name of a memory.
+//! The name of a memory, at the front of its map.
 
 use crate::dfuse::memory::fault::MapFault;
 use crate::dfuse::memory::text::behind;
@@ -12,7 +12,7 @@ pub(crate) struct Named<'t> {
     pub rest: &'t [u8],
 }
 
-/// Bytes without the spaces at their end.
+/// Returns `bytes` without the spaces at their end.
 fn trimmed(bytes: &[u8]) -> &[u8] {
     let mut end = 0;
     let mut count = 0;
@@ -31,7 +31,7 @@ fn stroke_in(text: &[u8]) -> Option<usize> {
     text.iter().position(|byte| *byte == b'/')
 }
 
-/// Takes a name that `@` begins and `/` ends.
+/// Takes the name between `@` and `/`.
 pub(crate) fn take_name(text: &[u8]) -> Result<Named<'_>, MapFault> {
     let Some(name) = behind(b'@', text) else {
         return Err(MapFault::NoMap);

@@ -11,7 +11,7 @@ pub struct Access {
 }
 
 impl Access {
-    /// Returns whether all that is wanted is granted.
+    /// Returns true if the access has each access of `wanted`.
     pub fn grants(self, wanted: Access) -> bool {
         (self.is_readable || !wanted.is_readable)
             && (self.is_erasable || !wanted.is_erasable)
@@ -24,7 +24,7 @@ impl Access {
 pub struct Pages {
     /// The address of the first byte.
     pub start: u32,
-    /// Bytes of each page, up to 2^32.
+    /// Number of bytes of each page, up to 2^32.
     pub size: u64,
     /// Number of pages.
     pub count: u32,
@@ -37,7 +37,7 @@ pub struct Pages {
 pub struct Page {
     /// The address of the first byte.
     pub start: u32,
-    /// Bytes of the page, up to 2^32.
+    /// Number of bytes of the page, up to 2^32.
     pub size: u64,
     /// Access to the page.
     pub access: Access,

@@ -1,12 +1,12 @@
 // Of crates/dfu_formats/src/memory/place.rt, whose contracts are taken away.
 
-//! Starts of ranges: at an address of their own, or where the one before ends.
+//! Starts of ranges: at an address of their own, or where the range before ends.
 
 use crate::dfuse::memory::digits::take_number;
 use crate::dfuse::memory::fault::MapFault;
 use crate::dfuse::memory::text::{Number, behind, front};
 
-/// The text after `0x` or `0X`, which may be missing.
+/// Returns the text behind `0x` or `0X`, or all of `text` if it begins with neither.
 fn behind_prefix(text: &[u8]) -> &[u8] {
     match front(text) {
         Some((b'0', digits)) => match front(digits) {
@@ -17,7 +17,7 @@ fn behind_prefix(text: &[u8]) -> &[u8] {
     }
 }
 
-/// Takes an address, and `/`.
+/// Takes an address, and the `/` behind it.
 pub(crate) fn take_address(text: &[u8]) -> Result<Number<'_>, MapFault> {
     match take_number(16, 8, behind_prefix(text)) {
         Some(number) => match behind(b'/', number.rest) {
@@ -31,7 +31,7 @@ pub(crate) fn take_address(text: &[u8]) -> Result<Number<'_>, MapFault> {
     }
 }
 
-/// Takes what leads to the next range, after one that ends at this address.
+/// Takes what leads to the next range, behind a range that ends at `end`.
 pub(crate) fn take_next(end: u64, text: &[u8]) -> Result<Option<Number<'_>>, MapFault> {
     match front(text) {
         None => Ok(None),

@@ -1,6 +1,6 @@
 // Of crates/dfu_formats/src/memory/ranges.rt, whose contracts are taken away.
 
-//! Ranges, one after the other.
+//! Ranges of a map, one after the other.
 
 use crate::dfuse::memory::fault::MapFault;
 use crate::dfuse::memory::group::take_group;
@@ -9,12 +9,12 @@ use crate::dfuse::memory::pages::Pages;
 use crate::dfuse::memory::place::take_next;
 use arrayvec::ArrayVec;
 
-/// The address after the last byte of a range.
+/// Returns the address after the last byte of range `pages`, up to 2^32.
 pub(crate) fn end_of(pages: &Pages) -> u64 {
     pages.start as u64 + pages.count as u64 * pages.size
 }
 
-/// Takes ranges up to the end of the text, the first of which begins at this address.
+/// Takes ranges up to the end of the text; the first begins at `start`.
 pub(crate) fn take_ranges(start: u64, text: &[u8]) -> Result<ArrayVec<Pages, MOST_RANGES>, MapFault> {
     let mut ranges = ArrayVec::new();
     let mut at = start;

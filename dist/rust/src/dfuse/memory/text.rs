@@ -9,7 +9,7 @@ pub(crate) struct Number<'t> {
     pub rest: &'t [u8],
 }
 
-/// The first byte, and what follows it.
+/// Returns the first byte of `text`, and the text after it; None if `text` is empty.
 pub(crate) fn front(text: &[u8]) -> Option<(u8, &[u8])> {
     if text.len() == 0 {
         return None;
@@ -19,7 +19,7 @@ pub(crate) fn front(text: &[u8]) -> Option<(u8, &[u8])> {
     Some((byte, rest))
 }
 
-/// Returns the text behind this byte, if the text begins with it.
+/// Returns the text behind `byte`, if `text` begins with it; else None.
 pub(crate) fn behind(byte: u8, text: &[u8]) -> Option<&[u8]> {
     match front(text) {
         Some((first, rest)) if first == byte => Some(rest),

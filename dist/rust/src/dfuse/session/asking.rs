@@ -12,7 +12,7 @@ use crate::dfuse::session::step::Step;
 use crate::dfuse::session::work::Work;
 use crate::wire::Request;
 
-/// One of the seven requests, as its setup's bytes.
+/// Returns the bytes of the setup of `request`, which must be one of the seven.
 fn setup_of(request: Request) -> [u8; 8] {
     match request.setup() {
         Some(setup) => setup.encode(),
@@ -20,7 +20,7 @@ fn setup_of(request: Request) -> [u8; 8] {
     }
 }
 
-/// One of the seven requests, with no body.
+/// Returns the action that sends `request`, which must be one of the seven, without a body.
 fn ask<'f>(request: Request) -> Action<'f> {
     Action::Send {
         setup: setup_of(request),
@@ -28,7 +28,7 @@ fn ask<'f>(request: Request) -> Action<'f> {
     }
 }
 
-/// A command with an address.
+/// Returns the action that sends command `number` with address `at`.
 fn address_command<'f>(number: u8, at: u64) -> Action<'f> {
     let [a, b, c, d] = ((at % 0x1_0000_0000) as u32).to_le_bytes();
     Action::Command {
@@ -40,7 +40,7 @@ fn address_command<'f>(number: u8, at: u64) -> Action<'f> {
     }
 }
 
-/// A DNLOAD of bytes, for the address to which the pointer was set.
+/// Returns the action that sends `body` by a DNLOAD, for the address to which the pointer was set.
 fn download(body: &[u8]) -> Action<'_> {
     let length = body.len() as u16;
     Action::Send {
@@ -49,7 +49,7 @@ fn download(body: &[u8]) -> Action<'_> {
     }
 }
 
-/// The address that a work has reached.
+/// Returns the address that `work` has reached.
 pub(crate) fn stands_at(work: Work) -> u64 {
     match work {
         Work::EraseAgain { page, .. } => page,
@@ -62,7 +62,7 @@ pub(crate) fn stands_at(work: Work) -> u64 {
     }
 }
 
-/// The address to which the pointer was set for what is read.
+/// Returns the address to which the pointer was set for the bytes that are read at `place`; `at` if none are read there.
 fn base_of(place: Place, at: u64) -> u64 {
     match place {
         Place::Reading(pointer) => pointer,
@@ -71,7 +71,7 @@ fn base_of(place: Place, at: u64) -> u64 {
 }
 
 impl<'f> Plan<'f> {
-    /// The bytes of an element from one address to before another.
+    /// Returns the bytes of the image from address `at` to before `end`, up to the end of the element that has `at`.
     fn bytes_in(&self, at: u64, end: u64) -> &'f [u8] {
         let Some(element) = element_at(at, self.image) else {
             return &[];
@@ -83,18 +83,18 @@ impl<'f> Plan<'f> {
         bytes
     }
 
-    /// The bytes of the image that are to be read back.
+    /// Returns the bytes of the image that `work` reads back next.
     pub(crate) fn read_bytes(&self, work: Work) -> &'f [u8] {
         let at = stands_at(work);
         self.bytes_in(at, self.read_end(at, self.end_of_work(work)))
     }
 
-    /// The number of the block that has an address.
+    /// Returns the number of the block that has address `at`, if the device reads at `place`.
     fn upload_block(&self, place: Place, at: u64) -> u16 {
         (at.saturating_sub(base_of(place, at)) / self.block_size() % 65534 + 2) as u16
     }
 
-    /// A command, as the caller sends it.
+    /// Returns the action that sends `command` of `work`.
     fn sends(&self, work: Work, command: Command) -> Action<'f> {
         match command {
             Command::SetAddress(at) => address_command(0x21, at),
@@ -106,14 +106,14 @@ impl<'f> Plan<'f> {
         }
     }
 
-    /// UPLOAD of the bytes that are to be read back.
+    /// Returns the UPLOAD of the bytes that `work` reads back next, at `place`.
     fn upload(&self, work: Work, place: Place) -> Action<'f> {
         let block = self.upload_block(place, stands_at(work));
         let length = self.read_bytes(work).len() as u16;
         ask(Request::Upload { block, length })
     }
 
-    /// The action of a step.
+    /// Returns the action of `step`, in `work` at `place`.
     fn action_of(&self, work: Work, place: Place, step: Step) -> Action<'f> {
         match step {
             Step::Abort | Step::BeginReading | Step::EndReading => ask(Request::Abort),
@@ -129,7 +129,7 @@ impl<'f> Plan<'f> {
         }
     }
 
-    /// The action of a phase.
+    /// Returns the action of `phase`.
     pub(crate) fn action(&self, phase: Phase) -> Action<'f> {
         match phase {
             Phase::On(at) => self.action_of(at.work, at.place, at.step),

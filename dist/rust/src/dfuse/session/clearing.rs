@@ -1,6 +1,6 @@
 // Of crates/dfuse_host/src/clearing.rt, whose contracts are taken away.
 
-//! Clearing: what an earlier session left is dropped, and waited for, but never started.
+//! Clearing: orders of an earlier session are dropped, and waited for, but never started.
 
 use crate::dfuse::session::command::cleared;
 use crate::dfuse::session::heard::Heard;
@@ -16,7 +16,7 @@ use crate::wire::{Code, State, Status};
 /// Milliseconds to wait for a status that was asked for too early.
 pub(crate) const TOO_EARLY_MS: u32 = 100;
 
-/// The device is in dfuERROR while bytes are read back.
+/// Returns the phase if the device is in dfuERROR with `code` while `work` reads bytes back.
 fn ends_comparing(work: Work, code: Code) -> Phase {
     match code {
         Code::StalledPkt => stand(work, Place::Lost, Step::ClearStatus),
@@ -24,7 +24,7 @@ fn ends_comparing(work: Work, code: Code) -> Phase {
     }
 }
 
-/// The device is in dfuERROR.
+/// Returns the phase if the device is in dfuERROR with `code`.
 fn fault_found(work: Work, code: Code) -> Phase {
     match (work, code) {
         (Work::Erase { .. }, _) => stand(work, Place::Lost, Step::ClearStatus),
@@ -34,7 +34,7 @@ fn fault_found(work: Work, code: Code) -> Phase {
     }
 }
 
-/// The status while the device is cleared.
+/// Returns the phase after `status` while the device is cleared.
 fn status_found(work: Work, status: &Status) -> Phase {
     match status.state() {
         State::AppIdle | State::AppDetach => Phase::Over(Report::NotDfu),
@@ -45,7 +45,7 @@ fn status_found(work: Work, status: &Status) -> Phase {
     }
 }
 
-/// ABORT.
+/// Returns the phase after ABORT, to which `heard` is the result.
 pub(crate) fn on_abort(work: Work, heard: &Heard) -> Phase {
     match heard {
         Heard::Acked | Heard::Stalled => stand(work, Place::Lost, Step::AskState),
@@ -53,7 +53,7 @@ pub(crate) fn on_abort(work: Work, heard: &Heard) -> Phase {
     }
 }
 
-/// GETSTATUS, while the device is cleared.
+/// Returns the phase after GETSTATUS, to which `heard` is the result, while the device is cleared.
 pub(crate) fn on_ask_status(work: Work, heard: &Heard) -> Phase {
     match heard {
         Heard::Told(status) => status_found(work, status),
@@ -62,7 +62,7 @@ pub(crate) fn on_ask_status(work: Work, heard: &Heard) -> Phase {
     }
 }
 
-/// A wait, while the device is cleared.
+/// Returns the phase after a wait of `ms` milliseconds, while the device is cleared.
 pub(crate) fn on_clear_wait(work: Work, ms: u32, heard: &Heard) -> Phase {
     match heard {
         Heard::Waited => stand(work, Place::Lost, Step::AskState),
@@ -71,7 +71,7 @@ pub(crate) fn on_clear_wait(work: Work, ms: u32, heard: &Heard) -> Phase {
 }
 
 impl Plan<'_> {
-    /// The state once ABORT was sent.
+    /// Returns the phase after `state`, the answer to the GETSTATE that follows ABORT.
     fn state_found(&self, work: Work, state: State) -> Phase {
         match state {
             State::AppIdle | State::AppDetach => Phase::Over(Report::NotDfu),
@@ -84,7 +84,7 @@ impl Plan<'_> {
         }
     }
 
-    /// GETSTATE, while the device is cleared.
+    /// Returns the phase after GETSTATE, to which `heard` is the result, while the device is cleared.
     pub(crate) fn on_ask_state(&self, work: Work, heard: &Heard) -> Phase {
         match heard {
             Heard::StateIs(state) => self.state_found(work, *state),

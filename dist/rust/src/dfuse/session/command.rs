@@ -1,6 +1,6 @@
 // Of crates/dfuse_host/src/command.rt, whose contracts are taken away.
 
-//! Commands of DfuSe, and what follows once one is done.
+//! Commands of DfuSe, and the phases after them.
 
 use crate::dfuse::session::image::image_end;
 use crate::dfuse::session::phase::Phase;
@@ -15,13 +15,14 @@ use crate::dfuse::session::work::Work;
 pub(crate) enum Command {
     /// Set the address pointer.
     SetAddress(u64),
-    /// Erase the page that has this address.
+    /// Erase the page that has the address.
     ErasePage(u64),
-    /// Write the bytes of the image from this address on, to which the address pointer was set.
+    /// Write the bytes of the image from this address on, to which the pointer was set.
     Write(u64),
 }
 
-/// Bytes are written once the pointer is set to them.
+/// Returns the command that comes next for the bytes at `at`: their write, if the pointer is at `at`, and else the setting of the pointer
+/// to `at`.
 fn writing(place: Place, at: u64) -> Command {
     match place {
         Place::At(pointer) if pointer == at => Command::Write(at),
@@ -29,13 +30,13 @@ fn writing(place: Place, at: u64) -> Command {
     }
 }
 
-/// The device is to be cleared, and then a work goes on.
+/// Returns the phase that clears the device, and then goes on with `work`.
 pub(crate) fn cleared(work: Work) -> Phase {
     stand(work, Place::Lost, Step::Abort)
 }
 
 impl Plan<'_> {
-    /// The command of a work.
+    /// Returns the command of `work` at `place`.
     pub(crate) fn command_of(&self, work: Work, place: Place) -> Command {
         match work {
             Work::Erase { at } => Command::ErasePage(self.page_start(at)),
@@ -46,7 +47,7 @@ impl Plan<'_> {
         }
     }
 
-    /// The address up to which a work goes.
+    /// Returns the address up to which `work` goes.
     pub(crate) fn end_of_work(&self, work: Work) -> u64 {
         match work {
             Work::EraseAgain { end, .. } | Work::Write { end, .. } => end,
@@ -56,7 +57,7 @@ impl Plan<'_> {
         }
     }
 
-    /// A page was erased.
+    /// Returns the phase after the page of `at` was erased for `work`.
     fn erased(&self, work: Work, at: u64) -> Phase {
         match work {
             Work::EraseAgain { page, end } => {
@@ -66,7 +67,7 @@ impl Plan<'_> {
         }
     }
 
-    /// Bytes were written.
+    /// Returns the phase after the bytes at `at` were written for `work`.
     fn written(&self, work: Work, at: u64) -> Phase {
         match work {
             Work::Write { at: from, end } => {
@@ -76,7 +77,7 @@ impl Plan<'_> {
         }
     }
 
-    /// A command is done.
+    /// Returns the phase after `command` of `work` is done.
     pub(crate) fn done(&self, work: Work, command: Command) -> Phase {
         match command {
             Command::SetAddress(at) => self.settle(work, Place::At(at)),
@@ -85,7 +86,7 @@ impl Plan<'_> {
         }
     }
 
-    /// The work that follows a write which may have stopped halfway.
+    /// Returns the work that follows `work` if a write of it may have stopped halfway.
     fn again(&self, work: Work) -> Work {
         match work {
             Work::Write { at, end } => Work::EraseAgain {
@@ -100,7 +101,7 @@ impl Plan<'_> {
         }
     }
 
-    /// A command may have been started, and its end isn't known.
+    /// Returns the phase if `command` may have been started, and its end isn't known.
     pub(crate) fn unsure(&self, work: Work, command: Command) -> Phase {
         match command {
             Command::SetAddress(_) | Command::ErasePage(_) => cleared(work),

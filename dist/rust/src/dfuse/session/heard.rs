@@ -1,6 +1,6 @@
 // Of crates/dfuse_host/src/heard.rt, whose contracts are taken away.
 
-//! Meaning of what is seen.
+//! Meaning of results.
 
 use crate::dfuse::session::plan::Plan;
 use crate::dfuse::session::seen::Seen;
@@ -8,13 +8,13 @@ use crate::dfuse::session::step::Step;
 use crate::dfuse::session::work::Work;
 use crate::wire::{State, Status};
 
-/// Meaning of what is seen of an action.
+/// Meaning of the result of an action.
 #[derive(Clone, Copy, Debug, PartialEq, Eq)]
 pub(crate) enum Heard {
     Acked,
     Told(Status),
     StateIs(State),
-    /// Bytes were read back, as many as were asked for, and whether they are the image's.
+    /// Bytes were read back, as many as were asked for; true if they are those of the image.
     Compared(bool),
     Stalled,
     Nothing,
@@ -22,7 +22,7 @@ pub(crate) enum Heard {
     Restarted,
 }
 
-/// The answer to GETSTATUS.
+/// Reads `bytes` as the answer to GETSTATUS; Nothing if they are none.
 fn status_in(bytes: &[u8]) -> Heard {
     match Status::decode(bytes) {
         Ok(status) => Heard::Told(status),
@@ -30,7 +30,7 @@ fn status_in(bytes: &[u8]) -> Heard {
     }
 }
 
-/// The answer to GETSTATE, one byte.
+/// Reads `bytes` as the answer to GETSTATE, of one byte; Nothing if they are none.
 fn state_in(bytes: &[u8]) -> Heard {
     match bytes {
         [byte] => match State::from_byte(*byte) {
@@ -41,7 +41,7 @@ fn state_in(bytes: &[u8]) -> Heard {
     }
 }
 
-/// Bytes that were read back.
+/// Compares `bytes`, which UPLOAD answered, with `wanted`; Nothing if their number differs.
 fn compared(wanted: &[u8], bytes: &[u8]) -> Heard {
     if bytes.len() == wanted.len() {
         Heard::Compared(bytes == wanted)
@@ -51,7 +51,7 @@ fn compared(wanted: &[u8], bytes: &[u8]) -> Heard {
 }
 
 impl Plan<'_> {
-    /// Returns the meaning of bytes that come at a step.
+    /// Returns the meaning of `bytes` that come at `step` of `work`.
     fn answered(&self, work: Work, step: Step, bytes: &[u8]) -> Heard {
         match step {
             Step::AskState | Step::Probe | Step::CloseProbe => state_in(bytes),
@@ -61,7 +61,7 @@ impl Plan<'_> {
         }
     }
 
-    /// Returns the meaning of what is seen at a step.
+    /// Returns the meaning of `seen` at `step` of `work`.
     pub(crate) fn hear(&self, work: Work, step: Step, seen: Seen<'_>) -> Heard {
         match seen {
             Seen::Ack => Heard::Acked,

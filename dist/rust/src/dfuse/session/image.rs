@@ -4,17 +4,17 @@
 
 use crate::dfuse::file::Element;
 
-/// The address after the last byte of an element.
+/// Returns the address after the last byte of `element`.
 pub(crate) fn end_of(element: &Element<'_>) -> u64 {
     element.address as u64 + element.bytes.len() as u64
 }
 
-/// Returns whether an element has a byte for this address.
+/// Returns true if `element` has a byte at address `at`.
 fn holds(at: u64, element: &Element<'_>) -> bool {
     element.address as u64 <= at && at < end_of(element)
 }
 
-/// The element that has a byte for this address.
+/// Returns the first element of `image` that has a byte at address `at`; None if none has.
 pub(crate) fn element_at<'f>(at: u64, image: &[Element<'f>]) -> Option<Element<'f>> {
     for element in image {
         if holds(at, element) {
@@ -24,7 +24,7 @@ pub(crate) fn element_at<'f>(at: u64, image: &[Element<'f>]) -> Option<Element<'
     None
 }
 
-/// The first address from this one on for which the image has a byte.
+/// Returns the first address from `at` on for which `image` has a byte; None if there is none.
 pub(crate) fn next_byte(at: u64, image: &[Element<'_>]) -> Option<u64> {
     for element in image {
         if at < end_of(element) {
@@ -34,7 +34,7 @@ pub(crate) fn next_byte(at: u64, image: &[Element<'_>]) -> Option<u64> {
     None
 }
 
-/// The address of the first byte.
+/// Returns the address of the first byte of `image`; 0 if it has no element.
 pub(crate) fn image_start(image: &[Element<'_>]) -> u64 {
     if image.len() == 0 {
         return 0;
@@ -42,7 +42,7 @@ pub(crate) fn image_start(image: &[Element<'_>]) -> u64 {
     image[0].address as u64
 }
 
-/// The address after the last byte.
+/// Returns the address after the last byte of `image`; 0 if it has no element.
 pub(crate) fn image_end(image: &[Element<'_>]) -> u64 {
     let mut end = 0;
     for element in image {

@@ -9,22 +9,22 @@ use crate::dfuse::memory::{Map, Page};
 /// Plan of a session.
 #[derive(Clone, Copy, Debug, PartialEq, Eq)]
 pub struct Plan<'f> {
-    /// The memory.
+    /// Map of the memory.
     pub map: &'f Map<'f>,
-    /// The image.
+    /// Image that is to be written.
     pub image: &'f [Element<'f>],
-    /// The most bytes of a block.
+    /// Largest number of bytes of a block.
     pub transfer: u16,
-    /// Bytes of the image that are written last of all, if its first element and its first page have that many.
+    /// Number of bytes of the image that are written last of all, as far as its first element and its first page have them.
     pub front: u16,
-    /// Tells whether the device is to leave once all was compared.
+    /// True if the device is to leave once all was compared.
     pub leaves: bool,
-    /// The address at which it is to start its application.
+    /// The address at which the device is to start its application.
     pub start: u32,
 }
 
 impl Plan<'_> {
-    /// The page that has an address.
+    /// Returns the page of the map that has address `at`; None if none has.
     fn page_of(&self, at: u64) -> Option<Page> {
         if at >= 0x1_0000_0000 {
             return None;
@@ -32,7 +32,7 @@ impl Plan<'_> {
         self.map.page_at(at as u32)
     }
 
-    /// The address at which the page of an address begins.
+    /// Returns the address at which the page of `at` begins; `at` if no page has it.
     pub(crate) fn page_start(&self, at: u64) -> u64 {
         match self.page_of(at) {
             None => at,
@@ -40,7 +40,7 @@ impl Plan<'_> {
         }
     }
 
-    /// The address at which the page of an address ends.
+    /// Returns the address after the last byte of the page of `at`; `at` if no page has it.
     pub(crate) fn page_end(&self, at: u64) -> u64 {
         match self.page_of(at) {
             None => at,
@@ -48,7 +48,7 @@ impl Plan<'_> {
         }
     }
 
-    /// The address at which the element of an address ends.
+    /// Returns the address after the last byte of the element of `at`; `at` if no element has it.
     fn element_end(&self, at: u64) -> u64 {
         match element_at(at, self.image) {
             None => at,
@@ -56,24 +56,24 @@ impl Plan<'_> {
         }
     }
 
-    /// The address after the front.
+    /// Returns the address after the front.
     pub(crate) fn front_end(&self) -> u64 {
         let at = image_start(self.image);
         (at + self.front as u64).min(self.element_end(at).min(self.page_end(at)))
     }
 
-    /// The most bytes of a block, at least one.
+    /// Returns the largest number of bytes of a block, at least 1.
     pub(crate) fn block_size(&self) -> u64 {
         (self.transfer as u64).max(1)
     }
 
-    /// The address after the bytes that are written at once from this one on.
+    /// Returns the address, at most `end`, after the bytes from `at` on that are written at once.
     pub(crate) fn write_end(&self, at: u64, end: u64) -> u64 {
         at.saturating_add(self.block_size())
             .min(self.element_end(at).min(self.page_end(at)).min(end))
     }
 
-    /// The address after the bytes that are read at once from this one on.
+    /// Returns the address, at most `end`, after the bytes from `at` on that are read at once.
     pub(crate) fn read_end(&self, at: u64, end: u64) -> u64 {
         at.saturating_add(self.block_size())
             .min(self.element_end(at).min(end))

@@ -12,7 +12,7 @@ use crate::dfuse::session::settling::stand;
 use crate::dfuse::session::step::Step;
 use crate::dfuse::session::work::Work;
 
-/// The device went to dfuIDLE, from which bytes can be read.
+/// Returns the place that follows `place` once the device went to dfuIDLE, from which bytes can be read.
 fn begun(place: Place) -> Place {
     match place {
         Place::At(pointer) => Place::Reading(pointer),
@@ -20,7 +20,7 @@ fn begun(place: Place) -> Place {
     }
 }
 
-/// The device left dfuUPLOAD-IDLE.
+/// Returns the place that follows `place` once the device left dfuUPLOAD-IDLE.
 fn ended(place: Place) -> Place {
     match place {
         Place::Reading(pointer) => Place::At(pointer),
@@ -28,7 +28,7 @@ fn ended(place: Place) -> Place {
     }
 }
 
-/// Returns the place of the pointer after this step, if the step is an ABORT that begins or ends reading.
+/// Returns the place of the pointer after a step, if the step is an ABORT that begins or ends reading.
 fn turned(step: Step, place: Place) -> Place {
     match step {
         Step::BeginReading => begun(place),
@@ -38,7 +38,7 @@ fn turned(step: Step, place: Place) -> Place {
 }
 
 impl Plan<'_> {
-    /// ABORT, to begin to read or to read no more.
+    /// Returns the phase after an ABORT that begins reading, or ends it, as `step` says.
     pub(crate) fn on_turn(&self, work: Work, place: Place, step: Step, heard: &Heard) -> Phase {
         match heard {
             Heard::Acked => self.settle(work, turned(step, place)),
@@ -47,7 +47,7 @@ impl Plan<'_> {
         }
     }
 
-    /// The work after the bytes that were read back.
+    /// Returns the work that follows `work` after its bytes were read back.
     fn read_on(&self, work: Work) -> Work {
         let end = self.end_of_work(work);
         match work {
@@ -61,7 +61,7 @@ impl Plan<'_> {
         }
     }
 
-    /// UPLOAD.
+    /// Returns the phase after UPLOAD, to which `heard` is the result.
     pub(crate) fn on_read(&self, work: Work, place: Place, heard: &Heard) -> Phase {
         match heard {
             Heard::Compared(true) => self.settle(self.read_on(work), place),

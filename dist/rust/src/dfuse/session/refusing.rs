@@ -8,12 +8,12 @@ use crate::dfuse::session::plan::Plan;
 use crate::dfuse::file::Element;
 use crate::dfuse::memory::Access;
 
-/// Returns whether there is no element, or one without bytes.
+/// Returns true if `image` has no element, or one without bytes.
 fn is_empty(image: &[Element<'_>]) -> bool {
     image.len() == 0 || has_empty(image)
 }
 
-/// Returns whether an element has no bytes.
+/// Returns true if an element of `image` has no bytes.
 fn has_empty(image: &[Element<'_>]) -> bool {
     for element in image {
         if element.bytes.len() == 0 {
@@ -23,7 +23,7 @@ fn has_empty(image: &[Element<'_>]) -> bool {
     false
 }
 
-/// Returns whether no element begins before the one before it does.
+/// Returns true if no element of `image` begins before the one in front of it begins.
 fn ascends(image: &[Element<'_>]) -> bool {
     let mut start = 0;
     for element in image {
@@ -35,7 +35,7 @@ fn ascends(image: &[Element<'_>]) -> bool {
     true
 }
 
-/// Returns whether no element begins before the one before it ends.
+/// Returns true if no element of `image` begins before the one in front of it ends.
 fn are_apart(image: &[Element<'_>]) -> bool {
     let mut end = 0;
     for element in image {
@@ -48,7 +48,7 @@ fn are_apart(image: &[Element<'_>]) -> bool {
 }
 
 impl Plan<'_> {
-    /// Returns whether the pages of the image grant what is wanted.
+    /// Returns true if the pages of the image grant `wanted`.
     fn grants(&self, wanted: Access) -> bool {
         for element in self.image {
             if !self
@@ -61,7 +61,7 @@ impl Plan<'_> {
         true
     }
 
-    /// Checks the plan.
+    /// Checks the plan, and returns its first fault.
     pub(crate) fn check(&self) -> Result<(), PlanFault> {
         let wants = |is_readable: bool, is_erasable: bool, is_writable: bool| Access {
             is_readable,

@@ -4,14 +4,14 @@
 
 use crate::wire::Code;
 
-/// Ways in which the device left for its application, or stayed.
+/// Ways in which a session left the device for its application, or in upgrade mode.
 #[derive(Clone, Copy, Debug, PartialEq, Eq)]
 pub enum Leaving {
-    /// It wasn't asked to.
+    /// The device wasn't asked to leave.
     Stayed,
-    /// It said that it does.
+    /// The device said that it leaves.
     Left,
-    /// It was asked to, and what came of it isn't known.
+    /// The device was asked to leave, and its answer isn't known.
     Unknown,
 }
 
@@ -28,7 +28,7 @@ pub enum Report {
     ReadProtected,
     /// No action was left.
     GaveUp,
-    /// One restart more than is taken.
+    /// The device restarted once more than the limit allows.
     RestartsSpent,
     /// The device is in its application.
     NotDfu,

@@ -1,6 +1,6 @@
 // Of crates/dfuse_host/src/rows.rt, whose contracts are taken away.
 
-//! The table.
+//! The table of a session.
 
 use crate::dfuse::session::clearing::{on_abort, on_ask_status, on_clear_wait};
 use crate::dfuse::session::closing::{on_close, on_close_poll, on_close_probe};
@@ -14,7 +14,7 @@ use crate::dfuse::session::step::Step;
 use crate::dfuse::session::work::Work;
 
 impl Plan<'_> {
-    /// The phase that follows, by what a session works at, knows and does, and what was heard of that.
+    /// Returns the phase that follows, by `work`, `place` and `step` of a session, and by `heard`.
     pub(crate) fn row(&self, work: Work, place: Place, step: Step, heard: &Heard) -> Phase {
         match step {
             Step::Abort => on_abort(work, heard),

@@ -14,7 +14,7 @@ use crate::dfuse::session::step::Step;
 use crate::dfuse::session::work::Work;
 use crate::wire::{Code, State, Status};
 
-/// DNLOAD of a command.
+/// Returns the phase after the DNLOAD of a command, to which `heard` is the result.
 pub(crate) fn on_send(work: Work, place: Place, heard: &Heard) -> Phase {
     match heard {
         Heard::Acked => stand(work, place, Step::Poll(0)),
@@ -22,7 +22,7 @@ pub(crate) fn on_send(work: Work, place: Place, heard: &Heard) -> Phase {
     }
 }
 
-/// A wait until a command should be done.
+/// Returns the phase after a wait of `ms` milliseconds, until a command should be done.
 pub(crate) fn on_poll_wait(work: Work, place: Place, ms: u32, heard: &Heard) -> Phase {
     match heard {
         Heard::Waited => stand(work, place, Step::Poll(ms)),
@@ -36,12 +36,12 @@ fn stalled_ms(last: u32) -> u32 {
 }
 
 impl Plan<'_> {
-    /// The command of a work may have been started, and its end isn't known.
+    /// Returns the phase if the command of `work` at `place` may have been started, and its end isn't known.
     fn unsure_of(&self, work: Work, place: Place) -> Phase {
         self.unsure(work, self.command_of(work, place))
     }
 
-    /// The state in which a device is whose answer to a command was lost.
+    /// Returns the phase after `state`, that of a device whose answer to a command was lost.
     fn probed(&self, work: Work, place: Place, state: State) -> Phase {
         match state {
             State::DownloadSync => stand(work, place, Step::Poll(0)),
@@ -51,7 +51,7 @@ impl Plan<'_> {
         }
     }
 
-    /// GETSTATE, to learn whether a command came.
+    /// Returns the phase after GETSTATE, which asks if a command came.
     pub(crate) fn on_probe(&self, work: Work, place: Place, heard: &Heard) -> Phase {
         match heard {
             Heard::StateIs(state) => self.probed(work, place, *state),
@@ -60,7 +60,7 @@ impl Plan<'_> {
         }
     }
 
-    /// A command ended in dfuERROR.
+    /// Returns the phase after a command that ended in dfuERROR with `code`.
     fn refused(&self, work: Work, place: Place, code: Code) -> Phase {
         match code {
             Code::StalledPkt => self.unsure_of(work, place),
@@ -69,7 +69,7 @@ impl Plan<'_> {
         }
     }
 
-    /// The status after a command.
+    /// Returns the phase after `status`, which follows a command.
     fn polled(&self, work: Work, place: Place, status: &Status) -> Phase {
         match status.state() {
             State::DownloadSync | State::DownloadBusy => {
@@ -81,7 +81,7 @@ impl Plan<'_> {
         }
     }
 
-    /// GETSTATUS, to start a command, or to learn whether it is done.
+    /// Returns the phase after GETSTATUS, which starts a command, or asks if it is done.
     pub(crate) fn on_poll(&self, work: Work, place: Place, last: u32, heard: &Heard) -> Phase {
         match heard {
             Heard::Told(status) => self.polled(work, place, status),

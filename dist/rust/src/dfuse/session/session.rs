@@ -1,6 +1,6 @@
 // Of crates/dfuse_host/src/session.rt, whose contracts are taken away.
 
-//! A session.
+//! The session of a host with a DfuSe device.
 
 use crate::dfuse::session::action::Action;
 use crate::dfuse::session::command::cleared;
@@ -15,18 +15,18 @@ use crate::dfuse::session::seen::Seen;
 use crate::dfuse::session::step::Step;
 use crate::dfuse::session::work::Work;
 
-/// A session: what it is to do, its phase, and what is left of its limits. It is plain data, which can be kept between two calls.
+/// A session: its plan, its phase, and what is left of its limits. A session is plain data, which can be kept between two calls.
 #[derive(Clone, Copy, Debug, PartialEq, Eq)]
 pub struct Session<'f> {
     pub plan: Plan<'f>,
     pub phase: Phase,
-    /// The actions that are left.
+    /// Number of actions that are left.
     pub actions: u32,
-    /// The restarts of the device that are still taken.
+    /// Number of restarts of the device that are still taken.
     pub restarts: u16,
 }
 
-/// Returns whether the device was asked to leave by now and may have left.
+/// Returns the way in which the device left, if it was asked to leave by `step`.
 fn left_at(step: Step) -> Leaving {
     match step {
         Step::Close | Step::CloseProbe | Step::ClosePoll => Leaving::Unknown,
@@ -34,7 +34,7 @@ fn left_at(step: Step) -> Leaving {
     }
 }
 
-/// No action is left.
+/// Returns the phase once no action is left, in `work` at `step`.
 fn spent_at(work: Work, step: Step) -> Phase {
     match work {
         Work::Leave => Phase::Over(Report::Verified(left_at(step))),
@@ -42,7 +42,7 @@ fn spent_at(work: Work, step: Step) -> Phase {
     }
 }
 
-/// The phase of a session with this many actions left.
+/// Returns `phase` if a session with `left` actions left can be in it, and else the phase in which the session is over.
 fn budgeted(left: u32, phase: Phase) -> Phase {
     match phase {
         Phase::Over(_) => phase,
@@ -52,7 +52,7 @@ fn budgeted(left: u32, phase: Phase) -> Phase {
 }
 
 impl<'f> Session<'f> {
-    /// The session after one action that leads to a phase.
+    /// Returns the session after one action that leads to `phase`, with `restarts` restarts left.
     fn spent(self, phase: Phase, restarts: u16) -> Session<'f> {
         let actions = self.actions.saturating_sub(1);
         Session {
@@ -63,7 +63,7 @@ impl<'f> Session<'f> {
         }
     }
 
-    /// The work that goes on after a restart.
+    /// Returns the phase in which the session goes on after a restart at `at`.
     fn resumed(self, at: Standing) -> Phase {
         match at.step {
             Step::Poll(_) | Step::PollWait(_) => {
@@ -74,7 +74,7 @@ impl<'f> Session<'f> {
         }
     }
 
-    /// After a restart that may be one too many.
+    /// Returns the session after a restart at `at`; over as RestartsSpent if no restart is left.
     fn restarted_once(self, at: Standing) -> Session<'f> {
         if self.restarts == 0 {
             return self.spent(Phase::Over(Report::RestartsSpent), 0);
@@ -83,7 +83,7 @@ impl<'f> Session<'f> {
         self.spent(phase, self.restarts - 1)
     }
 
-    /// After a restart once all was compared.
+    /// Returns the session after a restart at `at`, once all was compared.
     fn restarted_leaving(self, at: Standing) -> Session<'f> {
         match at.step {
             Step::Close | Step::CloseProbe | Step::ClosePoll => {
@@ -96,7 +96,7 @@ impl<'f> Session<'f> {
         }
     }
 
-    /// After a restart of the device.
+    /// Returns the session after a restart of the device at `at`.
     fn restarted(self, at: Standing) -> Session<'f> {
         match at.work {
             Work::Leave => self.restarted_leaving(at),
@@ -104,7 +104,7 @@ impl<'f> Session<'f> {
         }
     }
 
-    /// After something was heard.
+    /// Returns the session after `heard` at `at`.
     fn after(self, at: Standing, heard: Heard) -> Session<'f> {
         match heard {
             Heard::Restarted => self.restarted(at),
@@ -115,7 +115,8 @@ impl<'f> Session<'f> {
         }
     }
 
-    /// A session that is to write an image, and to read it back. Its front is written last: before that no image starts that is partly old.
+    /// Begins a session that is to write an image, and to read it back. The front is written last, so that no image starts that is partly
+    /// old.
     ///
     /// # Errors
     ///
@@ -134,13 +135,13 @@ impl<'f> Session<'f> {
         }
     }
 
-    /// Returns the action that the session wants next. It changes nothing, so it may be asked again.
+    /// Returns the next action. Nothing changes, so that a caller may ask again.
     pub fn next(&self) -> Action<'f> {
         self.plan.action(self.phase)
     }
 
-    /// Gives the session what came of its action. Whatever came, it is over after at most `actions` calls, or after one if the limits
-    /// have 0. Then nothing changes any more.
+    /// Gives the session the result of its action. Whatever came, the session is over after at most `actions` calls, or after one if the
+    /// limits have 0. From then on nothing changes.
     pub fn take(&mut self, seen: Seen<'_>) {
         if let Phase::On(at) = self.phase {
             let heard = self.plan.hear(at.work, at.step, seen);

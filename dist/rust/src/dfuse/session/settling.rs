@@ -1,6 +1,6 @@
 // Of crates/dfuse_host/src/settling.rt, whose contracts are taken away.
 
-//! The order of work: what is done next, once the device is ready for a command.
+//! Order of works: the next one once the device is ready for a command.
 
 use crate::dfuse::session::image::{element_at, image_end, image_start, next_byte};
 use crate::dfuse::session::phase::{Phase, Standing};
@@ -10,12 +10,12 @@ use crate::dfuse::session::report::{Leaving, Report};
 use crate::dfuse::session::step::Step;
 use crate::dfuse::session::work::Work;
 
-/// A session that goes on like this.
+/// Returns the phase that goes on with `work`, `place` and `step`.
 pub(crate) fn stand(work: Work, place: Place, step: Step) -> Phase {
     Phase::On(Standing { work, place, step })
 }
 
-/// The step that leads to a command.
+/// Returns the step that leads to a command from `place`.
 fn sending(place: Place) -> Step {
     match place {
         Place::Lost | Place::At(_) => Step::Send,
@@ -24,7 +24,7 @@ fn sending(place: Place) -> Step {
 }
 
 impl Plan<'_> {
-    /// The first byte of the image from an address to before another.
+    /// Returns the address of the first byte of the image from `at` to before `end`; None if there is none.
     fn byte_in(&self, at: u64, end: u64) -> Option<u64> {
         match next_byte(at, self.image) {
             Some(byte) if byte < end => Some(byte),
@@ -32,7 +32,7 @@ impl Plan<'_> {
         }
     }
 
-    /// Returns whether the bytes of an address can be asked for from the address to which the pointer was set.
+    /// Returns true if the bytes from `at` on can be asked for, from `base`, the address to which the pointer was set.
     fn can_read(&self, base: u64, at: u64) -> bool {
         if at < base {
             return false;
@@ -48,7 +48,7 @@ impl Plan<'_> {
         }
     }
 
-    /// The step that leads to bytes that are read back.
+    /// Returns the step from `place` that leads to reading back the bytes at `at`.
     fn comparing(&self, at: u64, place: Place) -> Step {
         match place {
             Place::Lost => Step::Send,
@@ -59,7 +59,7 @@ impl Plan<'_> {
         }
     }
 
-    /// At the end: all was compared.
+    /// Returns the phase at the end, when all was compared.
     fn to_leave(&self, place: Place) -> Phase {
         match place {
             Place::Reading(_) => stand(Work::Leave, place, Step::EndReading),
@@ -73,7 +73,7 @@ impl Plan<'_> {
         }
     }
 
-    /// The front is compared from an address on.
+    /// Returns the phase that compares the front from `at` on.
     fn to_compare_front(&self, place: Place, at: u64) -> Phase {
         match self.byte_in(at, self.front_end()) {
             None => self.to_leave(place),
@@ -81,7 +81,7 @@ impl Plan<'_> {
         }
     }
 
-    /// The front is written from an address on.
+    /// Returns the phase that writes the front from `at` on.
     pub(crate) fn to_write_front(&self, place: Place, at: u64) -> Phase {
         match self.byte_in(at, self.front_end()) {
             None => self.to_compare_front(place, image_start(self.image)),
@@ -89,7 +89,7 @@ impl Plan<'_> {
         }
     }
 
-    /// All but the front is compared from an address on.
+    /// Returns the phase that compares all but the front from `at` on.
     fn to_compare(&self, place: Place, at: u64) -> Phase {
         match self.byte_in(at, image_end(self.image)) {
             None => self.to_write_front(place, image_start(self.image)),
@@ -97,7 +97,7 @@ impl Plan<'_> {
         }
     }
 
-    /// The image is written from an address on.
+    /// Returns the phase that writes the image from `at` to before `end`.
     pub(crate) fn to_write(&self, place: Place, at: u64, end: u64) -> Phase {
         match self.byte_in(at, end) {
             None => self.to_compare(place, self.front_end()),
@@ -105,7 +105,7 @@ impl Plan<'_> {
         }
     }
 
-    /// Pages are erased from an address on.
+    /// Returns the phase that erases pages from `at` on.
     pub(crate) fn to_erase(&self, place: Place, at: u64) -> Phase {
         match self.byte_in(at, image_end(self.image)) {
             None => self.to_write(place, self.front_end(), image_end(self.image)),
@@ -113,7 +113,7 @@ impl Plan<'_> {
         }
     }
 
-    /// The device is ready for a command: what is worked at goes on.
+    /// Returns the phase of `work` once the device is ready for a command.
     pub(crate) fn settle(&self, work: Work, place: Place) -> Phase {
         match work {
             Work::Erase { at } => self.to_erase(place, at),

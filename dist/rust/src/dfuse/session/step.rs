@@ -5,23 +5,23 @@
 /// Next step of a work. Times are in milliseconds.
 #[derive(Clone, Copy, Debug, PartialEq, Eq)]
 pub enum Step {
-    /// Drop with ABORT what was sent and not started, as by an earlier session. GETSTATUS would start it.
+    /// Drop with ABORT an order that was sent and not started, as by an earlier session. GETSTATUS would start it.
     Abort,
-    /// Ask with GETSTATE in which state the device is.
+    /// Ask for the device's state with GETSTATE.
     AskState,
-    /// Ask with GETSTATUS why.
+    /// Ask for the status with GETSTATUS, because the state shows a fault.
     AskStatus,
-    /// Wait for what an earlier session left running.
+    /// Wait for an order that an earlier session left running.
     ClearWait(u32),
     /// Clear the fault of an earlier session, with CLRSTATUS.
     ClearStatus,
     /// Send the command.
     Send,
-    /// The answer to the command was lost: ask with GETSTATE whether it came.
+    /// Ask with GETSTATE if the command came, because its answer was lost.
     Probe,
-    /// The command came: start it with GETSTATUS, or ask whether it is done. The device last said to wait this long.
+    /// Start the command with GETSTATUS, or ask if it is done. The device last said to wait this long.
     Poll(u32),
-    /// It isn't done yet: wait, then ask again.
+    /// Wait, because the command isn't done yet, and then ask again.
     PollWait(u32),
     /// Go with ABORT from dfuDNLOAD-IDLE to dfuIDLE, from which UPLOAD is taken.
     BeginReading,
@@ -31,8 +31,8 @@ pub enum Step {
     Read,
     /// Ask the device to leave, with a DNLOAD of no bytes.
     Close,
-    /// The answer to that was lost: ask with GETSTATE whether it came.
+    /// Ask with GETSTATE if that DNLOAD came, because its answer was lost.
     CloseProbe,
-    /// Ask with GETSTATUS whether it leaves.
+    /// Ask with GETSTATUS if the device leaves.
     ClosePoll,
 }

@@ -7,7 +7,7 @@
 pub enum Work {
     /// Erase each page that has a byte of the image from this address on.
     Erase { at: u64 },
-    /// Erase this page, in which a write may have stopped halfway, and write what it has of the image, up to an address.
+    /// Erase the page in which a write may have stopped halfway, and write the bytes of the image on it again, up to an address.
     EraseAgain { page: u64, end: u64 },
     /// Write the image from one address to before another.
     Write { at: u64, end: u64 },
@@ -17,6 +17,6 @@ pub enum Work {
     WriteFront { at: u64 },
     /// Compare the front, from this address on.
     CompareFront { at: u64 },
-    /// Leave for the application. All was compared.
+    /// Leave for the application, once all was compared.
     Leave,
 }

@@ -57,9 +57,9 @@ static REFUSED: [(usize, usize, u32, Refusal); 9] = [
     (600, 1000, SECTOR, Refusal::WrongSize),
     (0, 1024, 0, Refusal::WrongSize),
     (1025, 1000, SECTOR, Refusal::WrongSize),
-    (0, 0, 131_072, Refusal::NoImage),
-    (1, 0, 131_072, Refusal::TooLarge),
-    (1, 0, 131_328, Refusal::WrongSize),
+    (0, 0, 262_144, Refusal::NoImage),
+    (1, 0, 262_144, Refusal::TooLarge),
+    (1, 0, 262_400, Refusal::WrongSize),
 ];
 
 #[test]

@@ -156,11 +156,13 @@ fn sectors_have_to_fit() -> Outcome {
         (SIZE - 512, SECTOR),
         (SIZE, 128),
         (SIZE, 3000),
-        (SIZE, 262_144),
+        (6 * 524_288, 524_288),
         (SIZE, 8192),
     ] {
         let medium = SimMedium::with_sectors(Global, size, Unit::U256, sector)?;
         assert!(Slots::format(medium, &[0]).is_err());
     }
+    let largest = SimMedium::with_sectors(Global, 6 * 262_144, Unit::U256, 262_144)?;
+    assert!(Slots::format(largest, &[0]).is_ok());
     Ok(())
 }

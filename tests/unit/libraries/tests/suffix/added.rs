@@ -132,17 +132,20 @@ fn reader_that_fails() {
     }
 }
 
-/// The 256th call gives the byte past the limit, and is the last.
+/// The 1,024th call gives the byte past the limit, and is the last.
 #[test]
 fn payloads_at_and_past_the_limit() -> Outcome {
     let zeros = vec![0u8; 16_777_201];
-    let mut reader = in_pieces(&zeros, 65_536);
+    let mut reader = in_pieces(&zeros, 16_384);
     let mut nowhere = io::sink();
     let said = add(Global, &mut reader, PRODUCT, &mut nowhere);
-    assert_eq!((said, reader.calls.made), (Err(SuffixFault::TooLarge), 256));
-    let mut reader = in_pieces(&zeros[1..], 65_536);
+    assert_eq!(
+        (said, reader.calls.made),
+        (Err(SuffixFault::TooLarge), 1_024)
+    );
+    let mut reader = in_pieces(&zeros[1..], 16_384);
     let said = add(Global, &mut reader, PRODUCT, &mut nowhere);
-    assert_eq!((said, reader.calls.made), (Ok(16_777_216), 257));
+    assert_eq!((said, reader.calls.made), (Ok(16_777_216), 1_025));
     Ok(())
 }
 

@@ -145,25 +145,25 @@ static ZEROS_SUFFIX: [u8; 16] = [
     0xff, 0xff, 0xff, 0xff, 0xff, 0xff, 0x00, 0x01, 0x55, 0x46, 0x44, 0x10, 0xaf, 0x59, 0xe8, 0xfa,
 ];
 
-/// The 257th call gives nothing, or the byte past the limit.
+/// The 1,025th call gives nothing, or the byte past the limit.
 #[test]
 fn files_at_and_past_the_limit() -> Outcome {
     let mut file = vec![0u8; 16_777_200];
     file.extend_from_slice(&ZEROS_SUFFIX);
     let known = summary(16_777_200, 16, UNSET, 0xfae8_59af);
-    checks(in_pieces(&file, 65_536), Ok(known), 257);
+    checks(in_pieces(&file, 16_384), Ok(known), 1_025);
     file.push(0);
-    checks(in_pieces(&file, 65_536), Err(SuffixFault::TooLarge), 257);
+    checks(in_pieces(&file, 16_384), Err(SuffixFault::TooLarge), 1_025);
     Ok(())
 }
 
-/// The pieces end before, at and after the end of the buffer of a read, 65,536 bytes.
+/// The pieces end before, at and after the end of the buffer of a read, 16,384 bytes.
 #[test]
 fn long_file_in_pieces() -> Outcome {
     let mut file = Vec::new();
     add(Global, &[0x5a; 70_000][..], UNSET, &mut file)?;
     let known = summary(70_000, 16, UNSET, 0x2675_8014);
-    for (step, calls) in [(1usize, 70_017usize), (17, 4_120), (65_535, 3), (70_016, 3)] {
+    for (step, calls) in [(1usize, 70_017usize), (17, 4_120), (16_383, 6), (70_016, 6)] {
         checks(in_pieces(&file, step), Ok(known), calls);
     }
     Ok(())

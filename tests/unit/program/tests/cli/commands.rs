@@ -6,7 +6,7 @@ use unit_program::known_files::FOUR_ONES;
 
 /// Words, what is printed, the calls that are made, and the end.
 #[rustfmt::skip]
-static READ: [(&str, &str, &str, u8); 39] = [
+static READ: [(&str, &str, &str, u8); 45] = [
     ("dfu check a", "ok payload 4 suffix 16 device ffff product ffff vendor ffff dfu 0100 crc 0c51c871\n", "open a;", 0),
     ("dfu check -", "refused TooShort\n", "", 1),
     ("dfu check c", "fault Read\n", "open c;", 3),
@@ -43,6 +43,12 @@ static READ: [(&str, &str, &str, u8); 39] = [
     ("dfu judge a --interface x", "bad words\n", "", 2),
     ("dfu judge --dfuse - a", "-: refused BadLine 1\na: refused BadLine 1\n", "open a;", 1),
     ("dfu judge c --dfuse", "fault Read\n", "open c;", 3),
+    ("dfu plan --part x --boot 1", "refused UnknownPart\n", "", 1),
+    ("dfu plan --part stm32f407 --boot 1024k", "refused NoRoom\n", "", 1),
+    ("dfu plan --part x --boot y", "bad words\n", "", 2),
+    ("dfu plan --part x --boot 1 --areas 4 --parts a", "bad words\n", "", 2),
+    ("dfu plan --part x --boot 1 --parts a", "refused BadLine 1\n", "open a;", 1),
+    ("dfu plan --part x --boot 1 --parts c", "fault Read\n", "open c;", 3),
     ("dfu add - -", "bad words\n", "", 2),
     ("dfu add c -", "bad words\n", "", 2),
     ("dfu add - b --vid 12", "bad words\n", "", 2),

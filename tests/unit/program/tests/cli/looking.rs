@@ -49,7 +49,7 @@ static ROWS: [Row; 19] = [
     // What has a suffix is refused for that, whatever it is called.
     ("a.dfu", &DIGITS, "--format auto", (1, "refused AlreadySuffixed\n", SUFFIXED)),
     // Bytes that say a format count more than a name that says another.
-    ("a.dfu", b":0100000001FE\n:00000001FF\n", "--format auto", (0, "wrote 17\nformat ihex address 00000000\n", "")),
+    ("a.dfu", b":0100000001FE\n:00000001FF\n", "--format auto", (0, "wrote 17\nformat ihex address 0x00000000\n", "")),
     ("a.bin", b"\0\x01", "--format auto", (0, "wrote 18\n", "")),
     ("a", b"", "--format auto", (0, "wrote 16\n", "")),
     // The reader's fault, and the place of the first wrong character.
@@ -58,8 +58,8 @@ static ROWS: [Row; 19] = [
     ("a", b"123456789", "--format srec", (1, "refused NoMark 1\n", NO_MARK)),
     ("a", b":0100000001FD\n", "--format auto", (1, "refused BadChecksum 1\n", "dfu: a: line 1: the checksum is wrong; build it anew\n")),
     // Behind a byte order mark, by any way to take it.
-    ("a", MARKED, "--format auto", (0, "wrote 17\nformat ihex address 00000000\n", "")),
-    ("a", MARKED, "--format ihex", (0, "wrote 17\nformat ihex address 00000000\n", "")),
+    ("a", MARKED, "--format auto", (0, "wrote 17\nformat ihex address 0x00000000\n", "")),
+    ("a", MARKED, "--format ihex", (0, "wrote 17\nformat ihex address 0x00000000\n", "")),
     ("a", MARKED, "", (0, "wrote 45\n", LOOKS)),
     // Without --format text is taken as it is, without a word.
     ("a", b"hello\n", "", (0, "wrote 22\n", "")),

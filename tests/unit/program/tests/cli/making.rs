@@ -23,7 +23,7 @@ fn adds(file: &[u8], format: &str, printed: &str) -> Outcome {
 /// The file is the same as that of the raw image, and a second line says where the image begins.
 #[test]
 fn adds_the_image() -> Outcome {
-    let printed = "wrote 25\nformat ihex address 08000000\n";
+    let printed = "wrote 25\nformat ihex address 0x08000000\n";
     adds(DIGITS_HEX, "auto", printed)?;
     adds(DIGITS_HEX, "ihex", printed)
 }
@@ -62,7 +62,7 @@ static ROWS: [(&[u8], &str, &str, u8); 5] = [
     (
         b":0100000001FE\n:0100020001FC\n:00000001FF\n",
         "--format ihex --fill a5",
-        "wrote 19\nformat ihex address 00000000\n",
+        "wrote 19\nformat ihex address 0x00000000\n",
         0,
     ),
     (

@@ -1,31 +1,31 @@
 use Rattle.std.proofs.Common.{◌≡◌, ℕ, ◌+◌, ◌-◌, ◌*◌, ◌%◌, ◌≤◌, length, Option, Some, refl, sym, ◌∙◌, ap, subst, arith}
 use Rattle.dfu_slots.specs.Medium.{MediumState}
 use Rattle.dfu_slots.specs.Image.{gate_of, spare_at, capacity_of}
-use Rattle.dfu_slots.proofs.Seeing.{room_capacity}
+use Rattle.dfu_slots.proofs.Seeing.{room_is_capacity}
 use Rattle.dfu_device.specs.Candidate.{candidate_length}
-use Rattle.dfu_device.proofs.Candidates.{IsEnd, candidate_put, candidate_is}
+use Rattle.dfu_device.proofs.Candidates.{IsPutLength, candidate_length_was_put, candidate_is}
 use Rattle.dfu_asks.specs.Lent.{lent}
-use Rattle.dfu_asks.specs.Asks.{store_in, device_in}
-use Rattle.dfu_asks.specs.Noted.{NotedIsOnFlash, beside}
-use Rattle.dfu_asks.proofs.Calling.{no_work}
-use Rattle.dfu_asks.proofs.Noting.{noted_spare}
+use Rattle.dfu_asks.specs.Asks.{flash_store, device_in}
+use Rattle.dfu_asks.specs.Noted.{NotedIsOnFlash, other_slot_place}
+use Rattle.dfu_asks.proofs.Calling.{no_work_if_none_kept}
+use Rattle.dfu_asks.proofs.Noting.{slot_beside_noted_is_spare}
 use Rattle.dfu_asks.proofs.asking.Asking.candidate.Goals as goal
 
--- What is kept of a device says no more bytes than an image may have.
+-- The mode of a device says no more bytes than an image may have.
 pub returns-then-len-view-clause-refused : goal.returns-then-len-view-clause-refused
 returns-then-len-view-clause-refused c block held =
     let a = c.args.self.now in
     let l = lent a block held in
-    let s = store_in l c.args.flash.now in
+    let s = flash_store l c.args.flash.now in
     let med = c.in-Some.ensures.some in
     let len : candidate_length a.mode ≡ Some c.in-Some-candidate_len.len = sym c.candidate_len.ensures ∙ c.in-Some-candidate_len.is in (
-      no_work a.work (sym c.is_some.ensures ∙ c.if-is_some.false),
+      no_work_if_none_kept a.work (sym c.is_some.ensures ∙ c.if-is_some.false),
       omega arith,
       subst (λ (x : MediumState). NotedIsOnFlash a.noted x) med c.in-Some-look.ensures.stands,
       λ kept.
           let n = c.in-Some-candidate_len.len in
-          let fits : n ≤ capacity_of s.medium = subst (λ (k : ℕ). n ≤ k) (room_capacity s)
-          (subst (λ (o : Option ℕ). IsEnd o s) len (candidate_put a.mode (length l.block) s kept.is.sound)).1 in
+          let fits : n ≤ capacity_of s.medium = subst (λ (k : ℕ). n ≤ k) (room_is_capacity s)
+          (subst (λ (o : Option ℕ). IsPutLength o s) len (candidate_length_was_put a.mode (length l.block) s kept.is.sound)).1 in
           omega (arith, fits, c.if-len-view.true, c.in-Some-look.ensures.view.room, ap (λ (x : MediumState). capacity_of x) med),
     )
 
@@ -33,10 +33,11 @@ pub returns-clause-some : goal.returns-clause-some
 returns-clause-some c block held kept =
     let a = c.args.self.now in
     let l = lent a block held in
-    let s = store_in l c.args.flash.now in
+    let s = flash_store l c.args.flash.now in
     let med = c.in-Some.ensures.some in
     let spare : c.in-Some-look.view.spare ≡ spare_at (gate_of s.medium) s.medium.bytes =
-    c.in-Some-look.ensures.view.spare ∙ ap (λ (x : MediumState). beside a.noted x.bytes) med ∙ noted_spare a.noted s.medium kept.is.noted in
+    c.in-Some-look.ensures.view.spare ∙ ap (λ (x : MediumState). other_slot_place a.noted x.bytes) med
+    ∙ slot_beside_noted_is_spare a.noted s.medium kept.is.noted in
     candidate_is (device_in l c.args.flash.now) a.mode l.block _ c.in-Some-candidate_len.len refl kept.is.sound kept.is.store
     (sym c.candidate_len.ensures ∙ c.in-Some-candidate_len.is) (c.data_at.ensures ∙ (λ i. spare i + 2 * gate_of (med i)))
     (ap (λ (n : ℕ). c.in-Some-candidate_len.len - c.in-Some-candidate_len.len % n) c.size.ensures.value)

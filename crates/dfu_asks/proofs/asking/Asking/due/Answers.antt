@@ -4,45 +4,46 @@ use Rattle.dfu_device.specs.DeviceView.{DeviceView}
 use Rattle.dfu_device.specs.Rows.{Elapses}
 use Rattle.dfu_asks.specs.declared.asking.Asking.{Asking}
 use Rattle.dfu_asks.specs.Lent.{lent}
-use Rattle.dfu_asks.specs.Asks.{device_in, store_in}
+use Rattle.dfu_asks.specs.Asks.{device_in, flash_store}
 use Rattle.dfu_asks.specs.Times.{due_of, ChangesOnceDue}
-use Rattle.dfu_asks.proofs.DueTimes.{time_due}
+use Rattle.dfu_asks.proofs.DueTimes.{times_in_each_mode}
 use Rattle.dfu_asks.proofs.asking.Asking.due.Goals as goal
 use Rattle.std.proofs.lemmas.List.{length-take}
 use Rattle.dfu_device.specs.Decision.{HasTimeInputs}
 use Rattle.dfu_device.proofs.Carried.{holds_time}
 use Rattle.dfu_asks.specs.Refused.{IsDeviceOn}
 
--- What follows of a value follows of the one that there is, or of none.
-each_some : {X : Type 0} (P Q : X → Type 0) (o : Option X) → ((x : X) → P x → Q x) → IfSome o P → IfSome o Q
-each_some P Q (Some x) follows is = follows x is
-each_some P Q None follows is = tt
+-- A fact that follows from another one of each value follows for the value that is there, or for none.
+implied_for_some : {X : Type 0} (P Q : X → Type 0) (o : Option X) → ((x : X) → P x → Q x) → IfSome o P → IfSome o Q
+implied_for_some P Q (Some x) follows is = follows x is
+implied_for_some P Q None follows is = tt
 
-each_none : {X A B : Type 0} (o : Option X) → (A → B) → IfNone o A → IfNone o B
-each_none (Some x) follows is = tt
-each_none None follows is = follows is
+implied_for_none : {X A B : Type 0} (o : Option X) → (A → B) → IfNone o A → IfNone o B
+implied_for_none (Some x) follows is = tt
+implied_for_none None follows is = follows is
 
--- A change is due as the mode says.
-due_in : (a : Asking) (block held flash : List ℕ) (ms : ℕ) (d' : DeviceView) → IsDeviceOn a block held flash
+-- A change is due when the mode says so.
+change_due_by_mode : (a : Asking) (block held flash : List ℕ) (ms : ℕ) (d' : DeviceView) → IsDeviceOn a block held flash
     → Elapses ms (device_in (lent a block held) flash) d'
     → ChangesOnceDue (due_of a.config a.mode a.block_len) ms (device_in (lent a block held) flash) d'
-due_in a block held flash ms d' kept went =
+change_due_by_mode a block held flash ms d' kept went =
     let l = lent a block held in
-    let s = store_in l flash in
+    let s = flash_store l flash in
     let whole : length l.block ≡ a.block_len = omega (arith, length-take a.block_len block, kept.fits.block) in
-    time_due ms (device_in l flash) d' a.mode a.block_len (spare_of s) l.block
+    times_in_each_mode ms (device_in l flash) d' a.mode a.block_len (spare_of s) l.block
     (subst (λ (n : ℕ). HasTimeInputs a.mode n (spare_of s) l.block) whole (holds_time a.mode l.block s kept.is.sound)) refl went
 
 pub returns-clause-some : goal.returns-clause-some
 returns-clause-some c =
     let a = c.args.self.now in
-    each_some (λ (n : ℕ). n ≡ due_of a.config a.mode a.block_len) _ c.mode_due.result
+    implied_for_some (λ (n : ℕ). n ≡ due_of a.config a.mode a.block_len) _ c.mode_due.result
     (λ n is block held flash ms d' kept went. subst (λ (k : ℕ). ChangesOnceDue k ms (device_in (lent a block held) flash) d') (sym is)
-    (due_in a block held flash ms d' kept went))
+    (change_due_by_mode a block held flash ms d' kept went))
     c.mode_due.ensures.some
 
 pub returns-clause-none : goal.returns-clause-none
 returns-clause-none c =
     let a = c.args.self.now in
-    each_none c.mode_due.result (λ none block held flash ms d' kept went. (due_in a block held flash ms d' kept went).none none)
+    implied_for_none c.mode_due.result (λ none block held flash ms d' kept went. (change_due_by_mode a block held flash ms d' kept
+    went).none none)
     c.mode_due.ensures.none

@@ -3,38 +3,39 @@ use Rattle.dfu_slots.specs.Units.{unit_size}
 use Rattle.std.proofs.lemmas.List.{length-take-le}
 use Rattle.dfu_slots.specs.Layout.{OPEN}
 use Rattle.dfu_slots.specs.Image.{gate_of, slot_of, spare_at}
-use Rattle.dfu_slots.proofs.Seeing.{room_capacity}
+use Rattle.dfu_slots.proofs.Seeing.{room_is_capacity}
 use Rattle.dfu_device.specs.Parts.{is_filled}
-use Rattle.dfu_device.proofs.Carried.{filled}
+use Rattle.dfu_device.proofs.Carried.{parts_filled_by_mode}
 use Rattle.dfu_asks.specs.Lent.{lent}
-use Rattle.dfu_asks.specs.Asks.{store_in}
-use Rattle.dfu_asks.proofs.Calling.{is_false, mapped_as}
-use Rattle.dfu_asks.proofs.Noting.{noted_spare, begun_is}
-use Rattle.dfu_asks.proofs.Room.{held_size}
+use Rattle.dfu_asks.specs.Asks.{flash_store}
+use Rattle.dfu_asks.proofs.Calling.{not_true_if_false, mapped_by_device_grain}
+use Rattle.dfu_asks.proofs.Noting.{slot_beside_noted_is_spare, begun_by_closed_gate}
+use Rattle.dfu_asks.proofs.Room.{held_length_in_memory}
 use Rattle.dfu_asks.proofs.asking.Asking.is_fit.Goals as goal
 
 pub returns-then-not-may_end-clause-kept : goal.returns-then-not-may_end-clause-kept
 returns-then-not-may_end-clause-kept c = λ block held room size kept.
     let a = c.args.self.now in
     let l = lent a block held in
-    let s = store_in l c.args.medium.now.bytes.now in
+    let s = flash_store l c.args.medium.now.bytes.now in
     let puts = kept.is.store.puts in
-    let count : length l.held ≡ a.held_len = held_size a.unit a.held_len a.put_end held size puts.part in
+    let count : length l.held ≡ a.held_len = held_length_in_memory a.unit a.held_len a.put_end held size puts.part in
     let fits : a.put_end ≤ c.args.view.now.room = omega (arith, puts.fits, c.requires.view.room) in
     let part : a.held_len ≡ a.put_end % unit_size a.unit = sym count ∙ puts.part in
-    absurd (is_false c.may_end.result c.if-not-may_end.true (c.may_end.ensures.1 (fits, part)))
+    absurd (not_true_if_false c.may_end.result c.if-not-may_end.true (c.may_end.ensures.1 (fits, part)))
 
 pub returns-clause-kept : goal.returns-clause-kept
 returns-clause-kept c = λ block held room size kept.
     let a = c.args.self.now in
     let l = lent a block held in
-    let s = store_in l c.args.medium.now.bytes.now in
-    let same = mapped_as c.args.medium.now.bytes.now c.requires.unit c.requires.sector in
+    let s = flash_store l c.args.medium.now.bytes.now in
+    let same = mapped_by_device_grain c.args.medium.now.bytes.now c.requires.unit c.requires.sector in
     let there : c.args.view.now.spare ≡ spare_at (gate_of s.medium) s.medium.bytes =
-    c.requires.view.spare ∙ noted_spare a.noted s.medium kept.is.noted in
+    c.requires.view.spare ∙ slot_beside_noted_is_spare a.noted s.medium kept.is.noted in
     let gate : c.is_open.result ≡ ((slot_of s.medium (spare_at (gate_of s.medium) s.medium.bytes)).gate == OPEN) =
     c.is_open.ensures ∙ (λ i. (slot_of (same i) (there i)).gate == OPEN) in
     let count : length l.block ≡ a.block_len = length-take-le a.block_len block kept.fits.block in
     let is : c.is_filled.result ≡ is_filled a.mode a.block_len s =
-    c.is_filled.ensures s (c.requires.view.room ∙ sym (room_capacity s)) (ap not gate ∙ begun_is s) refl in
-    subst IsTrue (sym is) (subst (λ (n : ℕ). IsTrue (is_filled a.mode n s)) count (filled a.mode (length l.block) s kept.is.sound))
+    c.is_filled.ensures s (c.requires.view.room ∙ sym (room_is_capacity s)) (ap not gate ∙ begun_by_closed_gate s) refl in
+    subst IsTrue (sym is) (subst (λ (n : ℕ). IsTrue (is_filled a.mode n s)) count
+    (parts_filled_by_mode a.mode (length l.block) s kept.is.sound))

@@ -13,9 +13,9 @@ pub returns-in-Some-clause-is : goal.returns-in-Some-clause-is
 returns-in-Some-clause-is c block held flash is =
     (c.in-Some.ensures.row (lent c.args.self.now block held) flash (record { config_is = refl; mode_is = refl; device = is })).0
 
--- What holds of the two lengths is one fact each, however it was shown.
-one_fact : (a : Asking) (short : a.block_len ≤ 4096) (few : a.held_len ≤ 256) → record a { short = short; few = few } ≡ a
-one_fact a short few = λ i. record a { short = le_prop short a.short i; few = le_prop few a.few i }
+-- A fact about one of the two lengths is the same, however it was shown.
+length_facts_are_unique : (a : Asking) (short : a.block_len ≤ 4096) (few : a.held_len ≤ 256) → record a { short = short; few = few } ≡ a
+length_facts_are_unique a short few = λ i. record a { short = le_prop short a.short i; few = le_prop few a.few i }
 
 pub returns-in-None-clause-other : goal.returns-in-None-clause-other
-returns-in-None-clause-other c so = one_fact c.args.self.now _ _
+returns-in-None-clause-other c so = length_facts_are_unique c.args.self.now _ _

@@ -7,61 +7,64 @@ use Rattle.dfu_device.specs.declared.answer.Answer.{Answer}
 use Rattle.dfu_device.specs.DeviceView.{DeviceView}
 use Rattle.dfu_asks.specs.declared.reply.Reply.TheVariants as reply
 use Rattle.dfu_asks.specs.Lent.{LentDevice, lent}
-use Rattle.dfu_asks.specs.Due.{Fails}
+use Rattle.dfu_asks.specs.Due.{DueRowFails}
 use Rattle.dfu_asks.specs.Steps.{Step}
 use Rattle.dfu_asks.specs.declared.pending_writes.PendingWrites.{PendingWrites}
-use Rattle.dfu_asks.specs.Carried.{total, carried, IsReached}
-use Rattle.dfu_asks.specs.Asks.{writes_in, steps_in, device_in, device_of, IsWorking}
-use Rattle.dfu_asks.specs.Calls.{CallCompleted, DevicePieceReported, took_well, took_failed, took_lied}
-use Rattle.dfu_asks.proofs.Pieces.{reached_step}
-use Rattle.dfu_asks.proofs.Calling.{same_work, is_true, is_false, one_piece, next_size, taken_from, piece_failed, piece_stands}
+use Rattle.dfu_asks.specs.Carried.{total, bytes_after_writes, EndsAtPiece}
+use Rattle.dfu_asks.specs.Asks.{writes_in, steps_in, device_in, device_of, IsWorkingForRow}
+use Rattle.dfu_asks.specs.Calls.{CallCompleted, DevicePieceReported, piece_stood, piece_failed_on_flash, piece_not_on_flash}
+use Rattle.dfu_asks.proofs.Pieces.{next_piece_ends_at_piece}
+use Rattle.dfu_asks.proofs.Calling.{kept_work_is_unique, true_test_holds, not_true_if_false, asked_piece_is_unique, next_piece_size, piece_taken_from_device, failed_piece_ends_row, standing_piece_goes_on}
 use Rattle.dfu_asks.proofs.asking.Asking.took.Goals as goal
 
 -- A piece that did not go well, and did not fail, is not on the flash.
-not_there : (failed stands : Bool) → not failed && stands ≡ false → failed ≡ false → stands ≡ false
-not_there true stands e works = cc
-not_there false stands e works = e
+unfailed_bad_piece_not_there : (failed stands : Bool) → not failed && stands ≡ false → failed ≡ false → stands ≡ false
+unfailed_bad_piece_not_there true stands e works = cc
+unfailed_bad_piece_not_there false stands e works = e
 
 -- A piece that went well did not fail.
 works : (failed stands : Bool) → not failed && stands ≡ true → failed ≡ false
 works true stands e = cc
 works false stands e = refl
 
--- And it is on the flash.
-on_flash : (failed stands : Bool) → not failed && stands ≡ true → stands ≡ true
-on_flash true stands e = cc
-on_flash false stands e = e
+-- A piece that went well is on the flash.
+well_piece_is_on_flash : (failed stands : Bool) → not failed && stands ≡ true → stands ≡ true
+well_piece_is_on_flash true stands e = cc
+well_piece_is_on_flash false stands e = e
 
 -- The row ends with the fault of a piece that failed, or that is not on the flash.
-took_badly : (d : DeviceView) (len : ℕ) (s : SlotsState) (was : List ℕ) (p : Write) (failed : Bool) (flash out : List ℕ) (now : LentDevice)
+bad_piece_ends_row : (d : DeviceView) (len : ℕ) (s : SlotsState) (was : List ℕ) (p : Write) (failed : Bool) (flash out : List ℕ) (now :
+    LentDevice)
     (out' : List ℕ) (x : Answer) (count : ℕ) (fault : WriteFault) → fault ≡ (if failed then Failed else NotVerified)
     → (failed ≡ false → ¬ (slice_range flash p.at (p.at + length p.bytes) ≡ p.bytes))
-    → CallCompleted flash x count out out' now (λ y sent. Fails fault len d y sent (device_in now flash))
+    → CallCompleted flash x count out out' now (λ y sent. DueRowFails fault len d y sent (device_in now flash))
     → DevicePieceReported d len s was p failed flash out now out' (reply.Answered x count)
-took_badly d len s was p true flash out now out' x count fault is other ended =
-    took_failed x count refl refl
-    (subst (λ (f : WriteFault). CallCompleted flash x count out out' now (λ y sent. Fails f len d y sent (device_in now flash))) is ended)
-took_badly d len s was p false flash out now out' x count fault is other ended =
-    took_lied x count refl (other refl) refl
-    (subst (λ (f : WriteFault). CallCompleted flash x count out out' now (λ y sent. Fails f len d y sent (device_in now flash))) is ended)
+bad_piece_ends_row d len s was p true flash out now out' x count fault is other ended =
+    piece_failed_on_flash x count refl refl
+    (subst (λ (f : WriteFault). CallCompleted flash x count out out' now (λ y sent. DueRowFails f len d y sent (device_in now flash))) is
+    ended)
+bad_piece_ends_row d len s was p false flash out now out' x count fault is other ended =
+    piece_not_on_flash x count refl (other refl) refl
+    (subst (λ (f : WriteFault). CallCompleted flash x count out out' now (λ y sent. DueRowFails f len d y sent (device_in now flash))) is
+    ended)
 
 pub returns-then-not-went_well-clause-outcome : goal.returns-then-not-went_well-clause-outcome
 returns-then-not-went_well-clause-outcome c = λ len s was before asks p piece torn.
     let a = lent c.args.self.now c.args.block.now c.args.held.now in
     let w = c.in-Some.work in
     let nx = c.look_at-len.ensures.next (omega (arith, c.if-len-eq0.false)) in
-    let same : asks.work ≡ w = same_work asks.work w (sym asks.work_is ∙ c.in-Some.is) in
+    let same : asks.work ≡ w = kept_work_is_unique asks.work w (sym asks.work_is ∙ c.in-Some.is) in
     let q = nx.piece in
-    let one : p ≡ q = one_piece a w asks.work p q same piece nx.is in
+    let one : p ≡ q = asked_piece_is_unique a w asks.work p q same piece nx.is in
     let fail = c.fail-answer in
     let now = lent fail.new.self c.args.block.now c.args.held.now in
-    took_badly (device_of a s) len s was p.write c.args.failed c.args.flash.now c.args.out.now now fail.new.out
+    bad_piece_ends_row (device_of a s) len s was p.write c.args.failed c.args.flash.now c.args.out.now now fail.new.out
     fail.result.0 fail.result.1 c.fault_of.result c.fault_of.ensures
-    (λ works st. is_false c.look_at-len.result.1
-    (not_there c.args.failed c.look_at-len.result.1 (sym c.went_well.ensures ∙ c.if-not-went_well.true) works)
+    (λ works st. not_true_if_false c.look_at-len.result.1
+    (unfailed_bad_piece_not_there c.args.failed c.look_at-len.result.1 (sym c.went_well.ensures ∙ c.if-not-went_well.true) works)
     (nx.there.1
     (subst (λ (y : Step). slice_range c.args.flash.now y.write.at (y.write.at + length y.write.bytes) ≡ y.write.bytes) one st)))
-    (piece_failed a len s was before asks p piece c.args.flash.now torn c.fault_of.result now w.asked
+    (failed_piece_ends_row a len s was before asks p piece c.args.flash.now torn c.fault_of.result now w.asked
     fail.result.0 fail.result.1 c.args.out.now fail.new.out (ap (λ (x : PendingWrites). x.asked) same)
     (fail.ensures.broken c.args.block.now c.args.held.now) (fail.ensures.notes c.args.block.now c.args.held.now) fail.ensures.gives)
 
@@ -72,35 +75,35 @@ returns-clause-outcome c = λ len s was before asks p piece torn.
     let w = c.in-Some.work in
     let nx = c.look_at-len.ensures.next (omega (arith, c.if-len-eq0.false)) in
     let n = c.look_at-len.result.0 in
-    let same : asks.work ≡ w = same_work asks.work w (sym asks.work_is ∙ c.in-Some.is) in
+    let same : asks.work ≡ w = kept_work_is_unique asks.work w (sym asks.work_is ∙ c.in-Some.is) in
     let q = nx.piece in
-    let one : p ≡ q = one_piece a w asks.work p q same piece nx.is in
-    let on = is_true c.look_at-len.result.1
-    (on_flash c.args.failed c.look_at-len.result.1 (sym c.went_well.ensures ∙ c.if-not-went_well.false)) in
+    let one : p ≡ q = asked_piece_is_unique a w asks.work p q same piece nx.is in
+    let on = true_test_holds c.look_at-len.result.1
+    (well_piece_is_on_flash c.args.failed c.look_at-len.result.1 (sym c.went_well.ensures ∙ c.if-not-went_well.false)) in
     let there : slice_range flash p.write.at (p.write.at + length p.write.bytes) ≡ p.write.bytes =
     subst (λ (y : Step). slice_range flash y.write.at (y.write.at + length y.write.bytes) ≡ y.write.bytes) (sym one)
     (nx.there.0 on) in
-    let size : length p.write.bytes ≡ n = next_size a w asks.work p flash _ _ same piece nx in
+    let size : length p.write.bytes ≡ n = next_piece_size a w asks.work p flash _ _ same piece nx in
     let fits : p.write.at + length p.write.bytes ≤ length flash =
     omega (arith, nx.within on, ap (λ (y : Step). y.write.at) one, size) in
-    let k : IsWorking a w len s was = subst (λ (x : PendingWrites). IsWorking a x len s was) same asks.working in
+    let k : IsWorkingForRow a w len s was = subst (λ (x : PendingWrites). IsWorkingForRow a x len s was) same asks.working in
     let further : PendingWrites = record { job = w.job; asked = w.asked; done = w.done + n } in
-    let stood : flash ≡ carried was (writes_in a w) (w.done + length p.write.bytes) =
-    subst (λ (x : PendingWrites). flash ≡ carried was (writes_in a x) (x.done + length p.write.bytes)) same
-    (piece_stands a len s was before asks p piece flash torn fits there) in
-    took_well (works c.args.failed c.look_at-len.result.1 (sym c.went_well.ensures ∙ c.if-not-went_well.false)) there
+    let stood : flash ≡ bytes_after_writes was (writes_in a w) (w.done + length p.write.bytes) =
+    subst (λ (x : PendingWrites). flash ≡ bytes_after_writes was (writes_in a x) (x.done + length p.write.bytes)) same
+    (standing_piece_goes_on a len s was before asks p piece flash torn fits there) in
+    piece_stood (works c.args.failed c.look_at-len.result.1 (sym c.went_well.ensures ∙ c.if-not-went_well.false)) there
     (c.advance.ensures.outcome further len s was refl
     (record { medium = k.medium; store = k.store; sound = k.sound; due = k.due; noted = k.noted })
-    (stood ∙ ap (λ (m : ℕ). carried was (writes_in a w) (w.done + m)) size)
-    (subst (λ (m : ℕ). IsReached (steps_in a w) (w.done + m)) size
-    (subst (λ (x : PendingWrites). IsReached (steps_in a x) (x.done + length p.write.bytes)) same
-    (reached_step (steps_in a asks.work) asks.work.done p asks.reached piece))))
+    (stood ∙ ap (λ (m : ℕ). bytes_after_writes was (writes_in a w) (w.done + m)) size)
+    (subst (λ (m : ℕ). EndsAtPiece (steps_in a w) (w.done + m)) size
+    (subst (λ (x : PendingWrites). EndsAtPiece (steps_in a x) (x.done + length p.write.bytes)) same
+    (next_piece_ends_at_piece (steps_in a asks.work) asks.work.done p asks.reached piece))))
 
 pub returns-then-not-went_well-clause-taken : goal.returns-then-not-went_well-clause-taken
 returns-then-not-went_well-clause-taken c =
     let w = c.in-Some.work in
     let nx = c.look_at-len.ensures.next (omega (arith, c.if-len-eq0.false)) in
-    taken_from (lent c.args.self.now c.args.block.now c.args.held.now) w nx.piece (length c.args.out.now)
+    piece_taken_from_device (lent c.args.self.now c.args.block.now c.args.held.now) w nx.piece (length c.args.out.now)
     (omega (arith, c.if-out-lt6.false)) c.in-Some.is nx.is
 
 pub returns-then-not-went_well-clause-on : goal.returns-then-not-went_well-clause-on
@@ -108,10 +111,10 @@ returns-then-not-went_well-clause-on c = λ w p is piece.
     let a = lent c.args.self.now c.args.block.now c.args.held.now in
     let v = c.in-Some.work in
     let nx = c.look_at-len.ensures.next (omega (arith, c.if-len-eq0.false)) in
-    let one : p ≡ nx.piece = one_piece a v w p nx.piece (same_work w v (sym is ∙ c.in-Some.is)) piece nx.is in (
+    let one : p ≡ nx.piece = asked_piece_is_unique a v w p nx.piece (kept_work_is_unique w v (sym is ∙ c.in-Some.is)) piece nx.is in (
       λ asks. cc,
-      λ on. absurd (is_false c.look_at-len.result.1
-          (not_there c.args.failed c.look_at-len.result.1 (sym c.went_well.ensures ∙ c.if-not-went_well.true) on.well)
+      λ on. absurd (not_true_if_false c.look_at-len.result.1
+          (unfailed_bad_piece_not_there c.args.failed c.look_at-len.result.1 (sym c.went_well.ensures ∙ c.if-not-went_well.true) on.well)
           (nx.there.1
           (subst (λ (y : Step). slice_range c.args.flash.now y.write.at (y.write.at + length y.write.bytes) ≡ y.write.bytes)
           one on.stands))),
@@ -122,17 +125,17 @@ returns-clause-on c = λ w p is piece.
     let a = lent c.args.self.now c.args.block.now c.args.held.now in
     let v = c.in-Some.work in
     let nx = c.look_at-len.ensures.next (omega (arith, c.if-len-eq0.false)) in
-    let same = same_work w v (sym is ∙ c.in-Some.is) in
-    let one : p ≡ nx.piece = one_piece a v w p nx.piece same piece nx.is in
-    let size : length p.write.bytes ≡ c.look_at-len.result.0 = next_size a v w p c.args.flash.now _ _ same piece nx in
+    let same = kept_work_is_unique w v (sym is ∙ c.in-Some.is) in
+    let one : p ≡ nx.piece = asked_piece_is_unique a v w p nx.piece same piece nx.is in
+    let size : length p.write.bytes ≡ c.look_at-len.result.0 = next_piece_size a v w p c.args.flash.now _ _ same piece nx in
     let further : PendingWrites = record { job = v.job; asked = v.asked; done = v.done + c.look_at-len.result.0 } in
     let all : total (writes_in a w) ≡ total (writes_in a v) = ap (λ (x : PendingWrites). total (writes_in a x)) same in
     let done : w.done ≡ v.done = ap (λ (x : PendingWrites). x.done) same in (
       λ asks. record {
         well = (works c.args.failed c.look_at-len.result.1 (sym c.went_well.ensures ∙ c.if-not-went_well.false));
         stands = subst (λ (y : Step). slice_range c.args.flash.now y.write.at (y.write.at + length y.write.bytes) ≡ y.write.bytes) (sym one)
-            (nx.there.0 (is_true c.look_at-len.result.1
-            (on_flash c.args.failed c.look_at-len.result.1 (sym c.went_well.ensures ∙ c.if-not-went_well.false))));
+            (nx.there.0 (true_test_holds c.look_at-len.result.1
+            (well_piece_is_on_flash c.args.failed c.look_at-len.result.1 (sym c.went_well.ensures ∙ c.if-not-went_well.false))));
         more = omega (arith, (c.advance.ensures.more further refl).0 asks, size, all, done);
       },
       λ on. (c.advance.ensures.more further refl).1 (omega (arith, on.more, size, all, done)),
@@ -140,9 +143,9 @@ returns-clause-on c = λ w p is piece.
 
 pub returns-clause-further : goal.returns-clause-further
 returns-clause-further c = λ asks w p is piece.
-    let same = same_work w c.in-Some.work (sym is ∙ c.in-Some.is) in
+    let same = kept_work_is_unique w c.in-Some.work (sym is ∙ c.in-Some.is) in
     let size : length p.write.bytes ≡ c.look_at-len.result.0 =
-    next_size (lent c.args.self.now c.args.block.now c.args.held.now) c.in-Some.work w p c.args.flash.now _ _ same piece
+    next_piece_size (lent c.args.self.now c.args.block.now c.args.held.now) c.in-Some.work w p c.args.flash.now _ _ same piece
     (c.look_at-len.ensures.next (omega (arith, c.if-len-eq0.false))) in
     c.advance.ensures.kept asks
     ∙ (λ i. Some (record { job = (sym same i).job; asked = (sym same i).asked; done = (sym same i).done + sym size i }))
@@ -154,7 +157,7 @@ returns-then-len-eq0-clause-refused c =
     let le = c.look_at-len.ensures.none c.if-len-eq0.true in (
       omega (arith, c.if-out-lt6.false),
       λ w left.
-          let same : w ≡ v = same_work w v (sym left.work_is ∙ c.in-Some.is) in
+          let same : w ≡ v = kept_work_is_unique w v (sym left.work_is ∙ c.in-Some.is) in
           omega (arith, le, left.left, ap (λ (x : PendingWrites). x.done) same, ap (λ (x : PendingWrites). total (writes_in a x)) same),
     )
 
@@ -162,5 +165,5 @@ pub returns-clause-taken : goal.returns-clause-taken
 returns-clause-taken c =
     let w = c.in-Some.work in
     let nx = c.look_at-len.ensures.next (omega (arith, c.if-len-eq0.false)) in
-    taken_from (lent c.args.self.now c.args.block.now c.args.held.now) w nx.piece (length c.args.out.now)
+    piece_taken_from_device (lent c.args.self.now c.args.block.now c.args.held.now) w nx.piece (length c.args.out.now)
     (omega (arith, c.if-out-lt6.false)) c.in-Some.is nx.is

@@ -1,11 +1,11 @@
 use Rattle.std.proofs.Common.{◌/◌, [], length, sym, arith}
 use Rattle.dfu_asks.specs.declared.formatting.FormatStep.TheVariants.{CloseSecond}
-use Rattle.dfu_asks.specs.Mapped.{grain_of, mapped}
+use Rattle.dfu_asks.specs.Mapped.{grain_of, mapped_medium}
 use Rattle.dfu_asks.specs.Steps.{step_writes}
-use Rattle.dfu_asks.specs.Phases.{steps_from, format_steps}
-use Rattle.dfu_asks.proofs.Pieces.{reached_none}
-use Rattle.dfu_asks.proofs.Carrying.{carried_none}
-use Rattle.dfu_asks.proofs.FormatGoing.{close_some}
+use Rattle.dfu_asks.specs.Phases.{format_steps_from, format_steps}
+use Rattle.dfu_asks.proofs.Pieces.{no_piece_reached}
+use Rattle.dfu_asks.proofs.Carrying.{no_bytes_carried}
+use Rattle.dfu_asks.proofs.FormatGoing.{close_step_has_bytes}
 use Rattle.dfu_asks.proofs.formatting.Formatting.start.Goals as goal
 
 pub returns-clause-asks : goal.returns-clause-asks
@@ -18,9 +18,9 @@ returns-clause-asks c =
         can = record { sized = c.in_default.ensures.none.sized; fits = c.in_default.ensures.none.fits };
         sum = c.register_of.ensures;
         front = [];
-        series = λ i. steps_from w (length flash / 2) image (sym c.register_of.ensures i) CloseSecond;
-        reached = reached_none (steps_from w (length flash / 2) image c.register_of.result CloseSecond);
-        flash_is = sym (carried_none (step_writes (format_steps (mapped w flash) image)) flash);
+        series = λ i. format_steps_from w (length flash / 2) image (sym c.register_of.ensures i) CloseSecond;
+        reached = no_piece_reached (format_steps_from w (length flash / 2) image c.register_of.result CloseSecond);
+        flash_is = sym (no_bytes_carried (step_writes (format_steps (mapped_medium w flash) image)) flash);
       };
-      left = omega (arith, close_some w (length flash / 2));
+      left = omega (arith, close_step_has_bytes w (length flash / 2));
     }

@@ -1,9 +1,9 @@
 use Rattle.std.proofs.Common.{◌-◌}
-use Rattle.dfu_boot.proofs.Looking.{IsBlankTo}
+use Rattle.dfu_boot.proofs.Looking.{IsBlankUpTo}
 use Rattle.dfu_boot.proofs.install.area.are_blank.Given as goal
 
 abbrev pub invariant-loop-at : goal.invariant-loop-at
-invariant-loop-at l = IsBlankTo l.run l.from l.at
+invariant-loop-at l = IsBlankUpTo l.run l.from l.at
 
 abbrev pub decreases-loop-at : goal.decreases-loop-at
 decreases-loop-at l = l.to - l.at

@@ -1,15 +1,15 @@
 use Rattle.std.proofs.Common.{◌-◌}
-use Rattle.dfu_boot.proofs.Looking.{IsSameTo}
+use Rattle.dfu_boot.proofs.Looking.{MatchesImageUpTo}
 use Rattle.dfu_boot.proofs.install.compare.first_difference.Given as goal
 
 abbrev pub invariant-loop-at : goal.invariant-loop-at
-invariant-loop-at l = IsSameTo l.image l.run l.from l.at
+invariant-loop-at l = MatchesImageUpTo l.image l.run l.from l.at
 
 abbrev pub decreases-loop-at : goal.decreases-loop-at
 decreases-loop-at l = l.to - l.at
 
 abbrev pub invariant-loop-at-2 : goal.invariant-loop-at-2
-invariant-loop-at-2 l = IsSameTo l.image l.run l.from l.at
+invariant-loop-at-2 l = MatchesImageUpTo l.image l.run l.from l.at
 
 abbrev pub decreases-loop-at-2 : goal.decreases-loop-at-2
 decreases-loop-at-2 l = l.to - l.at

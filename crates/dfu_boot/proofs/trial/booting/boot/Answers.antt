@@ -2,23 +2,24 @@ use Rattle.std.proofs.Common.{◌≡◌, ◌⊎◌, inl, inr, ℕ, Option, Some,
 use Rattle.dfu_slots.specs.Medium.{MediumState}
 use Rattle.dfu_slots.specs.declared.medium.Failed.{Failed}
 use Rattle.dfu_boot.specs.trial.Calls.{MediumAccepts, MarkIsWithin, trial_start, runs_in}
-use Rattle.dfu_boot.specs.trial.Laws.{CarriedIf, Starts, HasWorked, HasFailed}
+use Rattle.dfu_boot.specs.trial.Laws.{AskedResult, StartOutcome, OperationReportedOk, OperationReportedFailed}
 use Rattle.dfu_boot.specs.declared.trial.operation.Operation.{Operation}
 use Rattle.dfu_boot.specs.declared.trial.starting.Starting.{Starting}
-use Rattle.dfu_boot.proofs.Tried.{tried_runs, tried_asks}
-use Rattle.dfu_boot.proofs.Starts.{starts_so, starts_has, within_kept}
-use Rattle.dfu_boot.proofs.Fitting.{stands_fits}
+use Rattle.dfu_boot.proofs.Tried.{start_runs_image_on_trial, start_on_trial_asks_mark}
+use Rattle.dfu_boot.proofs.Starts.{start_outcome, image_active_after_start, mark_within_medium}
+use Rattle.dfu_boot.proofs.Fitting.{standing_fits_slots}
 use Rattle.dfu_boot.proofs.trial.booting.boot.Goals as goal
 
--- Whatever it answered, it worked or failed.
-either_came : (m now : MediumState) (o : Operation) (r : Result (Unit {0}) Failed) → OnOk r (HasWorked m o now) → OnErr r (HasFailed m o now)
-    → HasWorked m o now ⊎ HasFailed m o now
-either_came m now o (Ok x) worked failed = inl worked
-either_came m now o (Err e) worked failed = inr failed
+-- Whatever an operation answered, it was reported to work or to fail.
+operation_worked_or_failed : (m now : MediumState) (o : Operation) (r : Result (Unit {0}) Failed) → OnOk r (OperationReportedOk m o now)
+    → OnErr r (OperationReportedFailed m o now)
+    → OperationReportedOk m o now ⊎ OperationReportedFailed m o now
+operation_worked_or_failed m now o (Ok x) worked failed = inl worked
+operation_worked_or_failed m now o (Err e) worked failed = inr failed
 
 pub start-starting-requires-clause-stands : goal.start-starting-requires-clause-stands
 start-starting-requires-clause-stands g c =
-    stands_fits (g.M.Medium.state c.args.medium.now) c.args.tries c.in_ok-standing.standing c.in_ok-standing.ensures.standing
+    standing_fits_slots (g.M.Medium.state c.args.medium.now) c.args.tries c.in_ok-standing.standing c.in_ok-standing.ensures.standing
 
 pub carry_out-requires-clause-taken : goal.carry_out-requires-clause-taken
 carry_out-requires-clause-taken g c =
@@ -35,7 +36,7 @@ runs-requires g c =
     let m = g.M.Medium.state c.args.medium.now in
     let now = g.M.Medium.state c.carry_out.new.medium in
     subst (λ (o : Option Operation). IfSome o (λ op. MarkIsWithin now op)) (sym c.in-Some.is)
-    (within_kept m now c.in-Some.operation c.carry_out.ensures.carried
+    (mark_within_medium m now c.in-Some.operation c.carry_out.ensures.carried
     (subst (λ (o : Option Operation). IfSome o (λ op. MarkIsWithin m op)) c.in-Some.is c.start-starting.ensures.within))
 
 pub returns-in-Some-clause-booted : goal.returns-in-Some-clause-booted
@@ -43,21 +44,22 @@ returns-in-Some-clause-booted g c =
     let m = g.M.Medium.state c.args.medium.now in
     let now = g.M.Medium.state c.carry_out.new.medium in
     let s = c.in_ok-standing.standing in
-    let carried : CarriedIf m c.start-starting.result.operation now =
-    subst (λ (o : Option Operation). CarriedIf m o now) (sym c.in-Some.is) c.carry_out.ensures.carried in
+    let carried : AskedResult m c.start-starting.result.operation now =
+    subst (λ (o : Option Operation). AskedResult m o now) (sym c.in-Some.is) c.carry_out.ensures.carried in
     record {
       standing = s;
       stands = c.in_ok-standing.ensures.standing;
-      starts = subst (λ (ran : ℕ). Starts m c.args.tries s now ran) (sym c.runs.ensures)
-          (subst (λ (x : Starting). CarriedIf m x.operation now → Starts m c.args.tries s now (runs_in now x x.operation))
+      starts = subst (λ (ran : ℕ). StartOutcome m c.args.tries s now ran) (sym c.runs.ensures)
+          (subst (λ (x : Starting). AskedResult m x.operation now → StartOutcome m c.args.tries s now (runs_in now x x.operation))
           (sym c.start-starting.ensures.value)
-          (starts_so m now c.args.tries c.requires.tries s c.in_ok-standing.ensures.standing) carried);
+          (start_outcome m now c.args.tries c.requires.tries s c.in_ok-standing.ensures.standing) carried);
     }
 
 pub returns-in-Some-clause-image : goal.returns-in-Some-clause-image
 returns-in-Some-clause-image g c =
     let booted = returns-in-Some-clause-booted g c in
-    starts_has (g.M.Medium.state c.args.medium.now) (g.M.Medium.state c.carry_out.new.medium) c.args.tries c.requires.tries booted.standing
+    image_active_after_start (g.M.Medium.state c.args.medium.now) (g.M.Medium.state c.carry_out.new.medium) c.args.tries c.requires.tries
+    booted.standing
     c.runs.result booted.stands booted.starts
 
 pub returns-in-Some-clause-tried : goal.returns-in-Some-clause-tried
@@ -69,12 +71,12 @@ returns-in-Some-clause-tried g c t trial left whole =
     ap (λ (x : Starting). x.operation) (sym c.start-starting.ensures.value) ∙ c.in-Some.is in
     let within = subst (λ (o : Option Operation). IfSome o (λ op. MarkIsWithin m op)) c.in-Some.is c.start-starting.ensures.within in
     c.runs.ensures ∙ ap (λ (x : Starting). runs_in now x x.operation) c.start-starting.ensures.value
-    ∙ tried_runs m now c.args.tries t left whole s c.in-Some.operation c.in_ok-standing.ensures.standing trial asked within
-    (either_came m now c.in-Some.operation c.carry_out.result c.carry_out.ensures.worked c.carry_out.ensures.failed)
+    ∙ start_runs_image_on_trial m now c.args.tries t left whole s c.in-Some.operation c.in_ok-standing.ensures.standing trial asked within
+    (operation_worked_or_failed m now c.in-Some.operation c.carry_out.result c.carry_out.ensures.worked c.carry_out.ensures.failed)
 
 pub returns-in-None-clause-tried : goal.returns-in-None-clause-tried
 returns-in-None-clause-tried g c t trial left whole =
     let m = g.M.Medium.state c.args.medium.now in
-    let asks = tried_asks m m c.args.tries t left whole c.in_ok-standing.standing c.in_ok-standing.ensures.standing trial in
+    let asks = start_on_trial_asks_mark m m c.args.tries t left whole c.in_ok-standing.standing c.in_ok-standing.ensures.standing trial in
     let none = ap (λ (x : Starting). x.operation) (sym c.start-starting.ensures.value) ∙ c.in-None.is in
     absurd (cc)

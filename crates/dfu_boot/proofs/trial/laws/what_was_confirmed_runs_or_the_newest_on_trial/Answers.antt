@@ -1,15 +1,15 @@
-use Rattle.dfu_boot.proofs.Unique.{trusted_trial}
-use Rattle.dfu_boot.proofs.Lists.{trusted_first, all_trusted, trusted_has}
+use Rattle.dfu_boot.proofs.Unique.{trial_images_are_trusted}
+use Rattle.dfu_boot.proofs.Lists.{confirmed_image_is_trusted, course_keeps_trusted_images, trusted_medium_has_image}
 use Rattle.dfu_boot.proofs.trial.laws.what_was_confirmed_runs_or_the_newest_on_trial.Goals as goal
 
 pub returns-clause-first : goal.returns-clause-first
-returns-clause-first c m tries s stands confirmed = trusted_first m tries s stands confirmed
+returns-clause-first c m tries s stands confirmed = confirmed_image_is_trusted m tries s stands confirmed
 
 pub returns-clause-tried : goal.returns-clause-tried
-returns-clause-tried c m tries t image stands active = trusted_trial m tries t image stands active
+returns-clause-tried c m tries t image stands active = trial_images_are_trusted m tries t image stands active
 
 pub returns-clause-list : goal.returns-clause-list
-returns-clause-list c m tries trust steps are has came = all_trusted m tries trust steps are has came
+returns-clause-list c m tries trust steps are has came = course_keeps_trusted_images m tries trust steps are has came
 
 pub returns-clause-image : goal.returns-clause-image
-returns-clause-image c m tries trust has = trusted_has m tries trust has
+returns-clause-image c m tries trust has = trusted_medium_has_image m tries trust has

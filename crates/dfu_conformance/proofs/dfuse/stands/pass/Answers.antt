@@ -1,9 +1,9 @@
 use Rattle.std.proofs.Common.{arith}
-use Rattle.dfu_conformance.specs.inside.DfuseStep.{leads_to}
-use Rattle.dfu_conformance.proofs.DfusePasses.{one_row}
+use Rattle.dfu_conformance.specs.inside.DfuseStep.{row_leads_to}
+use Rattle.dfu_conformance.proofs.DfusePasses.{test_after_next_row}
 use Rattle.dfu_conformance.proofs.dfuse.stands.pass.Goals as goal
 
 pub loop-row-preserved : goal.loop-row-preserved
 loop-row-preserved c n =
-    one_row (leads_to c.args.before.now c.args.event.now n) c.args.rows.now c.loop-row.row-index _ _ _ _ (omega arith)
+    test_after_next_row (row_leads_to c.args.before.now c.args.event.now n) c.args.rows.now c.loop-row.row-index _ _ _ _ (omega arith)
     (c.loop-row.invariant n) (c.go.ensures n)

@@ -4,11 +4,11 @@ use Rattle.std.proofs.lemmas.List.{take_more, take_all}
 use Rattle.dfu_conformance.specs.declared.event.LogEvent.{LogEvent}
 use Rattle.dfu_conformance.specs.dfuse.Runs.{DfuseCanAnswer}
 use Rattle.dfu_conformance.specs.dfuse.Verdicts.{PlacesExact}
-use Rattle.dfu_conformance.proofs.DfuseVerdicts.{can_nothing, is_first}
+use Rattle.dfu_conformance.proofs.DfuseVerdicts.{no_event_answered, departure_is_first}
 use Rattle.dfu_conformance.proofs.dfuse.whole.first_departure.Goals as goal
 
 pub loop-n-init : goal.loop-n-init
-loop-n-init c = record { can = can_nothing; held = c.new-judge.ensures }
+loop-n-init c = record { can = no_event_answered; held = c.new-judge.ensures }
 
 pub loop-n-preserved : goal.loop-n-preserved
 loop-n-preserved c =
@@ -26,7 +26,7 @@ returns-in-Some-clause-departs c =
     let events = c.args.events.now in
     let n = c.loop-n.n in
     let below : n < length events = omega arith in
-    is_first events n _ c.in-Some.departure c.take.new.self.at below c.loop-n.invariant.can (take_more events n _ below)
+    departure_is_first events n _ c.in-Some.departure c.take.new.self.at below c.loop-n.invariant.can (take_more events n _ below)
     c.in-Some.ensures.departs.0 (c.in-Some.ensures.departs.1 (take n events) c.loop-n.invariant.held)
 
 pub returns-clause-kept : goal.returns-clause-kept

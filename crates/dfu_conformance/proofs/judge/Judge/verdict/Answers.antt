@@ -1,23 +1,24 @@
 use Rattle.std.proofs.Common.{sym, subst, ◌∙◌}
-use Rattle.dfu_conformance.specs.Candidates.{Judged}
+use Rattle.dfu_conformance.specs.Candidates.{JudgedDevices}
 use Rattle.dfu_conformance.specs.MayAnswer.{CandidatesExact}
-use Rattle.dfu_conformance.proofs.Verdicts.{has_bits, is_kept, is_kept_by, is_not_kept}
+use Rattle.dfu_conformance.proofs.Verdicts.{least_set_has_six_bits, device_is_kept, device_kept_by_readings, device_is_not_kept}
 use Rattle.dfu_conformance.proofs.judge.Judge.verdict.Goals as goal
 
 pub returns-then-is_any_held-clause-is : goal.returns-then-is_any_held-clause-is
 returns-then-is_any_held-clause-is c events so =
-    is_kept c.self.inside.whole events (subst (λ (w : Judged). CandidatesExact w.whole events) (sym c.self.view_is) so)
+    device_is_kept c.self.inside.whole events (subst (λ (w : JudgedDevices). CandidatesExact w.whole events) (sym c.self.view_is) so)
     (sym c.is_any_held.ensures ∙ c.if-is_any_held.true)
 
 pub returns-in-Some-clause-is : goal.returns-in-Some-clause-is
 returns-in-Some-clause-is c events so =
-    is_kept_by c.self.inside.whole events c.in-Some.readings (subst (λ (w : Judged). CandidatesExact w.whole events) (sym c.self.view_is) so)
+    device_kept_by_readings c.self.inside.whole events c.in-Some.readings
+    (subst (λ (w : JudgedDevices). CandidatesExact w.whole events) (sym c.self.view_is) so)
     (sym c.is_any_held.ensures ∙ c.if-is_any_held.false) (sym c.in-Some.is ∙ c.least_held.ensures)
 
 pub returns-in-Some-clause-bits : goal.returns-in-Some-clause-bits
-returns-in-Some-clause-bits c = has_bits c.self.inside.whole c.in-Some.readings (sym c.in-Some.is ∙ c.least_held.ensures)
+returns-in-Some-clause-bits c = least_set_has_six_bits c.self.inside.whole c.in-Some.readings (sym c.in-Some.is ∙ c.least_held.ensures)
 
 pub returns-in-None-clause-is : goal.returns-in-None-clause-is
 returns-in-None-clause-is c events so =
-    is_not_kept c.self.inside.whole events (subst (λ (w : Judged). CandidatesExact w.whole events) (sym c.self.view_is) so)
+    device_is_not_kept c.self.inside.whole events (subst (λ (w : JudgedDevices). CandidatesExact w.whole events) (sym c.self.view_is) so)
     (sym c.in-None.is ∙ c.least_held.ensures)

@@ -3,11 +3,11 @@ use Rattle.dfu_slots.specs.StoreView.{image_of, spare_of, room_of}
 use Rattle.dfu_device.specs.declared.answer.Answer.TheVariants as answer
 use Rattle.dfu_device.specs.Stage.{status_of}
 use Rattle.dfu_device.specs.DeviceView.{profile}
-use Rattle.dfu_device.specs.Rows.{Answers}
-use Rattle.dfu_device.specs.inside.View.{shown}
+use Rattle.dfu_device.specs.Rows.{ReplyAnswer}
+use Rattle.dfu_device.specs.inside.View.{view_of_core}
 use Rattle.dfu_device.specs.Decision.{HasTimeInputs}
 use Rattle.dfu_device.proofs.Carried.{holds_time}
-use Rattle.dfu_device.proofs.StatusBytes.{front_fits, front_stands}
+use Rattle.dfu_device.proofs.StatusBytes.{status_front_fits_vector, front_stands}
 use Rattle.dfu_device.proofs.device_core.DeviceCore.give.Goals as goal
 
 pub copy_image-requires-clause-most : goal.copy_image-requires-clause-most
@@ -21,15 +21,15 @@ copy_image-requires-clause-most g c = omega (
 pub returns-in-Status : goal.returns-in-Status
 returns-in-Status g c =
     let d = c.args.self.now in
-    let w = shown d in
+    let w = view_of_core d in
     let sent = c.try_extend_from_slice in
     let asked = c.in-Status.asked in
     let bytes = c.status_in-bytes.result in
     let count : c.min.result ≡ min asked 6 = c.min.ensures ∙ ap (λ (n : ℕ). min n 6) c.from.ensures in
-    rw c.in-Status.is (subst (λ (l : List ℕ). Answers asked (status_of (profile w) w.stage) answer.Bytes l)
+    rw c.in-Status.is (subst (λ (l : List ℕ). ReplyAnswer asked (status_of (profile w) w.stage) answer.Bytes l)
     (sym (front_stands sent.result asked c.min.result bytes c.args.out.now.items sent.new.self.items count
     c.status_in-bytes.ensures.size c.requires.out
-    (sent.ensures.variant.1 (front_fits asked c.min.result bytes c.args.out.now.items count c.requires.out)) sent.ensures.ok))
+    (sent.ensures.variant.1 (status_front_fits_vector asked c.min.result bytes c.args.out.now.items count c.requires.out)) sent.ensures.ok))
     (c.status_in-bytes.ensures.answers (room_of w.slots) (spare_of w.slots) c.args.self.now.block.items asked
     (subst (λ (l : List ℕ). HasTimeInputs d.mode (length l) (spare_of w.slots) d.block.items) (sym c.as_slice.ensures.value)
     (holds_time d.mode d.block.items w.slots d.sound))))

@@ -3,32 +3,33 @@ use Rattle.std.specs.Prelude.{find}
 use Rattle.dfu_suffix.specs.Grammar.{has_fault, fault_order}
 use Rattle.dfu_suffix.specs.declared.fault.SuffixFault.{SuffixFault}
 use Rattle.dfu_formats.specs.dfuse.Reading.{suffix_by}
-use Rattle.dfu_formats.proofs.SuffixLaws.{no_fault, is_other, other_fault, the_fault, is_the_fault, long_enough}
+use Rattle.dfu_formats.proofs.SuffixLaws.{read_file_has_no_fault, no_fault_is_not_dfuse, other_fault_refused_by_name, dfuse_fault_checks_crc, dfuse_test_names_fault, dfuse_fault_needs_suffix_length}
 use Rattle.dfu_formats.proofs.dfuse.suffix.read_suffix.Goals as goal
 
 pub returns-in-Ok : goal.returns-in-Ok
 returns-in-Ok c =
     let b = c.args.bytes.now in
     let o = find (has_fault b) fault_order in
-    let none = no_fault c.read_small.result o _ c.in-Ok.is c.read_small.ensures.fault in
-    sym (ap (λ (p : Option SuffixFault). suffix_by p b) none ∙ is_other b)
+    let none = read_file_has_no_fault c.read_small.result o _ c.in-Ok.is c.read_small.ensures.fault in
+    sym (ap (λ (p : Option SuffixFault). suffix_by p b) none ∙ no_fault_is_not_dfuse b)
 
 pub read_signed-requires : goal.read_signed-requires
 read_signed-requires c =
     let b = c.args.bytes.now in
     let first = (c.read_small.ensures.fault c.in-Err.fault).0 c.in-Err.is in
-    long_enough b (first ∙ ap Some (is_the_fault c.in-Err.fault (sym c.is_dfuse.ensures ∙ c.if-is_dfuse.true)))
+    dfuse_fault_needs_suffix_length b (first ∙ ap Some (dfuse_test_names_fault c.in-Err.fault (sym c.is_dfuse.ensures
+    ∙ c.if-is_dfuse.true)))
 
 pub returns-then-is_dfuse : goal.returns-then-is_dfuse
 returns-then-is_dfuse c =
     let b = c.args.bytes.now in
     let first = (c.read_small.ensures.fault c.in-Err.fault).0 c.in-Err.is in
     c.read_signed.ensures ∙ sym (ap (λ (p : Option SuffixFault). suffix_by p b) first
-    ∙ the_fault c.in-Err.fault b (sym c.is_dfuse.ensures ∙ c.if-is_dfuse.true))
+    ∙ dfuse_fault_checks_crc c.in-Err.fault b (sym c.is_dfuse.ensures ∙ c.if-is_dfuse.true))
 
 pub returns-else-is_dfuse : goal.returns-else-is_dfuse
 returns-else-is_dfuse c =
     let b = c.args.bytes.now in
     let first = (c.read_small.ensures.fault c.in-Err.fault).0 c.in-Err.is in
     ap Err c.refusal.ensures ∙ sym (ap (λ (p : Option SuffixFault). suffix_by p b) first
-    ∙ other_fault c.in-Err.fault b (sym c.is_dfuse.ensures ∙ c.if-is_dfuse.false))
+    ∙ other_fault_refused_by_name c.in-Err.fault b (sym c.is_dfuse.ensures ∙ c.if-is_dfuse.false))

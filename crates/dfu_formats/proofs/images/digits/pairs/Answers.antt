@@ -1,11 +1,11 @@
 use Rattle.std.proofs.Common.{◌≡◌, ◌*◌, length, ◌+◌, ◌<◌, drop, get_or, ℕ, List, sym, subst, arith}
 use Rattle.std.proofs.Common.{inl, inr}
-use Rattle.dfu_formats.specs.images.Digits.{hex_value, pairs}
-use Rattle.dfu_formats.proofs.PairLaws.{joined, spelled_all, spelled_odd, spelled_high, spelled_low, spelled_more}
+use Rattle.dfu_formats.specs.images.Digits.{hex_value, bytes_of_pairs}
+use Rattle.dfu_formats.proofs.PairLaws.{bytes_before_spelled, pairs_read_to_end, odd_digit_left_over, high_digit_missing, low_digit_missing, pair_adds_byte}
 use Rattle.dfu_formats.proofs.images.digits.pairs.Goals as goal
 
 pub returns-then-at-digits : goal.returns-then-at-digits
-returns-then-at-digits c = spelled_odd c.args.digits.now c.loop-at.bytes.items c.loop-at.at (omega arith) c.loop-at.invariant.so_far
+returns-then-at-digits c = odd_digit_left_over c.args.digits.now c.loop-at.bytes.items c.loop-at.at (omega arith) c.loop-at.invariant.so_far
 
 pub returns-then-high-eq16 : goal.returns-then-high-eq16
 returns-then-high-eq16 c =
@@ -13,9 +13,9 @@ returns-then-high-eq16 c =
     let i = c.loop-at.at in
     let j : i + 1 < length xs = omega arith in
     elim c.then-high-eq16.either [
-      | inl high ↦ spelled_high xs c.loop-at.bytes.items i (i + 1) (i + 2) (omega arith) (omega arith) j
+      | inl high ↦ high_digit_missing xs c.loop-at.bytes.items i (i + 1) (i + 2) (omega arith) (omega arith) j
           (omega (arith, high, c.hex_digit-high.ensures.value)) c.loop-at.invariant.so_far
-      | inr low ↦ spelled_low xs c.loop-at.bytes.items i (i + 1) (i + 2) (omega arith) (omega arith) j
+      | inr low ↦ low_digit_missing xs c.loop-at.bytes.items i (i + 1) (i + 2) (omega arith) (omega arith) j
           (omega (arith, low.1, c.hex_digit-low.ensures.value)) c.loop-at.invariant.so_far
     ]
 
@@ -26,13 +26,16 @@ loop-at-preserved c =
     let j : i + 1 < length xs = omega arith in
     let high : hex_value (get_or xs i 0) < 16 = omega (arith, c.hex_digit-high.ensures.value, c.hex_digit-high.ensures.small, c.if-high-eq16.false) in
     let low : hex_value (get_or xs (i + 1) 0) < 16 = omega (arith, c.hex_digit-low.ensures.value, c.hex_digit-low.ensures.small, c.if-low-eq16.false) in
-    let more = spelled_more xs c.loop-at.bytes.items i (i + 1) (i + 2) (16 * c.hex_digit-high.result + c.hex_digit-low.result) (omega arith) (omega arith) j high low
+    let more = pair_adds_byte xs c.loop-at.bytes.items i (i + 1) (i + 2) (16 * c.hex_digit-high.result + c.hex_digit-low.result) (omega
+    arith) (omega arith) j high low
     (omega (arith, c.hex_digit-high.ensures.value, c.hex_digit-low.ensures.value)) c.loop-at.invariant.so_far in
     record {
       within = omega arith;
       halves = omega (arith, c.push.ensures.len, c.loop-at.invariant.halves);
-      so_far = subst (λ (front : List ℕ). joined front (pairs (drop (i + 2) xs)) ≡ pairs xs) (sym c.push.ensures.items) more;
+      so_far =
+          subst (λ (front : List ℕ). bytes_before_spelled front (bytes_of_pairs (drop (i + 2) xs))
+          ≡ bytes_of_pairs xs) (sym c.push.ensures.items) more;
     }
 
 pub returns : goal.returns
-returns c = spelled_all c.args.digits.now c.loop-at.bytes.items c.loop-at.at (omega arith) c.loop-at.invariant.so_far
+returns c = pairs_read_to_end c.args.digits.now c.loop-at.bytes.items c.loop-at.at (omega arith) c.loop-at.invariant.so_far

@@ -1,10 +1,10 @@
 use Rattle.std.proofs.Common.{sym, ◌∙◌}
 use Rattle.dfu_fs.specs.Parts.{is_space}
-use Rattle.dfu_fs.proofs.Ends.{found, not_found}
+use Rattle.dfu_fs.proofs.Ends.{found_place_is_first, missing_place_is_end}
 use Rattle.dfu_fs.proofs.json.words.word_length.Goals as goal
 
 pub returns-in-Some-clause-value : goal.returns-in-Some-clause-value
-returns-in-Some-clause-value c = found is_space c.args.line.now c.in-Some.at (sym c.first_space.ensures ∙ c.in-Some.is)
+returns-in-Some-clause-value c = found_place_is_first is_space c.args.line.now c.in-Some.at (sym c.first_space.ensures ∙ c.in-Some.is)
 
 pub returns-in-None-clause-value : goal.returns-in-None-clause-value
-returns-in-None-clause-value c = not_found is_space c.args.line.now (sym c.first_space.ensures ∙ c.in-None.is)
+returns-in-None-clause-value c = missing_place_is_end is_space c.args.line.now (sym c.first_space.ensures ∙ c.in-None.is)

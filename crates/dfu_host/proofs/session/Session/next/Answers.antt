@@ -2,8 +2,8 @@ use Rattle.std.proofs.Common.{List, ℕ, subst}
 use Rattle.dfu_host.specs.declared.parts.Parts.{Parts}
 use Rattle.dfu_host.specs.Goals.{payload_of}
 use Rattle.dfu_host.specs.Host.{Act}
-use Rattle.dfu_host.specs.InParts.{BodyIsCut, body_offset, host_of}
-use Rattle.dfu_host.proofs.Budget.{act_done}
+use Rattle.dfu_host.specs.InParts.{BodyIsSliceOfPayload, body_offset, host_of}
+use Rattle.dfu_host.proofs.Budget.{final_action_has_no_inputs_left}
 use Rattle.dfu_host.proofs.session.Session.next.Goals as goal
 
 pub returns : goal.returns
@@ -12,7 +12,7 @@ returns c =
     λ memory. rw (← c.self.view_is) (c.action.ensures.spells memory) in
     record {
       act = act;
-      done = λ memory. act_done (host_of memory c.args.self.now) c.action.result (act memory);
-      cut = subst (λ (p : Parts). BodyIsCut (payload_of p.goal) (body_offset p.transfer p.phase) c.action.result)
+      done = λ memory. final_action_has_no_inputs_left (host_of memory c.args.self.now) c.action.result (act memory);
+      cut = subst (λ (p : Parts). BodyIsSliceOfPayload (payload_of p.goal) (body_offset p.transfer p.phase) c.action.result)
           c.self.view_is c.action.ensures.cut;
     }

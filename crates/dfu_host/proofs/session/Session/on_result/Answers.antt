@@ -1,6 +1,6 @@
 use Rattle.std.proofs.Common.{◌≡◌, sym, subst, arith}
 use Rattle.dfu_host.specs.declared.parts.Parts.{Parts}
-use Rattle.dfu_host.specs.Goals.{Carries}
+use Rattle.dfu_host.specs.Goals.{CarriesPayload}
 use Rattle.dfu_host.specs.InParts.{host_of}
 use Rattle.dfu_host.specs.UploadBuffer.{PartsBuffered}
 use Rattle.dfu_host.specs.TakeCall.{TakeResult}
@@ -8,10 +8,10 @@ use Rattle.dfu_host.specs.Host.{HostRow, after}
 use Rattle.dfu_host.proofs.Budget.{row_takes, row_over}
 use Rattle.dfu_host.specs.Rooms.{FetchResultIn}
 use Rattle.dfu_host.specs.Uploading.{FetchResult}
-use Rattle.dfu_host.specs.inside.Refusing.{RefusesIn}
-use Rattle.dfu_host.specs.inside.View.{heard_of, part_of, state_with}
-use Rattle.dfu_host.proofs.ImageParts.{takes_part, wanted}
-use Rattle.dfu_host.proofs.Rooms.{takes_part_in}
+use Rattle.dfu_host.specs.inside.Refusing.{RefusesAnswerByRoom}
+use Rattle.dfu_host.specs.inside.View.{meaning_of_heard, part_of, state_with}
+use Rattle.dfu_host.proofs.ImageParts.{part_is_taken_or_refused, wanted}
+use Rattle.dfu_host.proofs.Rooms.{part_is_taken_by_room}
 use Rattle.dfu_host.proofs.session.Session.on_result.Goals as goal
 
 pub returns-clause-takes : goal.returns-clause-takes
@@ -25,18 +25,18 @@ returns-clause-takes c = λ memory memory' kept.
     let word = c.hear-heard.result in
     let stored : PartsBuffered task.transfer p.phase seen c.args.refused memory memory' =
     subst (λ (z : Parts). PartsBuffered z.transfer z.phase seen c.args.refused memory memory') (sym c.self.view_is) kept in
-    let same : now ≡ after before (heard_of part word) =
+    let same : now ≡ after before (meaning_of_heard part word) =
     c.after-self-inside.ensures.state memory memory' part (c.hear-heard.ensures.keeps memory memory' stored)
     c.hear-heard.ensures.compares in
     let step : HostRow before seen now =
     record {
-      heard = heard_of part word;
+      heard = meaning_of_heard part word;
       hears = c.hear-heard.ensures.hears memory;
       room = wanted task p.phase part word memory c.hear-heard.ensures.room;
       same = same;
     } in
     let taken : FetchResult before before.phase seen now =
-    takes_part memory task p seen word now (c.hear-heard.ensures.hears memory) c.hear-heard.ensures.room same in
+    part_is_taken_or_refused memory task p seen word now (c.hear-heard.ensures.hears memory) c.hear-heard.ensures.room same in
     subst (λ (z : Parts). TakeResult (host_of memory z) seen now) c.self.view_is (record {
       row = step;
       budget = omega (arith, row_takes before now seen step);
@@ -46,7 +46,7 @@ returns-clause-takes c = λ memory memory' kept.
 
 pub returns-clause-payload : goal.returns-clause-payload
 returns-clause-payload c = λ payload carries. c.after-self-inside.ensures.payload payload
-    (subst (λ (z : Parts). Carries payload z.goal) (sym c.self.view_is) carries)
+    (subst (λ (z : Parts). CarriesPayload payload z.goal) (sym c.self.view_is) carries)
 
 pub returns-clause-room : goal.returns-clause-room
 returns-clause-room c = λ memory memory' room kept full.
@@ -55,12 +55,12 @@ returns-clause-room c = λ memory memory' room kept full.
     let seen = c.args.seen in
     let stored : PartsBuffered task.transfer p.phase seen c.args.refused memory memory' =
     subst (λ (z : Parts). PartsBuffered z.transfer z.phase seen c.args.refused memory memory') (sym c.self.view_is) kept in
-    let refuses : RefusesIn room task.transfer p.phase memory seen c.args.refused =
-    subst (λ (z : Parts). RefusesIn room z.transfer z.phase memory seen c.args.refused) (sym c.self.view_is) full in
+    let refuses : RefusesAnswerByRoom room task.transfer p.phase memory seen c.args.refused =
+    subst (λ (z : Parts). RefusesAnswerByRoom room z.transfer z.phase memory seen c.args.refused) (sym c.self.view_is) full in
     let now = state_with memory' c.after-self-inside.new.task c.after-self-inside.result in
-    let same : now ≡ after (state_with memory task p) (heard_of (part_of seen) c.hear-heard.result) =
+    let same : now ≡ after (state_with memory task p) (meaning_of_heard (part_of seen) c.hear-heard.result) =
     c.after-self-inside.ensures.state memory memory' (part_of seen) (c.hear-heard.ensures.keeps memory memory' stored)
     c.hear-heard.ensures.compares in
     subst (λ (z : Parts). FetchResultIn room (host_of memory z) (host_of memory z).phase seen now) c.self.view_is
-    (takes_part_in room memory task p seen c.args.refused c.hear-heard.result now
+    (part_is_taken_by_room room memory task p seen c.args.refused c.hear-heard.result now
     (c.hear-heard.ensures.by memory memory' stored) refuses same)

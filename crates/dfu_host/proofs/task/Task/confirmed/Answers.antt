@@ -1,5 +1,5 @@
 use Rattle.std.proofs.Common.{◌∙◌}
-use Rattle.dfu_host.proofs.Steps.{confirmed_else}
+use Rattle.dfu_host.proofs.Steps.{unconfirmed_status_is_trouble}
 use Rattle.dfu_host.proofs.task.Task.confirmed.Goals as goal
 use Rattle.dfu_host.proofs.task.Task.confirmed.Goals.{in_default-via-in-DfuIdle+in_default, in_default-via-in_default}
 
@@ -8,7 +8,9 @@ returns-in_default-clause-next c =
     λ memory. c.troubled.ensures.next memory
     ∙ rw (← c.state.ensures, ← c.code.ensures) (elim c.in_default.branch [
       | in_default-via-in-DfuIdle+in_default w ↦
-          confirmed_else _ _ _ _ (λ idle ok. w.in_default.not-Ok-1 ok) w.in_default.not-ManifestSync-0 w.in_default.not-Manifest-0
+          unconfirmed_status_is_trouble _ _ _ _ (λ idle ok. w.in_default.not-Ok-1 ok) w.in_default.not-ManifestSync-0
+          w.in_default.not-Manifest-0
       | in_default-via-in_default w ↦
-          confirmed_else _ _ _ _ (λ idle ok. w.in_default.not-DfuIdle-0 idle) w.in_default.not-ManifestSync-0 w.in_default.not-Manifest-0
+          unconfirmed_status_is_trouble _ _ _ _ (λ idle ok. w.in_default.not-DfuIdle-0 idle) w.in_default.not-ManifestSync-0
+          w.in_default.not-Manifest-0
     ])

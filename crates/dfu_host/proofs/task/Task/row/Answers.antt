@@ -1,13 +1,13 @@
 use Rattle.std.proofs.Common.{◌⊎◌, inl, inr}
 use Rattle.dfu_host.proofs.task.Task.row.Goals as goal
 
--- A consequence of the one and of the other follows from either.
-from_either : {A B C : Type 0} → A ⊎ B → (A → C) → (B → C) → C
-from_either (inl a) first second = first a
-from_either (inr b) first second = second b
+-- C follows from A or B, if it follows from each of them.
+either_case_follows : {A B C : Type 0} → A ⊎ B → (A → C) → (B → C) → C
+either_case_follows (inl a) first second = first a
+either_case_follows (inr b) first second = second b
 
 pub returns-in-Find-clause-next : goal.returns-in-Find-clause-next
-returns-in-Find-clause-next c = λ memory memory' part keeps compares. from_either c.in-Find.is
+returns-in-Find-clause-next c = λ memory memory' part keeps compares. either_case_follows c.in-Find.is
     (λ is. rw is (rw is at c.on_status.ensures.next memory' part))
     (λ is. rw is (rw is at c.on_status.ensures.next memory' part))
 
@@ -16,7 +16,7 @@ returns-in-FindAgain-clause-next c = λ memory memory' part keeps compares.
     rw c.in-FindAgain.is (rw c.in-FindAgain.is at c.on_status-in-FindAgain.ensures.next memory' part)
 
 pub returns-in-Poll-clause-next : goal.returns-in-Poll-clause-next
-returns-in-Poll-clause-next c = λ memory memory' part keeps compares. from_either c.in-Poll.is
+returns-in-Poll-clause-next c = λ memory memory' part keeps compares. either_case_follows c.in-Poll.is
     (λ is. rw is.1 (rw is.1 at c.on_status-in-Poll.ensures.next memory' part))
     (λ is. rw is (rw is at c.on_status-in-Poll.ensures.next memory' part))
 

@@ -1,7 +1,7 @@
 use Rattle.std.proofs.Common.{◌≡◌, inl, inr, refl, sym, ◌∙◌, Some}
 use Rattle.dfu_host_c.specs.dfuse.Calls.{DfuseTakeResult}
 use Rattle.dfu_host_c.specs.dfuse.Sessions.{IsDfuseRecordOf, session_in}
-use Rattle.dfu_host_c.proofs.DfuseSessions.{held_on}
+use Rattle.dfu_host_c.proofs.DfuseSessions.{record_holds_session}
 use Rattle.dfu_host_c.proofs.dfuse.steps.dfuse_take.Goals as goal
 
 pub returns : goal.returns
@@ -20,7 +20,9 @@ returns c =
       seen_is = sym c.dfuse_seen_at.ensures ∙ c.in-Some-dfuse_seen_at.is;
       row = c.take.ensures.row;
       says = c.record_of.ensures.value;
-      later = held_on c.args.session.now c.record_of.result c.args.map.now c.args.image c.in-Some-session_of.host c.take.new.self held
+      later =
+          record_holds_session c.args.session.now c.record_of.result c.args.map.now c.args.image c.in-Some-session_of.host c.take.new.self
+          held
           c.take.ensures.plan c.record_of.ensures.says;
     } in
     record { outcome = inl (refl, took) }

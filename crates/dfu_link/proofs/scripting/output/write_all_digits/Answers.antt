@@ -1,5 +1,5 @@
 use Rattle.std.proofs.Common.{arith}
-use Rattle.dfu_link.proofs.HexLaws.{pieces_none, piece_goes, piece_stops}
+use Rattle.dfu_link.proofs.HexLaws.{pieces_none, digits_of_piece_written, digits_of_piece_stopped}
 use Rattle.dfu_link.proofs.scripting.output.write_all_digits.Goals as goal
 
 pub loop-at-init : goal.loop-at-init
@@ -7,11 +7,11 @@ loop-at-init g c = record { within = omega arith; told = pieces_none (g.W.Write.
 
 pub returns-in_err-write_digits : goal.returns-in_err-write_digits
 returns-in_err-write_digits g c =
-    piece_stops c.args.bytes.now c.loop-at.at c.min-len.result c.loop-at.invariant.told c.in_err-write_digits.ensures
+    digits_of_piece_stopped c.args.bytes.now c.loop-at.at c.min-len.result c.loop-at.invariant.told c.in_err-write_digits.ensures
     c.from_residual.ensures.1
 
 pub loop-at-preserved : goal.loop-at-preserved
 loop-at-preserved g c = record {
   within = omega arith;
-  told = piece_goes c.args.bytes.now c.loop-at.at c.min-len.result c.loop-at.invariant.told c.in_ok-write_digits.ensures;
+  told = digits_of_piece_written c.args.bytes.now c.loop-at.at c.min-len.result c.loop-at.invariant.told c.in_ok-write_digits.ensures;
 }

@@ -1,6 +1,6 @@
 use Rattle.dfu_link.specs.inside.Expected.{expectation_of}
 use Rattle.dfu_link.specs.inside.Moving.{SilentPasses}
-use Rattle.dfu_link.proofs.Spending.{actions_in}
+use Rattle.dfu_link.proofs.Spending.{actions_left_of_session}
 use Rattle.dfu_link.proofs.scripting.playing.pass_on.Given as goal
 
 abbrev pub invariant-passes : goal.invariant-passes
@@ -9,4 +9,4 @@ invariant-passes g l =
     (g.W.Write.contents l.writer)
 
 abbrev pub decreases-passes : goal.decreases-passes
-decreases-passes g l = actions_in l.world.bench.session
+decreases-passes g l = actions_left_of_session l.world.bench.session

@@ -1,6 +1,6 @@
-use Rattle.dfu_link.specs.ScriptRun.{at_rest}
-use Rattle.dfu_link.specs.inside.Expected.{at_point}
-use Rattle.dfu_link.proofs.RestLaws.{image_only, image_breaks_off}
+use Rattle.dfu_link.specs.ScriptRun.{link_at_rest}
+use Rattle.dfu_link.specs.inside.Expected.{point_of_context}
+use Rattle.dfu_link.proofs.RestLaws.{image_line_exhausts_source, image_line_breaks_off}
 use Rattle.dfu_link.proofs.scripting.run_events.run_on.Goals as goal
 
 pub returns-then-given-clause-ok : goal.returns-then-given-clause-ok
@@ -11,8 +11,8 @@ returns-then-given-clause-fault g c = rw c.if-given.true c.run_links.ensures.fau
 
 pub returns-else-given-clause-ok : goal.returns-else-given-clause-ok
 returns-else-given-clause-ok g c = rw c.if-given.false
-    (image_only c.image_next.result (at_point c.args.context (at_rest c.args.device)) c.image_next.ensures)
+    (image_line_exhausts_source c.image_next.result (point_of_context c.args.context (link_at_rest c.args.device)) c.image_next.ensures)
 
 pub returns-else-given-clause-fault : goal.returns-else-given-clause-fault
 returns-else-given-clause-fault g c = rw c.if-given.false
-    (image_breaks_off c.image_next.result (at_point c.args.context (at_rest c.args.device)) c.image_next.ensures)
+    (image_line_breaks_off c.image_next.result (point_of_context c.args.context (link_at_rest c.args.device)) c.image_next.ensures)

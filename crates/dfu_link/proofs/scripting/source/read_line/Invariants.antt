@@ -1,10 +1,10 @@
 use Rattle.std.proofs.Common.{◌≤◌, vec_capacity}
-use Rattle.dfu_link.proofs.SourceLaws.{ReadSoFar}
+use Rattle.dfu_link.proofs.SourceLaws.{LineReadSoFar}
 use Rattle.dfu_link.proofs.scripting.source.read_line.Given as goal
 
 abbrev pub invariant-pieces : goal.invariant-pieces
 invariant-pieces g l = record {
-  line : ReadSoFar l.fn.pieces.left l.fn.room l.pieces.left l.room l.line.items;
+  line : LineReadSoFar l.fn.pieces.left l.fn.room l.pieces.left l.room l.line.items;
   capacity : vec_capacity l.fn.line ≤ vec_capacity l.line;
 }
 

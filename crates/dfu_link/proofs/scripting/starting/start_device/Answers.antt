@@ -1,6 +1,6 @@
 use Rattle.std.proofs.Common.{◌≡◌, List, ℕ, subst, refl}
 use Rattle.dfu_link.specs.Falls.{refused}
-use Rattle.dfu_link.specs.inside.Forming.{Formed}
+use Rattle.dfu_link.specs.inside.Forming.{FormattedStore}
 use Rattle.dfu_link.specs.inside.SetupView.{setup_grain, image_bytes}
 use Rattle.dfu_link.proofs.scripting.starting.start_device.Goals as goal
 
@@ -12,8 +12,8 @@ returns-clause-ok c =
     let setup = c.args.setup.now in
     let w = setup_grain setup.unit setup.sector in
     let image : c.first_image.result.now ≡ image_bytes setup.image = c.first_image.ensures in
-    let formed : Formed w setup.room.bytes (image_bytes setup.image) c.in_ok-slots.slots = subst
-    (λ (bytes : List ℕ). Formed w setup.room.bytes bytes c.in_ok-slots.slots) image c.in_ok-slots.ensures.ok in
+    let formed : FormattedStore w setup.room.bytes (image_bytes setup.image) c.in_ok-slots.slots = subst
+    (λ (bytes : List ℕ). FormattedStore w setup.room.bytes bytes c.in_ok-slots.slots) image c.in_ok-slots.ensures.ok in
     rw c.start.ensures (record {
       config = c.in-Ok.ensures.ok;
       allowed = c.in-Ok.ensures.allowed;

@@ -1,13 +1,13 @@
 use Rattle.std.proofs.Common.{sym, ◌∙◌, ap, ◌≡◌, Some, None, drop}
 use Rattle.std.specs.List.{position}
 use Rattle.dfu_link.specs.Words.{is_space, is_no_space}
-use Rattle.dfu_link.proofs.WordLaws.{no_word, word_then, word_alone}
+use Rattle.dfu_link.proofs.WordLaws.{only_spaces_have_no_word, first_word_and_rest, only_word_of_text}
 use Rattle.dfu_link.proofs.scripting.words.word_at.Goals as goal
 
 pub returns-in_err-start : goal.returns-in_err-start
 returns-in_err-start c =
     let none : position is_no_space c.args.line.now ≡ None = sym c.start_at.ensures ∙ c.in_err-start.was in
-    rw c.from_residual.ensures (no_word c.args.line.now none)
+    rw c.from_residual.ensures (only_spaces_have_no_word c.args.line.now none)
 
 pub returns-in-Some : goal.returns-in-Some
 returns-in-Some c =
@@ -16,7 +16,7 @@ returns-in-Some c =
     let end : position is_space (drop c.in_ok-start.start c.args.line.now) ≡ Some c.in-Some.end = ap (position is_space) (sym back)
     ∙ (sym c.space_at.ensures ∙ c.in-Some.is) in
     rw (c.split_at-in-Some.ensures.front, c.split_at-in-Some.ensures.back, back)
-    (word_then c.args.line.now c.in_ok-start.start c.in-Some.end start end)
+    (first_word_and_rest c.args.line.now c.in_ok-start.start c.in-Some.end start end)
 
 pub returns-in-None : goal.returns-in-None
 returns-in-None c =
@@ -24,4 +24,4 @@ returns-in-None c =
     let back : c.split_at.result.1.now ≡ drop c.in_ok-start.start c.args.line.now = c.split_at.ensures.back in
     let none : position is_space (drop c.in_ok-start.start c.args.line.now) ≡ None = ap (position is_space) (sym back)
     ∙ (sym c.space_at.ensures ∙ c.in-None.is) in
-    rw back (word_alone c.args.line.now c.in_ok-start.start start none)
+    rw back (only_word_of_text c.args.line.now c.in_ok-start.start start none)

@@ -2,7 +2,7 @@ use Rattle.std.proofs.Common.{◌≡◌, ◌-◌, ◌++◌, ◌∙◌, List, ℕ
 use Rattle.std.proofs.lemmas.List.{take-append-drop, take_all}
 use Rattle.std.proofs.Math.Seq.{take-add}
 use Rattle.dfu_output.specs.judge.Judging.{LogStops}
-use Rattle.dfu_output.specs.judge.inside.JudgeState.{Going}
+use Rattle.dfu_output.specs.judge.inside.JudgeState.{JudgedSoFar}
 use Rattle.dfu_output.proofs.judge.reading.feed.Goals as goal
 
 pub loop-at-preserved : goal.loop-at-preserved
@@ -14,7 +14,7 @@ loop-at-preserved g c =
     record {
       within = omega (arith, c.loop-at.invariant.within, c.in-Ok.ensures.within.1, ap length all, length-drop k piece);
       going = λ old text at.
-          subst (λ (xs : List ℕ). Going c.args.interface old (g.W.Write.contents c.advance.new.writer) xs c.advance.new.judging)
+          subst (λ (xs : List ℕ). JudgedSoFar c.args.interface old (g.W.Write.contents c.advance.new.writer) xs c.advance.new.judging)
           (ap (λ (xs : List ℕ). (text ++ take k piece) ++ take n xs) all ∙ append_assoc text (take k piece) (take n (drop k piece))
           ∙ ap (λ (xs : List ℕ). text ++ xs) (sym (take-add k n piece)))
           (c.in-Ok.ensures.ok old (text ++ take k piece) (c.loop-at.invariant.going old text at));

@@ -1,12 +1,12 @@
 use Rattle.std.specs.Prelude.{◌≡◌, ◌≤◌, ◌+◌, ◌-◌, ◌++◌, ℕ, List, Option, length, take}
-use Rattle.dfu_output.specs.judge.inside.JudgeState.{Going}
+use Rattle.dfu_output.specs.judge.inside.JudgeState.{JudgedSoFar}
 use Rattle.dfu_output.proofs.judge.reading.feed.Given as goal
 
 abbrev pub invariant-loop-at : goal.invariant-loop-at
 invariant-loop-at g l = record {
   within : l.at ≤ length l.piece;
-  going : (old : Option (List ℕ)) (text : List ℕ) → Going l.interface old (g.W.Write.contents l.fn.writer) text l.fn.judging
-      → Going l.interface old (g.W.Write.contents l.writer) (text ++ take l.at l.piece) l.judging;
+  going : (old : Option (List ℕ)) (text : List ℕ) → JudgedSoFar l.interface old (g.W.Write.contents l.fn.writer) text l.fn.judging
+      → JudgedSoFar l.interface old (g.W.Write.contents l.writer) (text ++ take l.at l.piece) l.judging;
   room : l.judging.lines.room + l.at ≡ l.fn.judging.lines.room;
 }
 

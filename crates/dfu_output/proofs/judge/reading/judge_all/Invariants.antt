@@ -1,13 +1,13 @@
 use Rattle.std.specs.Prelude.{ℕ, List, [], Option}
 use Rattle.std.specs.Io.KnownBytes.{Consumes}
-use Rattle.dfu_output.specs.judge.inside.JudgeState.{Going}
+use Rattle.dfu_output.specs.judge.inside.JudgeState.{JudgedSoFar}
 use Rattle.dfu_output.proofs.judge.reading.judge_all.Given as goal
 
 abbrev pub invariant-pieces : goal.invariant-pieces
 invariant-pieces g l =
     (front : List ℕ) × Consumes (g.R.Read.remaining l.fn.reader) (g.R.Read.remaining l.reader) front
-    × ((old : Option (List ℕ)) → Going l.interface old (g.W.Write.contents l.fn.writer) [] l.fn.judging
-    → Going l.interface old (g.W.Write.contents l.writer) front l.judging)
+    × ((old : Option (List ℕ)) → JudgedSoFar l.interface old (g.W.Write.contents l.fn.writer) [] l.fn.judging
+    → JudgedSoFar l.interface old (g.W.Write.contents l.writer) front l.judging)
 
 abbrev pub decreases-pieces : goal.decreases-pieces
 decreases-pieces g l = l.judging.lines.room

@@ -3,25 +3,25 @@ use Rattle.dfu_conformance.specs.declared.verdict.Verdict.{Verdict}
 use Rattle.dfu_conformance.specs.Verdict.{IsVerdict, ArePlacesAfter}
 use Rattle.dfu_suffix.specs.declared.fault.SuffixFault.TheVariants as suffix
 use Rattle.dfu_output.specs.AnswerLines.{fault_line}
-use Rattle.dfu_output.specs.Output.{Wrote}
+use Rattle.dfu_output.specs.Output.{TextIsOut}
 use Rattle.dfu_output.specs.declared.exit.Exit.{Exit}
 use Rattle.dfu_output.specs.declared.exit.Exit.TheVariants.{Refused}
 use Rattle.dfu_output.specs.judge.Judging.{WritesVerdict, exit_of, readings_of}
-use Rattle.dfu_output.specs.judge.inside.JudgeState.{Going, JudgingState}
+use Rattle.dfu_output.specs.judge.inside.JudgeState.{JudgedSoFar, JudgingState}
 use Rattle.dfu_output.specs.judge.Texts.{verdict_text}
 use Rattle.dfu_output.proofs.judge.reading.verdict_out.Goals as goal
 
-told : (old new : Option (List ℕ)) (bytes text : List ℕ) (x y r : Exit) → bytes ≡ text → x ≡ y → Wrote old new bytes x r
-    → Wrote old new text y r
+told : (old new : Option (List ℕ)) (bytes text : List ℕ) (x y r : Exit) → bytes ≡ text → x ≡ y → TextIsOut old new bytes x r
+    → TextIsOut old new text y r
 told old new bytes text x y r same exit wrote =
-    subst (λ (e : Exit). Wrote old new text e r) exit (subst (λ (xs : List ℕ). Wrote old new xs x r) same wrote)
+    subst (λ (e : Exit). TextIsOut old new text e r) exit (subst (λ (xs : List ℕ). TextIsOut old new xs x r) same wrote)
 
--- What is printed of the events is out; after it the line of the verdict on them is written, or that there was no memory for it.
-written : (interface : ℕ) (old mid new : Option (List ℕ)) (text : List ℕ) (s : JudgingState) (going : Going interface old mid text s)
+-- The events' lines are out, and behind them the line of the verdict is written, or the line that says that memory ran out.
+written : (interface : ℕ) (old mid new : Option (List ℕ)) (text : List ℕ) (s : JudgingState) (going : JudgedSoFar interface old mid text s)
     (verdict : Verdict) (at : List Bool) (result : Exit)
     → IsVerdict verdict going.course.events × ArePlacesAfter (readings_of verdict) going.course.events at
-    → Wrote mid new (verdict_text verdict at (length going.course.events) going.course.single) (exit_of verdict) result
-    ⊎ Wrote mid new (fault_line suffix.NoMemory) Refused result
+    → TextIsOut mid new (verdict_text verdict at (length going.course.events) going.course.single) (exit_of verdict) result
+    ⊎ TextIsOut mid new (fault_line suffix.NoMemory) Refused result
     → WritesVerdict going.course old new result
 written interface old mid new text s going verdict at result v wrote =
     record { verdict = verdict; is = v.0; at = at; places = v.1; mid = mid; told = going.out; wrote = wrote }

@@ -1,13 +1,13 @@
 use Rattle.std.proofs.Common.{take}
 use Rattle.dfu_slots.specs.Medium.Fuse.{Lying}
-use Rattle.dfu_slots.proofs.Seeing.{fuse_leaves}
-use Rattle.dfu_slots.proofs.Stays.{fuse_kept}
+use Rattle.dfu_slots.proofs.Seeing.{fuse_leaves_store}
+use Rattle.dfu_slots.proofs.Stays.{places_kept_with_other_fuse}
 use Rattle.dfu_slots.proofs.slots.Slots.arm_lie.Goals as goal
 
 pub invariant_of-self : goal.invariant_of-self
-invariant_of-self g c = fuse_kept c.self.invariant (g.M.Medium.state c.arm_lie.new.self)
+invariant_of-self g c = places_kept_with_other_fuse c.self.invariant (g.M.Medium.state c.arm_lie.new.self)
     (Lying c.args.writes (take 4096 c.args.tear.now)) c.arm_lie.ensures
 
 pub returns : goal.returns
-returns g c = fuse_leaves c.self.view_is c.self.invariant.store (g.M.Medium.state c.arm_lie.new.self)
+returns g c = fuse_leaves_store c.self.view_is c.self.invariant.store (g.M.Medium.state c.arm_lie.new.self)
     (Lying c.args.writes (take 4096 c.args.tear.now)) c.arm_lie.ensures

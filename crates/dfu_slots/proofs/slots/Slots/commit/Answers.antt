@@ -1,5 +1,5 @@
 use Rattle.dfu_slots.specs.StoreView.{SlotsState, store_of}
-use Rattle.dfu_slots.proofs.AfterCommit.{commit_leaves}
+use Rattle.dfu_slots.proofs.AfterCommit.{commit_result_holds}
 use Rattle.dfu_slots.proofs.slots.Slots.commit.Goals as goal
 
 pub invariant_of-self : goal.invariant_of-self
@@ -7,7 +7,7 @@ invariant_of-self g c =
     let done = c.commit-done in
     let now : SlotsState = store_of (g.M.Medium.state done.new.medium) done.new.puts.held.items done.new.puts.end in
     record {
-      store = (commit_leaves c.self.view_is c.self.invariant.store now c.args.len c.requires done.result done.ensures.not_begun
+      store = (commit_result_holds c.self.view_is c.self.invariant.store now c.args.len c.requires done.result done.ensures.not_begun
           done.ensures.fits done.ensures.changes).common.store;
       active_there = c.look-self-inside.ensures.active;
       spare_there = c.look-self-inside.ensures.spare;
@@ -17,12 +17,12 @@ pub look-self-inside-requires : goal.look-self-inside-requires
 look-self-inside-requires g c =
     let done = c.commit-done in
     let now : SlotsState = store_of (g.M.Medium.state done.new.medium) done.new.puts.held.items done.new.puts.end in
-    (commit_leaves c.self.view_is c.self.invariant.store now c.args.len c.requires done.result done.ensures.not_begun
+    (commit_result_holds c.self.view_is c.self.invariant.store now c.args.len c.requires done.result done.ensures.not_begun
     done.ensures.fits done.ensures.changes).common.store.has_image.active.sized
 
 pub returns : goal.returns
 returns g c =
     let done = c.commit-done in
     let now : SlotsState = store_of (g.M.Medium.state done.new.medium) done.new.puts.held.items done.new.puts.end in
-    commit_leaves c.self.view_is c.self.invariant.store now c.args.len c.requires done.result done.ensures.not_begun
+    commit_result_holds c.self.view_is c.self.invariant.store now c.args.len c.requires done.result done.ensures.not_begun
     done.ensures.fits done.ensures.changes

@@ -1,22 +1,23 @@
 use Rattle.std.proofs.Common.{refl}
 use Rattle.dfu_slots.specs.StoreView.{format_series, store_of}
 use Rattle.dfu_slots.specs.Changes.{CanFormat}
-use Rattle.dfu_slots.proofs.Formatting.{FormatLeaves, can_format, format_leaves}
-use Rattle.dfu_slots.proofs.Series.{broken_rose}
+use Rattle.dfu_slots.proofs.Formatting.{StoreAfterFormat, can_format_from_test, format_leaves_its_store}
+use Rattle.dfu_slots.proofs.Series.{broken_writes_raise_count}
 use Rattle.dfu_slots.proofs.slots.Slots.format.Given as given
 use Rattle.dfu_slots.proofs.slots.Slots.format.Goals.{Else-image-from, After-nothing}
 use Rattle.dfu_slots.proofs.slots.Slots.format.Goals as goal
 
 -- The medium can be formatted.
 can : (g : given.Over) (c : goal.Else-image-from g) → CanFormat (g.M.Medium.state c.args.medium) c.args.image.now
-can g c = can_format c.args.image.now (c.is_sized.ensures.0 c.if-not-is_sized.false) c.if-image-from.false c.from.ensures
+can g c = can_format_from_test c.args.image.now (c.is_sized.ensures.0 c.if-not-is_sized.false) c.if-image-from.false c.from.ensures
     c.capacity_of.ensures
 
 -- The medium was formatted.
-left : (g : given.Over) (c : goal.After-nothing g) → FormatLeaves
+left : (g : given.Over) (c : goal.After-nothing g) → StoreAfterFormat
     (store_of (g.M.Medium.state c.write_image.new.medium) c.nothing.result.held.items c.nothing.result.end) c.args.image.now
-left g c = format_leaves (g.M.Medium.state c.write_image.new.medium)
-    (can_format c.args.image.now (c.is_sized.ensures.0 c.if-not-is_sized.false) c.if-image-from.false c.from.ensures c.capacity_of.ensures)
+left g c = format_leaves_its_store (g.M.Medium.state c.write_image.new.medium)
+    (can_format_from_test c.args.image.now (c.is_sized.ensures.0 c.if-not-is_sized.false) c.if-image-from.false c.from.ensures
+    c.capacity_of.ensures)
     c.in-Ok.ensures c.nothing.ensures.held c.nothing.ensures.end
 
 pub invariant_of-result : goal.invariant_of-result
@@ -28,7 +29,7 @@ invariant_of-result g c =
     }
 
 pub look-places-requires : goal.look-places-requires
-look-places-requires g c = (format_leaves (g.M.Medium.state c.write_image.new.medium)
+look-places-requires g c = (format_leaves_its_store (g.M.Medium.state c.write_image.new.medium)
     (can g (goal.at.look-places-requires g c).Else-image-from) c.in-Ok.ensures refl refl).active.sized
 
 pub returns-in-Ok-clause-active : goal.returns-in-Ok-clause-active
@@ -45,7 +46,8 @@ returns-in-Ok-clause-fresh g c = (left g (goal.at.returns-in-Ok-clause-fresh g c
 
 pub returns-in-Err-clause-rose : goal.returns-in-Err-clause-rose
 returns-in-Err-clause-rose g c is =
-    broken_rose c.in-Err.field-0 (format_series (g.M.Medium.state c.args.medium) c.args.image.now) (g.M.Medium.state c.args.medium)
+    broken_writes_raise_count c.in-Err.field-0 (format_series (g.M.Medium.state c.args.medium) c.args.image.now) (g.M.Medium.state
+    c.args.medium)
     (g.M.Medium.state c.write_image.new.medium) c.in-Err.ensures
 
 pub returns-in-Ok-clause-formats : goal.returns-in-Ok-clause-formats

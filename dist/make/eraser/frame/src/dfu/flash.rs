@@ -67,7 +67,7 @@ pub trait ReadFlash {
     /// How many bytes are programmed at a time. It is a part of how the slots are laid out: with another one no image is found.
     const UNIT: Unit;
 
-    /// How many bytes are erased at a time: a multiple of 256 up to 131,072; or 0, and bytes are written over in place. It is a part of
+    /// How many bytes are erased at a time: a multiple of 256 up to 262,144; or 0, and bytes are written over in place. It is a part of
     /// how the slots are laid out too.
     const SECTOR: u32;
 
@@ -174,5 +174,5 @@ pub(crate) struct Checked<F>(core::marker::PhantomData<F>);
 
 impl<F: ReadFlash> Checked<F> {
     pub(crate) const IS_ALLOWED: () =
-        assert!(F::SECTOR % 256 == 0 && F::SECTOR <= 131_072, "SECTOR is 0, or a multiple of 256 up to 131072");
+        assert!(F::SECTOR % 256 == 0 && F::SECTOR <= 262_144, "SECTOR is 0, or a multiple of 256 up to 262144");
 }

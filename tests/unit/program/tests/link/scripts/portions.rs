@@ -22,8 +22,8 @@ fn portions_of_any_length() {
     }
 }
 
-static MOSTS: [usize; 10] = [
-    1, 2, 3, 4_095, 32_767, 65_535, 65_536, 65_537, 65_538, 70_000,
+static MOSTS: [usize; 13] = [
+    1, 2, 3, 4_095, 16_383, 16_384, 16_385, 32_767, 65_535, 65_536, 65_537, 65_538, 70_000,
 ];
 
 /// Three lines `show`, each after a line of the greatest length.

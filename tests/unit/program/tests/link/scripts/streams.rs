@@ -156,12 +156,12 @@ type Limit = (
 
 #[rustfmt::skip]
 static LIMITS: [Limit; 9] = [
-    (b"", 16_777_216, false, Ok(()), "image 00\n", 257),
-    (b"", 16_777_217, false, Err(ScriptFault::TooLarge), "", 257),
-    (b"", 16_777_217, true, Err(ScriptFault::TooLarge), "", 257),
-    (b"", 16_777_216, true, Err(ScriptFault::Read), "", 257),
+    (b"", 16_777_216, false, Ok(()), "image 00\n", 1_025),
+    (b"", 16_777_217, false, Err(ScriptFault::TooLarge), "", 1_025),
+    (b"", 16_777_217, true, Err(ScriptFault::TooLarge), "", 1_025),
+    (b"", 16_777_216, true, Err(ScriptFault::Read), "", 1_025),
     (b"", 0, true, Err(ScriptFault::Read), "", 1),
-    (b"show\n", 16_777_212, false, Err(ScriptFault::TooLarge), SHOWN, 257),
+    (b"show\n", 16_777_212, false, Err(ScriptFault::TooLarge), SHOWN, 1_025),
     (b"show\n", 0, true, Err(ScriptFault::Read), SHOWN, 2),
     (b"show\nsho", 0, true, Err(ScriptFault::Read), SHOWN, 2),
     (b"?\n", 16_777_216, true, Err(ScriptFault::BadLine(1)), "", 1),

@@ -3,7 +3,7 @@ use Rattle.dfu_boot.specs.trial.Calls.{MediumAccepts, MarkIsWithin}
 use Rattle.dfu_boot.specs.trial.Again.{MatchesMedium}
 use Rattle.dfu_boot.specs.declared.trial.standing.Standing.{Standing}
 use Rattle.dfu_boot.specs.declared.trial.operation.Operation.TheVariants.{Mark}
-use Rattle.dfu_boot.proofs.Fitting.{start_in, start_taken, erase_taken}
+use Rattle.dfu_boot.proofs.Fitting.{start_mark_ends_within, start_mark_is_accepted, gate_erase_is_accepted}
 use Rattle.dfu_boot.proofs.trial.standing.Standing.start.Given as given
 use Rattle.dfu_boot.proofs.trial.standing.Standing.start.Goals.{After-mark_size}
 use Rattle.dfu_boot.proofs.trial.standing.Standing.start.Goals as goal
@@ -12,25 +12,27 @@ pub mark_at-mark-requires : goal.mark_at-mark-requires
 mark_at-mark-requires g c =
     let m = g.M.Medium.state c.args.medium.now in
     let stands = subst (λ (s : Standing). MatchesMedium m c.args.tries s) c.in-OnTrial.is c.requires.stands in
-    omega (arith, start_in m c.args.tries c.in-OnTrial.trial c.requires.tries stands c.if-trial-tries.true)
+    omega (arith, start_mark_ends_within m c.args.tries c.in-OnTrial.trial c.requires.tries stands c.if-trial-tries.true)
 
 -- The medium takes the mark of the next start, and it lies within the medium.
-marked : (g : given.Over) (c : After-mark_size g) → let m = g.M.Medium.state c.args.medium.now in
+next_mark_is_accepted : (g : given.Over) (c : After-mark_size g) → let m = g.M.Medium.state c.args.medium.now in
     let mark = Mark c.mark_at-mark.result c.mark_size.result in MediumAccepts m mark × MarkIsWithin m mark
-marked g c =
+next_mark_is_accepted g c =
     let m = g.M.Medium.state c.args.medium.now in
     let stands = subst (λ (s : Standing). MatchesMedium m c.args.tries s) c.in-OnTrial.is c.requires.stands in
-    start_taken m c.args.tries c.in-OnTrial.trial c.requires.tries stands c.if-trial-tries.true c.mark_at-mark.result c.mark_size.result
+    start_mark_is_accepted m c.args.tries c.in-OnTrial.trial c.requires.tries stands c.if-trial-tries.true c.mark_at-mark.result
+    c.mark_size.result
     c.mark_at-mark.ensures c.mark_size.ensures.value
 
 pub returns-then-trial-tries-clause-taken : goal.returns-then-trial-tries-clause-taken
-returns-then-trial-tries-clause-taken g c = (marked g (goal.at.returns-then-trial-tries-clause-taken g c).After-mark_size).0
+returns-then-trial-tries-clause-taken g c = (next_mark_is_accepted g (goal.at.returns-then-trial-tries-clause-taken g c).After-mark_size).0
 
 pub returns-then-trial-tries-clause-within : goal.returns-then-trial-tries-clause-within
-returns-then-trial-tries-clause-within g c = (marked g (goal.at.returns-then-trial-tries-clause-within g c).After-mark_size).1
+returns-then-trial-tries-clause-within g c = (next_mark_is_accepted g (goal.at.returns-then-trial-tries-clause-within g
+    c).After-mark_size).1
 
 pub returns-else-trial-tries-clause-taken : goal.returns-else-trial-tries-clause-taken
 returns-else-trial-tries-clause-taken g c =
     let m = g.M.Medium.state c.args.medium.now in
     let stands = subst (λ (s : Standing). MatchesMedium m c.args.tries s) c.in-OnTrial.is c.requires.stands in
-    erase_taken m c.args.tries c.in-OnTrial.trial c.requires.tries stands
+    gate_erase_is_accepted m c.args.tries c.in-OnTrial.trial c.requires.tries stands

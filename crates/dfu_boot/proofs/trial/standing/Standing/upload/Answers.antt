@@ -1,11 +1,11 @@
 use Rattle.std.proofs.Common.{subst}
 use Rattle.dfu_boot.specs.trial.Calls.{IsStanding}
 use Rattle.dfu_boot.specs.declared.trial.standing.Standing.{Standing}
-use Rattle.dfu_boot.proofs.Asked.{end_taken}
+use Rattle.dfu_boot.proofs.Asked.{end_of_trial_is_accepted}
 use Rattle.dfu_boot.proofs.trial.standing.Standing.upload.Goals as goal
 
 pub returns-else-trial-tries-clause-taken : goal.returns-else-trial-tries-clause-taken
 returns-else-trial-tries-clause-taken g c =
     let m = g.M.Medium.state c.args._medium.now in
-    end_taken m c.args.tries c.in-OnTrial.trial c.requires.tries
+    end_of_trial_is_accepted m c.args.tries c.in-OnTrial.trial c.requires.tries
     (subst (λ (s : Standing). IsStanding m c.args.tries s) c.in-OnTrial.is c.requires.stands)

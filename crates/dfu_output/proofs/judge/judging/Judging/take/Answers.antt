@@ -1,40 +1,41 @@
 use Rattle.std.proofs.Common.{◌∙◌, ◌++◌, ◌∷◌, [], Some, None, ap, sym, subst, arith}
 use Rattle.dfu_conformance.specs.declared.log.Line.TheVariants as line
-use Rattle.dfu_output.specs.judge.Course.{course_line_ended, says_elsewhere, says_nothing}
+use Rattle.dfu_output.specs.judge.Course.{course_line_ended, line_is_for_another, line_says_nothing}
 use Rattle.dfu_output.specs.judge.Lines.{LinesState}
-use Rattle.dfu_output.specs.judge.inside.JudgeState.{JudgingState, IsAt}
-use Rattle.dfu_output.proofs.LogSteps.{at_end, cannot_go, kept_byte, takes_as, took_event, took_passed}
+use Rattle.dfu_output.specs.judge.inside.JudgeState.{JudgingState, IsStateAfter}
+use Rattle.dfu_output.proofs.LogSteps.{state_at_line_end, unread_byte_is_unjudged, byte_judged_in_line, taken_at_line_end, event_judged_at_line_end, line_passed_over}
 use Rattle.dfu_output.proofs.judge.judging.Judging.take.Goals as goal
 
 pub returns-in-Err-clause-err : goal.returns-in-Err-clause-err
 returns-in-Err-clause-err c text course is tail =
-    let at = subst (λ (s : JudgingState). IsAt s text course) (sym c.self.view_is) is in
-    cannot_go c.args.interface _ text course (c.args.byte ∷ tail) c.in-Err.fault at (c.in-Err.ensures.err tail)
+    let at = subst (λ (s : JudgingState). IsStateAfter s text course) (sym c.self.view_is) is in
+    unread_byte_is_unjudged c.args.interface _ text course (c.args.byte ∷ tail) c.in-Err.fault at (c.in-Err.ensures.err tail)
 
 pub returns-in-Ok-None-clause-ok : goal.returns-in-Ok-None-clause-ok
 returns-in-Ok-None-clause-ok c text course is judged =
-    let at = subst (λ (s : JudgingState). IsAt s text course) (sym c.self.view_is) is in
-    kept_byte c.args.interface c.args.byte _ _ text course at judged
-    (takes_as c.args.interface _ _ c.args.byte _ None c.in-Ok-None.field-0-is c.in-Ok-None.ensures.ok)
+    let at = subst (λ (s : JudgingState). IsStateAfter s text course) (sym c.self.view_is) is in
+    byte_judged_in_line c.args.interface c.args.byte _ _ text course at judged
+    (taken_at_line_end c.args.interface _ _ c.args.byte _ None c.in-Ok-None.field-0-is c.in-Ok-None.ensures.ok)
 
 pub returns-in-Came-clause-ok : goal.returns-in-Came-clause-ok
 returns-in-Came-clause-ok c text course is judged =
-    let at = subst (λ (s : JudgingState). IsAt s text course) (sym c.self.view_is) is in
-    let end = takes_as c.args.interface _ _ c.args.byte _ (Some (line.Came c.in-Came.event))
+    let at = subst (λ (s : JudgingState). IsStateAfter s text course) (sym c.self.view_is) is in
+    let end = taken_at_line_end c.args.interface _ _ c.args.byte _ (Some (line.Came c.in-Came.event))
     (c.in-Ok-Some.field-0-is ∙ ap Some c.in-Came.is) c.in-Ok-Some.ensures.ok in
-    took_event c.args.interface c.args.byte _ _ _ text course c.in-Came.event _ at judged end
-    (c.come.ensures.came (text ++ 10 ∷ []) (course_line_ended course) (at_end c.args.interface c.args.byte _ _ text course _ at end))
+    event_judged_at_line_end c.args.interface c.args.byte _ _ _ text course c.in-Came.event _ at judged end
+    (c.come.ensures.came (text ++ 10 ∷ []) (course_line_ended course)
+    (state_at_line_end c.args.interface c.args.byte _ _ text course _ at end))
 
 pub returns-in-Blank-clause-ok : goal.returns-in-Blank-clause-ok
 returns-in-Blank-clause-ok c text course is judged =
-    took_passed c.args.interface c.args.byte _ _ text course line.Blank _ says_nothing
-    (subst (λ (s : JudgingState). IsAt s text course) (sym c.self.view_is) is) judged
+    line_passed_over c.args.interface c.args.byte _ _ text course line.Blank _ line_says_nothing
+    (subst (λ (s : JudgingState). IsStateAfter s text course) (sym c.self.view_is) is) judged
     (c.in-Ok-Some.field-0-is ∙ ap Some c.in-Blank.is) c.in-Ok-Some.ensures.ok
 
 pub returns-in-Elsewhere-clause-ok : goal.returns-in-Elsewhere-clause-ok
 returns-in-Elsewhere-clause-ok c text course is judged =
-    took_passed c.args.interface c.args.byte _ _ text course line.Elsewhere _ says_elsewhere
-    (subst (λ (s : JudgingState). IsAt s text course) (sym c.self.view_is) is) judged
+    line_passed_over c.args.interface c.args.byte _ _ text course line.Elsewhere _ line_is_for_another
+    (subst (λ (s : JudgingState). IsStateAfter s text course) (sym c.self.view_is) is) judged
     (c.in-Ok-Some.field-0-is ∙ ap Some c.in-Elsewhere.is) c.in-Ok-Some.ensures.ok
 
 pub invariant_of-self : goal.invariant_of-self

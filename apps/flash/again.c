@@ -1,0 +1,49 @@
+/* SPDX-License-Identifier: MIT OR Apache-2.0 */
+/* A board is known by its serial number, if no other board that is there has the same one. A board without a number may have been changed
+   for another while it was away, so its entry counts as used. */
+#include "again.h"
+#include "clock.h"
+#include "device.h"
+#include "find.h"
+#include "say.h"
+#include "stamp.h"
+#include "station.h"
+
+#include <stdio.h>
+#include <string.h>
+
+/* How the board was seen in this mode; in the other one if it wasn't. */
+static const struct found *seen_before(const struct session *session, bool is_upgrade)
+{
+    return &session->first[session->has_first[is_upgrade] ? is_upgrade : !is_upgrade];
+}
+
+/* Returns whether a board at another path has this serial number too, or that can't be known. */
+static bool is_shared(const struct device *device)
+{
+    const struct wanted named = {.serial = device->info.serial, .place = ANYWHERE};
+    struct found list[FOUND_ROOM];
+    int count = find_all(device->usb, &named, list, FOUND_ROOM);
+    bool is_shared = count < 0;
+    for (int at = 0; at < count; at++)
+        is_shared = is_shared || (list[at].access == 0 && strcmp(list[at].path, device->path) != 0);
+    found_drop(list, count);
+    return is_shared;
+}
+
+bool again_is_same(const struct session *session)
+{
+    const struct found *now = &session->wire.device->info, *before = seen_before(session, now->is_upgrade);
+    return now->serial[0] != '\0' && strcmp(before->serial, now->serial) == 0 && !is_shared(session->wire.device);
+}
+
+void again_leave_entry(const struct session *session, const struct words *words)
+{
+    const struct device *device = session->wire.device;
+    const struct verdict last = verdict_of(session);
+    if (!words->quiet)
+        fputs("dfu-flash: what came may be another board, so it gets the next entry\n", stderr);
+    station_add(last.status, last.name, last.words, device->path, seen_before(session, device->info.is_upgrade),
+                (double)(clock_ms() - session->began_ms) / 1000);
+    stamp_is(NULL, NULL);
+}

@@ -1,0 +1,245 @@
+//! `dfu plan`: the placement of gates, headers and data on a part.
+
+use crate::line_ends::LineEnds;
+use crate::nearest::{Known, known_in};
+use crate::numbering::areas_in;
+use crate::watching::Watched;
+use crate::words::{WordFault, refused_word};
+use dfu_fs::{JsonLines, error_reason, file_reason, gather_fault, open};
+use dfu_output::{Exit, Outcome, fault_text, reason_line, write_out};
+use dfu_places::{Areas, Needs, Placement, Span, plan};
+use dfu_plan::{PARTS, Part, PartFault, Plan, RowFault, part_in, plan_objects, plan_text, size_in};
+use dfu_slots::Unit;
+use dfu_suffix::{SuffixFault, gather};
+use std::alloc::{AllocError, Global};
+use std::io::{self, Printer};
+use std::rt::Files;
+
+/// The most bytes of a table of parts.
+const MAX_TABLE: usize = 1_048_576;
+
+/// Words of `dfu plan`.
+#[derive(Clone, Copy)]
+pub(crate) struct PlanWords<'w> {
+    /// Name of the part.
+    pub part: &'w str,
+    /// Size of the bootloader.
+    pub boot: &'w str,
+    /// Number of areas.
+    pub areas: &'w str,
+    /// File of parts; the built-in table without it.
+    pub parts: Option<&'w str>,
+    /// Tells whether each line is to be an object.
+    pub json: bool,
+}
+
+/// The output for the line of a refusal or a fault.
+fn output<'o, R: Print + AllocGlobal>(
+    rt: &'o R,
+    words: PlanWords<'o>,
+) -> JsonLines<'o, Printer<'o, R>> {
+    JsonLines::new(rt.alloc(), words.json, words.parts, io::writer(rt))
+}
+
+/// A table of parts, read whole; or the outcome if it can't be. Its lines may end in CR LF.
+fn read_table<R: Files + Input + Print + AllocGlobal>(
+    rt: &R,
+    words: PlanWords<'_>,
+    name: &str,
+) -> Result<Vec<u8>, Outcome> {
+    let alloc = rt.alloc();
+    let given = match open(rt, name) {
+        Ok(given) => given,
+        Err(error) => {
+            return Err(Outcome {
+                exit: fault_text(SuffixFault::Read, &mut output(rt, words)),
+                reason: error_reason(alloc, name, &error),
+            });
+        }
+    };
+    let mut watched = Watched::new(given);
+    match gather(alloc, LineEnds::new(&mut watched), MAX_TABLE) {
+        Ok(bytes) => Ok(bytes),
+        Err(fault) => Err(Outcome {
+            exit: fault_text(gather_fault(fault), &mut output(rt, words)),
+            reason: watched.reason(alloc, name),
+        }),
+    }
+}
+
+/// Returns the reason for which a part is unknown: the nearest name, and all.
+fn unknown_reason(alloc: Global, table: &[u8], part: &str) -> Result<String, AllocError> {
+    let Known { names, nearest, .. } = known_in(alloc, table, part)?;
+    let why = if nearest.is_empty() {
+        format!(in alloc; "it isn't in the table, which has {names}")?
+    } else {
+        format!(in alloc; "it isn't in the table, which has {names}; did you mean {nearest}?")?
+    };
+    reason_line(alloc, "--part ", part, &why)
+}
+
+/// Refuses a part that no line names, or a table with a wrong line.
+fn without_part<R: Print + AllocGlobal>(
+    rt: &R,
+    words: PlanWords<'_>,
+    table: &[u8],
+    fault: PartFault,
+) -> Outcome {
+    let alloc = rt.alloc();
+    match fault {
+        PartFault::BadLine { number, why } => bad_line(rt, words, number, why),
+        PartFault::UnknownPart => Outcome {
+            exit: write_out(
+                &mut output(rt, words),
+                b"refused UnknownPart\n",
+                Exit::Refused,
+            ),
+            reason: unknown_reason(alloc, table, words.part).ok(),
+        },
+        PartFault::NoMemory => no_memory(rt, words),
+    }
+}
+
+/// Refuses a line of a table.
+fn bad_line<R: Print + AllocGlobal>(
+    rt: &R,
+    words: PlanWords<'_>,
+    number: usize,
+    why: RowFault,
+) -> Outcome {
+    let alloc = rt.alloc();
+    let Ok(line) = format!(in alloc; "refused BadLine {number}\n") else {
+        return no_memory(rt, words);
+    };
+    let name = words.parts.unwrap_or("the built-in table");
+    Outcome {
+        exit: write_out(&mut output(rt, words), line.as_bytes(), Exit::Refused),
+        reason: match format!(in alloc; "line {number}: {why}") {
+            Ok(why) => file_reason(alloc, name, &why),
+            Err(_) => None,
+        },
+    }
+}
+
+/// Refuses a bootloader and areas for which a part has no room.
+fn without_room<R: Print + AllocGlobal>(
+    rt: &R,
+    words: PlanWords<'_>,
+    part: &Part,
+    boot: u32,
+) -> Outcome {
+    let alloc = rt.alloc();
+    let areas = words.areas;
+    let why = if is_full(part, boot) {
+        format!(in alloc; "a bootloader of {boot} bytes leaves no sector")
+    } else {
+        format!(in alloc;
+            "behind a bootloader of {boot} bytes its sectors are too few or too unequal for {areas} areas"
+        )
+    };
+    Outcome {
+        exit: write_out(&mut output(rt, words), b"refused NoRoom\n", Exit::Refused),
+        reason: match why {
+            Ok(why) => reason_line(alloc, "--part ", words.part, &why).ok(),
+            Err(_) => None,
+        },
+    }
+}
+
+fn no_memory<R: Print + AllocGlobal>(rt: &R, words: PlanWords<'_>) -> Outcome {
+    Outcome {
+        exit: fault_text(SuffixFault::NoMemory, &mut output(rt, words)),
+        reason: None,
+    }
+}
+
+/// Address of the first byte of a part.
+fn begin_of(part: &Part) -> u32 {
+    match part.regions.first() {
+        Some(region) => region.at,
+        None => 0,
+    }
+}
+
+/// Returns whether a bootloader takes all of a part.
+fn is_full(part: &Part, boot: u32) -> bool {
+    part.end <= u64::from(begin_of(part)).saturating_add(u64::from(boot))
+}
+
+/// Prints the placement on a part.
+fn print_plan<R: Print + AllocGlobal>(
+    rt: &R,
+    words: PlanWords<'_>,
+    part: &Part,
+    boot: Span,
+    placement: Placement,
+) -> Outcome {
+    let alloc = rt.alloc();
+    let planned = Plan {
+        part: words.part,
+        // A note is printable ASCII.
+        note: std::str::from_utf8(&part.note).unwrap_or(""),
+        boot,
+        placement,
+    };
+    let text = if words.json {
+        plan_objects(alloc, &planned)
+    } else {
+        plan_text(alloc, &planned)
+    };
+    match text {
+        Ok(text) => Outcome {
+            exit: write_out(&mut io::writer(rt), text.as_bytes(), Exit::Done),
+            reason: None,
+        },
+        Err(_) => no_memory(rt, words),
+    }
+}
+
+/// Places gates, headers and data on a part of a table.
+fn plan_part<R: Print + AllocGlobal>(
+    rt: &R,
+    words: PlanWords<'_>,
+    table: &[u8],
+    boot: u32,
+    areas: Areas,
+) -> Outcome {
+    let part = match part_in(rt.alloc(), table, words.part.as_bytes()) {
+        Ok(part) => part,
+        Err(fault) => return without_part(rt, words, table, fault),
+    };
+    let boot = Span {
+        at: begin_of(&part),
+        len: boot,
+    };
+    // A unit of 256 bytes is the largest, so that gates and headers have room for any.
+    let needs = Needs {
+        boot,
+        unit: Unit::U256,
+        marks: 0,
+    };
+    match plan(&part.regions, needs, areas) {
+        Ok(placement) => print_plan(rt, words, &part, boot, placement),
+        Err(_) => without_room(rt, words, &part, boot.len),
+    }
+}
+
+/// Prints where gates, headers and data lie on a part, if the words can be used.
+pub(crate) fn perform_plan<R: Files + Input + Print + AllocGlobal>(
+    rt: &R,
+    words: PlanWords<'_>,
+) -> Outcome {
+    let Some(boot) = size_in(words.boot.as_bytes()) else {
+        return refused_word(rt, WordFault::Boot, words.boot);
+    };
+    let Some(areas) = areas_in(words.areas) else {
+        return refused_word(rt, WordFault::Areas, words.areas);
+    };
+    let Some(name) = words.parts else {
+        return plan_part(rt, words, PARTS.as_bytes(), boot, areas);
+    };
+    match read_table(rt, words, name) {
+        Ok(table) => plan_part(rt, words, &table, boot, areas),
+        Err(answer) => answer,
+    }
+}

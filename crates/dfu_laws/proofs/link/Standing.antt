@@ -1,0 +1,226 @@
+-- Facts that hold of all sessions with a board, and of the images in both slots of its flash.
+use Rattle.std.specs.Prelude.{◌≡◌, ◌⊎◌, ℕ, ◌<◌, Bool, List, [], ◌∷◌, Option, Some, None}
+use Rattle.std.proofs.Common.{inl, inr, refl, sym, ap, ◌∙◌, subst}
+use Rattle.dfu_slots.specs.Medium.{MediumState}
+use Rattle.dfu_slots.specs.Image.{Active, HasImage}
+use Rattle.dfu_slots.specs.StoreView.{SlotsState, image_of}
+use Rattle.dfu_device.specs.Stage.{Profile}
+use Rattle.dfu_device.specs.DeviceView.{DeviceView, profile, situation}
+use Rattle.dfu_asks.specs.Mapped.{grain_of}
+use Rattle.dfu_asks.specs.Asks.{flash_store}
+use Rattle.dfu_host.specs.declared.limits.Limits.{Limits}
+use Rattle.dfu_host.specs.Phases.{Goal, FetchGoal}
+use Rattle.dfu_host.specs.Host.{host_for_goal}
+use Rattle.dfu_sim.specs.Session.{LiveSession, LoadingPayload, IsOneOf}
+use Rattle.dfu_sim.specs.Opening.{goal_of_purpose, opened}
+use Rattle.dfu_sim.specs.Play.{Answered}
+use Rattle.dfu_sim.specs.LinkView.{Session, HostSession}
+use Rattle.dfu_sim.specs.Agreement.{live_session_of_goal, live_session_of, IsLiveOffer}
+use Rattle.dfu_sim.specs.LinkAgreement.{ClosedWasOffered}
+use Rattle.dfu_sim.specs.Fact.{SessionFact}
+use Rattle.dfu_sim.specs.Simulation.{Simulation, ActiveImageWasOffered}
+use Rattle.dfu_laws.specs.board.Board.{Board, lent_on, medium_on, device_on, state_on, BoardStep}
+use Rattle.dfu_laws.specs.board.Happens.{IsPoweredOn}
+use Rattle.dfu_laws.specs.board.Refines.{IdleRunsRefineTable}
+use Rattle.dfu_laws.specs.board.Slots.{IsInSlot, WasActiveMeanwhile, IdleRunsKeepSlots}
+use Rattle.dfu_laws.specs.link.LinkSteps.{BoardLink, BoardLinkStep}
+use Rattle.dfu_laws.specs.link.Marks.{TrialEnd}
+use Rattle.dfu_laws.specs.link.Trials.{TrialMayEnd}
+use Rattle.dfu_laws.specs.link.Plays.{BoardPlays, starts, offers, uploads, aborts as gives_up, goes_on, ends}
+use Rattle.dfu_laws.proofs.board.Slots.{active_in_slot}
+use Rattle.dfu_laws.proofs.link.InSlots.{marks_change_no_slot, gate_close_adds_no_image}
+use Rattle.dfu_laws.proofs.link.Ended.{idle_board_has_device_state, trial_end_keeps_profile, session_fact_after_trial_end}
+use Rattle.dfu_laws.proofs.link.Played.{BoardAndHostFacts, FactsAfterEvent, event_keeps_facts}
+use Rattle.dfu_laws.proofs.link.Ran.{link_step_is_run_or_mark}
+use Rattle.dfu_laws.proofs.link.Sessions.{purpose_goal_is_loading, same_loading_same_payload, closed_bytes_offered_with_more, opened_fact_of_same_profile, fact_of_offered_session, fact_of_upload_session, given_up_session_keeps_fact}
+use Rattle.dfu_laws.proofs.link.Stopped.{no_bytes_closed_at_start}
+use Rattle.dfu_laws.proofs.link.Within.{idle_board_image_is_known}
+use Rattle.dfu_laws.proofs.link.Throughout.{known_through_event}
+
+-- Clauses `shown` and `only` of the law `active_image_is_one`: the image that image_of gives is active, and no other one is.
+abbrev pub ImageIsShown : Type 0
+ImageIsShown = (s : SlotsState) → HasImage s.medium → Active s.medium (image_of s)
+
+abbrev pub OneActiveImageClause : Type 0
+OneActiveImageClause = (s : SlotsState) (image : List ℕ) → Active s.medium image → image ≡ image_of s
+
+-- Laws on which the proof stands.
+pub record LinkLaws : Type 0 where
+  pub refines : IdleRunsRefineTable
+  pub keeps : IdleRunsKeepSlots
+  pub simulation : Simulation
+  pub only : ActiveImageWasOffered
+  pub shown : ImageIsShown
+  pub one : OneActiveImageClause
+
+-- The laws together.
+pub link_laws : IdleRunsRefineTable → IdleRunsKeepSlots → Simulation → ActiveImageWasOffered → ImageIsShown → OneActiveImageClause →
+    LinkLaws
+link_laws refines keeps simulation only shown one =
+    record { refines = refines; keeps = keeps; simulation = simulation; only = only; shown = shown; one = one }
+
+-- An image was there at first: as the active image, or in a slot if it was active as a trial ended.
+abbrev pub WasThereAtFirst : MediumState → (image : List ℕ) (back : List (List ℕ)) → List ℕ → Type 0
+WasThereAtFirst m image back i = (i ≡ image) ⊎ (IsInSlot m i × IsOneOf i back)
+
+module _ (laws : LinkLaws) (c : Profile) (sized : 0 < c.transfer) (b : Board) (image : List ℕ) (active : Active (medium_on b) image) where
+  abbrev WasOnBoardAtFirst : List (List ℕ) → List ℕ → Type 0
+  WasOnBoardAtFirst back i = WasThereAtFirst (medium_on b) image back i
+
+  -- An image in a slot was in one at first, or was offered.
+  abbrev SlotImageOrigin : List (List ℕ) → List ℕ → Type 0
+  SlotImageOrigin past i = IsInSlot (medium_on b) i ⊎ IsOneOf i past
+
+  origin_of_known_image : (past back : List (List ℕ)) (i : List ℕ) → WasOnBoardAtFirst back i ⊎ IsOneOf i past → SlotImageOrigin past i
+  origin_of_known_image past back i (inl (inl same)) =
+      inl (subst (λ (z : List ℕ). IsInSlot (medium_on b) z) (sym same) (active_in_slot (medium_on b) image active))
+  origin_of_known_image past back i (inl (inr came)) = inl came.0
+  origin_of_known_image past back i (inr one) = inr one
+
+  -- The facts of a board and its host hold, and each image in a slot was in a slot at first, or was offered.
+  pub record BoardAndSlotsStand (past back : List (List ℕ)) (last : Option (List ℕ)) (l : BoardLink) : Type 0 where
+    pub device : DeviceView
+    pub stands : BoardAndHostFacts c (WasOnBoardAtFirst back) past last l device
+    pub slots : (i : List ℕ) → IsInSlot (medium_on l.board) i → SlotImageOrigin past i
+
+  -- If a session begins on a board on which the facts hold, they hold again.
+  begins : (past now back : List (List ℕ)) (last next : Option (List ℕ)) (l : BoardLink) (goal : Goal) (limits : Limits)
+      → (x : BoardAndSlotsStand past back last l) → SessionFact c (situation x.device) (opened c goal limits.actions limits.restarts)
+      → ((payload : List ℕ) → live_session_of_goal goal ≡ LoadingPayload payload → next ≡ Some payload) →
+      IsLiveOffer now (live_session_of_goal goal)
+      → ClosedWasOffered now x.device.stage → WasOnBoardAtFirst back (image_of x.device.slots) ⊎ IsOneOf (image_of x.device.slots) now
+      → ((i : List ℕ) → SlotImageOrigin past i → SlotImageOrigin now i)
+      → BoardAndSlotsStand now back next (record l { session = HostSession (host_for_goal l.board.asking.config.functional goal limits) })
+  begins past now back last next l goal limits x f live offered sound known more = record {
+    device = x.device;
+    stands = record {
+      idle = x.stands.idle;
+      profile_is = x.stands.profile_is;
+      fact = opened_fact_of_same_profile laws.simulation laws.only c sized (situation x.device) (profile (device_on l.board))
+          (ap profile x.stands.idle.device ∙ x.stands.profile_is) goal limits f;
+      live = live;
+      offered = offered;
+      sound = sound;
+      known = known;
+    };
+    slots = λ i there. more i (x.slots i there);
+  }
+
+  -- What was offered is still offered after one more payload.
+  more_of : {P : Type 0} (i payload : List ℕ) (offered : List (List ℕ)) → P ⊎ IsOneOf i offered → P ⊎ IsOneOf i (payload ∷ offered)
+  more_of i payload offered (inl here) = inl here
+  more_of i payload offered (inr one) = inr (inr one)
+
+  -- If a trial ends on a board on which the facts hold, they hold again.
+  trial_end_keeps_invariant : (past back : List (List ℕ)) (last : Option (List ℕ)) (l : BoardLink) (b' : Board) (came : List ℕ) (dfu : Bool)
+      → BoardAndSlotsStand past back last l → TrialMayEnd l.session (state_on l.board) dfu → TrialEnd l.board dfu b' →
+      Active (medium_on b') came
+      → BoardAndSlotsStand past (came ∷ back) last (record { board = b'; session = l.session })
+  trial_end_keeps_invariant past back last l b' came dfu x may end now =
+      let on = end.starts.0 in
+      let grain : (medium_on b').grain ≡ (medium_on l.board).grain = λ j. grain_of (end.same.unit j) (end.same.sector j) in
+      let sized = x.stands.idle.is.store.has_image.active.sized in
+      let there : (i : List ℕ) → IsInSlot (medium_on b') i → SlotImageOrigin past i =
+      λ i in_slot. x.slots i (gate_close_adds_no_image (medium_on l.board) (medium_on b') sized end.closed grain i in_slot) in
+      let whence : SlotImageOrigin past came = there came (active_in_slot (medium_on b') came now) in
+      let known : WasOnBoardAtFirst (came ∷ back) came ⊎ IsOneOf came past = elim (whence) [
+        | inl first ↦ inl (inr (first, inl refl))
+        | inr one ↦ inr one
+      ] in
+      record {
+        device = device_on b';
+        stands = record {
+          idle = record { work = on.work; is = on.is; device = refl };
+          profile_is = trial_end_keeps_profile l.board b' dfu end ∙ ap profile x.stands.idle.device ∙ x.stands.profile_is;
+          fact = session_fact_after_trial_end c l.session l.board b' dfu x.device (idle_board_has_device_state laws.refines l.board
+              x.device x.stands.idle) may end.starts
+              x.stands.fact;
+          live = x.stands.live;
+          offered = x.stands.offered;
+          sound = subst (λ (d : DeviceView). ClosedWasOffered past d.stage) (sym on.device) (no_bytes_closed_at_start past on.begins);
+          known = subst (λ (i : List ℕ). WasOnBoardAtFirst (came ∷ back) i ⊎ IsOneOf i past)
+              (laws.one (flash_store (lent_on b') b'.flash) came now) known;
+        };
+        slots = there;
+      }
+
+  -- After the next event each image in a slot was in a slot before, or was active meanwhile.
+  event_keeps_slot_origins : (past back : List (List ℕ)) (last : Option (List ℕ)) (l l' : BoardLink) (more : List BoardStep) (answer :
+      Answered)
+      → (x : BoardAndSlotsStand past back last l) → FactsAfterEvent c (WasOnBoardAtFirst back) past last answer l' →
+      BoardLinkStep l more answer l' → (i : List ℕ)
+      → IsInSlot (medium_on l'.board) i → SlotImageOrigin past i
+  event_keeps_slot_origins past back last l l' more answer x y comes i there = elim (link_step_is_run_or_mark l l' more answer comes) [
+    | inl run ↦ elim (laws.keeps l.board l'.board x.device more i x.stands.idle run y.stands.idle.work there) [
+      | inl before ↦ x.slots i before
+      | inr was ↦ active_meanwhile_has_origin was
+    ]
+    | inr mark ↦ x.slots i (marks_change_no_slot (medium_on l.board) (medium_on l'.board) mark.1.unread i there)
+  ]
+    where
+      active_meanwhile_has_origin : WasActiveMeanwhile l.board more i → SlotImageOrigin past i
+      active_meanwhile_has_origin was =
+          let at = idle_board_image_is_known laws.refines c (WasOnBoardAtFirst back) past l'.board y.device y.stands.idle
+          (record { sound = y.stands.sound; known = y.stands.known }) in
+          let k = known_through_event laws.refines laws.simulation laws.only c sized (WasOnBoardAtFirst back) past last l l' x.device more
+          answer x.stands
+          at comes was.front was.rest was.mid was.steps_are was.run in
+          let s = flash_store (lent_on was.mid) was.mid.flash in
+          let same : k.now ≡ i = laws.one s k.now k.active ∙ sym (laws.one s i was.active) in
+          origin_of_known_image past back i (subst (λ (z : List ℕ). WasOnBoardAtFirst back z ⊎ IsOneOf z past) same k.known)
+
+  pub stands : (steps : List BoardStep) (past back : List (List ℕ)) (last : Option (List ℕ)) (l : BoardLink) → IsPoweredOn b
+      → profile (device_on b) ≡ c
+      → BoardPlays b steps past back last l → BoardAndSlotsStand past back last l
+  stands _ _ _ _ _ on e starts = record {
+    device = device_on b;
+    stands = record {
+      idle = record { work = on.work; is = on.is; device = refl };
+      profile_is = e;
+      fact = tt;
+      live = λ payload x. absurd (cc);
+      offered = tt;
+      sound = subst (λ (x : DeviceView). ClosedWasOffered [] x.stage) (sym on.device) (no_bytes_closed_at_start [] on.begins);
+      known = inl (inl (sym (laws.one (flash_store (lent_on b) b.flash) image active)));
+    };
+    slots = λ i there. inl there;
+  }
+  stands steps _ _ _ _ on e (offers {past = past} {back = back} {last = last} {l = l} purpose payload limits p none some) =
+      let x = stands steps past back last l on e p in
+      begins past (payload ∷ past) back last (Some payload) l (goal_of_purpose purpose payload) limits x
+      (fact_of_offered_session laws.simulation laws.only c sized past (situation x.device) purpose payload limits x.stands.sound some)
+      (λ y same. same_loading_same_payload payload y (sym (purpose_goal_is_loading purpose payload) ∙ same))
+      (subst (λ (y : LiveSession). IsLiveOffer (payload ∷ past) y) (sym (purpose_goal_is_loading purpose payload)) (inl refl))
+      (closed_bytes_offered_with_more payload past x.device.stage x.stands.sound)
+      (more_of (image_of x.device.slots) payload past x.stands.known)
+      (λ i whence. more_of i payload past whence)
+  stands steps past back _ _ on e (uploads {last = last} {l = l} limits p none) =
+      let x = stands steps past back last l on e p in
+      begins past past back last None l FetchGoal limits x
+      (fact_of_upload_session laws.simulation laws.only c sized past (situation x.device) limits x.stands.sound)
+      (λ y same. absurd (cc)) tt x.stands.sound x.stands.known (λ i whence. whence)
+  stands steps past back last _ on e (gives_up {l = l} {h = h} p live) =
+      let x = stands steps past back last l on e p in
+      let f = subst (λ (y : Session). SessionFact c (situation x.device) y) live x.stands.fact in
+      let o = subst (λ (y : Session). IsLiveOffer past (live_session_of y)) live x.stands.offered in
+      let g = given_up_session_keeps_fact laws.simulation laws.only c sized past (situation x.device) h x.stands.sound o f in
+      record {
+        device = x.device;
+        stands = record {
+          idle = x.stands.idle;
+          profile_is = x.stands.profile_is;
+          fact = g.fact;
+          live = λ y same. x.stands.live y (ap live_session_of live ∙ sym g.live ∙ same);
+          offered = subst (λ (y : LiveSession). IsLiveOffer past y) (sym g.live) o;
+          sound = x.stands.sound;
+          known = x.stands.known;
+        };
+        slots = x.slots;
+      }
+  stands _ past back last _ on e (goes_on {steps = steps} {more = more} {l = l} {l' = l'} {answer = answer} p comes) =
+      let x = stands steps past back last l on e p in
+      let y = event_keeps_facts laws.refines laws.simulation laws.only c sized past (WasOnBoardAtFirst back) last l l' x.device more answer
+      x.stands comes in
+      record { device = y.device; stands = y.stands; slots = event_keeps_slot_origins past back last l l' more answer x y comes }
+  stands steps _ _ last _ on e (ends {past = past} {back = back} {l = l} {b' = b'} {begins = dfu} came p may end now) =
+      trial_end_keeps_invariant past back last l b' came dfu (stands steps past back last l on e p) may end now

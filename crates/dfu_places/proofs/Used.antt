@@ -1,0 +1,33 @@
+-- Virtual bytes that the store uses are on the part.
+use Rattle.std.proofs.Common.{◌≡◌, ℕ, ◌+◌, ◌≤◌, ◌==◌, ◌||◌, nat_lt, min, Bool, true, false, IsSome, Some, None, List, refl, arith, if◌then◌else◌}
+use Rattle.dfu_places.specs.declared.region.Region.{Region}
+use Rattle.dfu_places.specs.declared.placement.Placement.{Placement}
+use Rattle.dfu_places.specs.declared.placement.Needs.{Needs}
+use Rattle.dfu_places.specs.Things.{span_at, bytes_at, room_at, used_at}
+use Rattle.dfu_places.specs.Placement.{IsPlacement}
+use Rattle.dfu_places.specs.Finding.{spot_of}
+use Rattle.dfu_places.specs.Laws.{UsedAreThere}
+use Rattle.dfu_places.proofs.Spots.{is_spot}
+use Rattle.dfu_places.proofs.Places.{of_slots}
+
+some_found : (x y z : ℕ) (b : Bool) → nat_lt x y ≡ b → y ≤ x → IsSome (if b then None else Some z)
+some_found x y z true e le = absurd (grind (arith, e, le))
+some_found x y z false e le = refl
+
+chosen : (b : Bool) (room len some : ℕ) → room ≤ (if b then len else some) → (if b then len else room) ≤ (if b then len else some)
+chosen true room len some le = omega arith
+chosen false room len some le = le
+
+used_le : (regions : List Region) (needs : Needs) (p : Placement) → IsPlacement regions needs p → (i : ℕ) → i ≤ 5 →
+    used_at needs p i ≤ bytes_at p i
+unfolding bytes_at
+used_le regions needs p is i few =
+    chosen (i == 2 || i == 5) (room_at needs i) (span_at p i).len (min (span_at p i).len p.sector) (is.roomy i (of_slots p i few))
+
+pub used_there : UsedAreThere
+used_there regions needs p v len is within =
+    let spot = spot_of p v in
+    let known = is_spot p v in
+    some_found (bytes_at p spot.rank) (spot.offset + len) ((span_at p spot.rank).at + spot.offset)
+    (nat_lt (bytes_at p spot.rank) (spot.offset + len)) refl
+    (omega (arith, within, used_le regions needs p is spot.rank known.rank))

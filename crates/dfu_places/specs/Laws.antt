@@ -1,0 +1,45 @@
+-- Laws of placements.
+use Rattle.std.specs.Prelude.{◌≡◌, ℕ, ◌+◌, ◌≤◌, ◌<◌, List, Some, IsSome}
+use Rattle.dfu_places.specs.declared.region.Span.{Span}
+use Rattle.dfu_places.specs.declared.region.Region.{Region}
+use Rattle.dfu_places.specs.declared.placement.Placement.{Placement}
+use Rattle.dfu_places.specs.declared.placement.Needs.{Needs}
+use Rattle.dfu_places.specs.Regions.{end_of, IsApart, IsWhole}
+use Rattle.dfu_places.specs.Things.{used_at}
+use Rattle.dfu_places.specs.Placement.{IsPlacement}
+use Rattle.dfu_places.specs.Finding.{spot_of, found, erased}
+
+-- Two virtual bytes that are there lie at two addresses.
+abbrev pub IsOneToOne : Type 0
+IsOneToOne =
+    (regions : List Region) (needs : Needs) (p : Placement) (v w a : ℕ) → IsPlacement regions needs p →
+    found p v 1 ≡ Some a → found p w 1 ≡ Some a → v ≡ w
+
+-- Virtual bytes side by side lie side by side.
+abbrev pub IsInOrder : Type 0
+IsInOrder =
+    (p : Placement) (v len i a : ℕ) → found p v len ≡ Some a → i < len → found p (v + i) 1 ≡ Some (a + i)
+
+-- An erase of a virtual sector is of whole sectors of one region, outside the bootloader.
+abbrev pub ErasesWhole : Type 0
+ErasesWhole =
+    (regions : List Region) (needs : Needs) (p : Placement) (v : ℕ) (s : Span) → IsPlacement regions needs p → erased p v ≡ Some s →
+    IsWhole regions s.len s × IsApart needs.boot s
+
+-- Erases of two virtual sectors have no byte in common.
+abbrev pub ErasesApart : Type 0
+ErasesApart =
+    (regions : List Region) (needs : Needs) (p : Placement) (v w : ℕ) (s t : Span) → IsPlacement regions needs p →
+    v < w → erased p v ≡ Some s → erased p w ≡ Some t → IsApart s t
+
+-- An erase of a virtual sector leaves each virtual byte outside it.
+abbrev pub ErasesItsOwn : Type 0
+ErasesItsOwn =
+    (regions : List Region) (needs : Needs) (p : Placement) (v w a : ℕ) (s : Span) → IsPlacement regions needs p →
+    erased p v ≡ Some s → found p w 1 ≡ Some a → s.at ≤ a → a < end_of s → (v ≤ w) × (w < v + p.sector)
+
+-- Virtual bytes that the store uses are there.
+abbrev pub UsedAreThere : Type 0
+UsedAreThere =
+    (regions : List Region) (needs : Needs) (p : Placement) (v len : ℕ) → IsPlacement regions needs p →
+    (spot_of p v).offset + len ≤ used_at needs p (spot_of p v).rank → IsSome (found p v len)

@@ -1,0 +1,158 @@
+//! Rules of a placement.
+ghost use Rattle.std.specs.Prelude.{◌≡◌, ◌%◌, ◌^◌, ◌<◌, ◌≤◌, ◌↔◌, IsTrue, IsOk, IfSome, IfNone, IfErr, OnOk};
+ghost use Rattle.dfu_places.specs.Regions.{AreRegions, IsApart};
+ghost use Rattle.dfu_places.specs.Things.{span_at, things, rank};
+ghost use Rattle.dfu_places.specs.Placement.{IsSectorSize, IsCapacity, RunIsEqual, AllHold, FirstBroken, FirstMeeting};
+ghost use Rattle.dfu_places.specs.Placement.{IsThingWhole, IsThingRoomy, IsThingOutside, IsThingOwn};
+ghost use Rattle.dfu_places.specs.Placement.{HasSizes, IsPlacement, FirstRefusalOfSizes, FirstRefusal};
+
+use crate::placement::{bytes_at, part_at, room_at, span_at, things};
+use crate::refusal::thing_of;
+use crate::region::{are_regions, is_apart, is_whole};
+use crate::{Needs, Placement, Refusal, Region, Span, Thing};
+use dfu_slots::MAX_SECTOR;
+
+/// Most bytes of data of a slot.
+pub(crate) const MAX_CAPACITY: u32 = 1 << 24;
+
+fn is_sector_size(sector: u32) -> bool
+    ensures { IsTrue result ↔ IsSectorSize sector }
+{
+    sector % 256 == 0 && sector > 0 && sector <= MAX_SECTOR
+}
+
+fn is_capacity(sector: u32, len: u32) -> bool
+    requires { IsSectorSize sector }
+    ensures { IsTrue result ↔ IsCapacity sector len }
+{
+    len > 0 && len <= MAX_CAPACITY && len % sector == 0
+}
+
+fn is_run_equal(run: Option<Span>, len: u32) -> bool
+    ensures { IsTrue result ↔ RunIsEqual run len }
+{
+    match run {
+        Some(span) => span.len == len,
+        None => true,
+    }
+}
+
+// Returns the rank of the first thing that is not of whole sectors.
+fn first_not_whole(regions: &[Region], placement: &Placement) -> Option<u32>
+    ensures none { IfNone result (AllHold (IsThingWhole regions.now placement.now) (things placement.now)) }
+    ensures some { IfSome result (FirstBroken (IsThingWhole regions.now placement.now) (things placement.now)) }
+{
+    for i in 0..things(placement) {
+        if !is_whole(regions, part_at(placement, i), span_at(placement, i)) {
+            return Some(i);
+        }
+    }
+    None
+}
+
+// Returns the rank of the first thing with too few bytes.
+fn first_not_roomy(needs: Needs, placement: &Placement) -> Option<u32>
+    ensures none { IfNone result (AllHold (IsThingRoomy needs placement.now) (things placement.now)) }
+    ensures some { IfSome result (FirstBroken (IsThingRoomy needs placement.now) (things placement.now)) }
+{
+    for i in 0..things(placement) {
+        if (bytes_at(placement, i) as u64) < room_at(needs, i) {
+            return Some(i);
+        }
+    }
+    None
+}
+
+// Returns the rank of the first thing with bytes of the bootloader.
+fn first_in_boot(boot: Span, placement: &Placement) -> Option<u32>
+    ensures none { IfNone result (AllHold (IsThingOutside boot placement.now) (things placement.now)) }
+    ensures some { IfSome result (FirstBroken (IsThingOutside boot placement.now) (things placement.now)) }
+{
+    for i in 0..things(placement) {
+        if !is_apart(boot, span_at(placement, i)) {
+            return Some(i);
+        }
+    }
+    None
+}
+
+// Returns the rank of the first thing, before one with this rank, that has a byte in common with that.
+fn first_met(placement: &Placement, j: u32) -> Option<u32>
+    ensures none { IfNone result (IsThingOwn placement.now j) }
+    ensures some { IfSome result (FirstBroken (IsThingOutside (span_at placement.now j) placement.now) j) }
+{
+    for i in 0..j {
+        if !is_apart(span_at(placement, j), span_at(placement, i)) {
+            return Some(i);
+        }
+    }
+    None
+}
+
+// Returns the ranks of the first two things with a byte in common.
+fn first_meeting(placement: &Placement) -> Option<(u32, u32)>
+    ensures none { IfNone result (AllHold (IsThingOwn placement.now) (things placement.now)) }
+    ensures some { IfSome result (λ pair. FirstMeeting placement.now pair.0 pair.1) }
+{
+    for j in 0..things(placement) {
+        if let Some(i) = first_met(placement, j) {
+            return Some((i, j));
+        }
+    }
+    None
+}
+
+// Checks the sizes of a placement.
+fn check_sizes(regions: &[Region], placement: &Placement) -> Result<(), Refusal>
+    ensures ok { OnOk result (HasSizes regions.now placement.now) }
+    ensures refused { IfErr result (FirstRefusalOfSizes regions.now placement.now) }
+{
+    if !are_regions(regions) {
+        return Err(Refusal::BadRegions);
+    }
+    if !is_sector_size(placement.sector) {
+        return Err(Refusal::BadSector);
+    }
+    let len = placement.first.data.len;
+    if !is_capacity(placement.sector, len) {
+        return Err(Refusal::BadCapacity);
+    }
+    if placement.second.data.len != len {
+        return Err(Refusal::Unequal(Thing::SecondData));
+    }
+    if !is_run_equal(placement.run, len) {
+        return Err(Refusal::Unequal(Thing::RunArea));
+    }
+    Ok(())
+}
+
+/// Checks a placement on a part with these regions. It is refused by the first of these rules that it breaks, each for all things in the
+/// order of `Thing` before the next rule:
+///
+/// 1. `BadRegions`: the regions have sectors, are in the order of their addresses, do not overlap, and end below 2^32.
+/// 2. `BadSector`: the virtual sector is a multiple of 256, from 256 to 262,144 bytes.
+/// 3. `BadCapacity`: the first data are whole virtual sectors, 1 to 16,777,216 bytes.
+/// 4. `Unequal`: the second data have as many bytes, and so has the run area.
+/// 5. `NotWhole`: each thing lies in one region, from the beginning of a sector on, and is of whole sectors; of data each virtual sector is.
+/// 6. `NoRoom`: a gate has 16 bytes, or a unit if that is more; a header as many, and the marks.
+/// 7. `InBootloader`: no thing has a byte of the bootloader, and so none of its sectors.
+/// 8. `Shared`: no two things have a byte in common, and so no sector.
+pub fn check(regions: &[Region], needs: Needs, placement: &Placement) -> Result<(), Refusal>
+    ensures ok { IsOk result ↔ IsPlacement regions.now needs placement.now }
+    ensures refused { IfErr result (FirstRefusal regions.now needs placement.now) }
+{
+    check_sizes(regions, placement)?;
+    if let Some(i) = first_not_whole(regions, placement) {
+        return Err(Refusal::NotWhole(thing_of(i)));
+    }
+    if let Some(i) = first_not_roomy(needs, placement) {
+        return Err(Refusal::NoRoom(thing_of(i)));
+    }
+    if let Some(i) = first_in_boot(needs.boot, placement) {
+        return Err(Refusal::InBootloader(thing_of(i)));
+    }
+    if let Some((i, j)) = first_meeting(placement) {
+        return Err(Refusal::Shared(thing_of(i), thing_of(j)));
+    }
+    Ok(())
+}

@@ -1,0 +1,110 @@
+//! Places on a part of virtual bytes.
+ghost use Rattle.std.specs.Prelude.{◌≡◌, ◌^◌, ◌<◌, ◌≤◌, ◌+◌, ◌*◌};
+ghost use Rattle.dfu_places.specs.Placement.{IsPlaced, IsSectorSize};
+ghost use Rattle.dfu_places.specs.Finding.{slot_len, virtual_len, spot_in, spot_of, found, erased};
+
+use crate::placement::{bytes_at, span_at};
+use crate::{Placement, Span};
+
+/// Thing in which a virtual byte lies, by its rank, and the byte's distance from the first one of that.
+#[derive(Clone, Copy, Drop)]
+pub(crate) struct Spot {
+    pub rank: u32,
+    pub offset: u32,
+}
+
+// Returns the virtual bytes of a slot.
+fn slot_len(placement: &Placement) -> u32
+    requires { IsPlaced placement.now }
+    ensures value { result ≡ slot_len placement.now }
+    ensures most { result < 2 ^ 25 }
+{
+    2 * placement.sector + placement.first.data.len
+}
+
+/// Returns the bytes of the virtual flash: DFU_MEDIUM_SIZE of the unit, the virtual sector and the bytes of the data.
+pub fn virtual_len(placement: &Placement) -> u32
+    requires { IsPlaced placement.now }
+    ensures { result ≡ virtual_len placement.now }
+{
+    2 * slot_len(placement)
+}
+
+// Returns the spot of a byte of a slot, whose things have ranks from `first` on.
+fn spot_in(sector: u32, first: u32, at: u32) -> Spot
+    requires sector { sector ≤ 2 ^ 18 }
+    requires first { first ≤ 3 }
+    ensures rank { result.rank ≡ (spot_in sector first at).rank }
+    ensures offset { result.offset ≡ (spot_in sector first at).offset }
+{
+    if at < sector {
+        Spot {
+            rank: first,
+            offset: at,
+        }
+    } else if at < 2 * sector {
+        Spot {
+            rank: first + 1,
+            offset: at - sector,
+        }
+    } else {
+        Spot {
+            rank: first + 2,
+            offset: at - 2 * sector,
+        }
+    }
+}
+
+// Returns the spot of a virtual byte.
+fn spot_of(placement: &Placement, at: u32) -> Spot
+    requires { IsPlaced placement.now }
+    ensures rank { result.rank ≡ (spot_of placement.now at).rank }
+    ensures offset { result.offset ≡ (spot_of placement.now at).offset }
+    ensures most { result.rank ≤ 5 }
+{
+    let slot = slot_len(placement);
+    if at < slot {
+        spot_in(placement.sector, 0, at)
+    } else {
+        spot_in(placement.sector, 3, at - slot)
+    }
+}
+
+#[tactic(auto, using(crate::proofs::Places::end_fits, crate::proofs::Places::bytes_le))]
+/// Returns the address of the `len` virtual bytes from `at` on; None exactly if they do not all lie in one thing, or are not there.
+pub fn find(placement: &Placement, at: u32, len: u32) -> Option<u32>
+    requires { IsPlaced placement.now }
+    ensures { result ≡ found placement.now at len }
+{
+    let Spot { rank, offset } = spot_of(placement, at);
+    if (bytes_at(placement, rank) as u64) < offset as u64 + len as u64 {
+        None
+    } else {
+        Some(span_at(placement, rank).at + offset)
+    }
+}
+
+#[tactic(auto, using(crate::proofs::Places::end_fits, crate::proofs::Places::bytes_le))]
+/// Returns the sectors that are erased in place of the virtual one that begins at `at`: all of a gate or a header, or a part of the data;
+/// None exactly if no virtual sector begins there.
+pub fn erased(placement: &Placement, at: u32) -> Option<Span>
+    requires { IsPlaced placement.now }
+    ensures { result ≡ erased placement.now at }
+{
+    let Spot { rank, offset } = spot_of(placement, at);
+    let span = span_at(placement, rank);
+    if rank == 2 || rank == 5 {
+        if offset % placement.sector == 0 && offset < span.len {
+            Some(Span {
+                at: span.at + offset,
+                len: placement.sector,
+            })
+        } else {
+            None
+        }
+    } else if offset == 0 {
+        Some(span)
+    } else {
+        None
+    }
+}

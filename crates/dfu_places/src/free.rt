@@ -1,0 +1,109 @@
+//! Free sectors of a part, of which a plan takes the smallest for gates and headers.
+ghost use Rattle.std.specs.Prelude.{◌<◌, length};
+
+use crate::placement::room_at;
+use crate::region::end_of;
+use crate::{Needs, Region, Span};
+
+/// Gates and headers of a placement.
+pub(crate) const HEADS: u32 = 4;
+
+/// Free sectors of a region, side by side.
+#[derive(Clone, Copy, Drop)]
+pub(crate) struct Free {
+    /// Address of the first one.
+    pub at: u32,
+    /// Bytes of each.
+    pub sector: u32,
+    /// Sectors.
+    pub count: u32,
+}
+
+impl Free {
+    /// Returns the free sectors behind the first `taken` ones.
+    pub(crate) fn behind(self, taken: u32) -> Free {
+        Free {
+            at: self.at.saturating_add(self.sector.saturating_mul(taken)),
+            sector: self.sector,
+            count: self.count.saturating_sub(taken),
+        }
+    }
+}
+
+/// Returns the sectors of a region that have no byte of the bootloader: those before it, or those behind it if they are more.
+pub(crate) fn free_of(region: Region, boot: Span) -> Free {
+    let Region { at, sector, count } = region;
+    let all = Free { at, sector, count };
+    let end = end_of(boot);
+    if sector == 0 || end <= at as u64 {
+        return all;
+    }
+    let before = boot.at.saturating_sub(at) / sector;
+    if before >= count {
+        return all;
+    }
+    let taken = (end - at as u64).div_ceil(sector as u64);
+    let behind = all.behind(taken.min(count as u64) as u32);
+    if before > behind.count {
+        Free {
+            at,
+            sector,
+            count: before,
+        }
+    } else {
+        behind
+    }
+}
+
+// Returns whether gates and headers take sectors of one region before they take those of another: its sectors are smaller, or as small and
+// its place in the list is earlier.
+fn is_first(a: Region, i: usize, b: Region, j: usize) -> bool {
+    a.sector < b.sector || a.sector == b.sector && i < j
+}
+
+// Returns the free sectors of a region that gates and headers may take: all if they have room for a header and its marks, else none.
+fn heads_of(region: Region, needs: Needs) -> Free {
+    let free = free_of(region, needs.boot);
+    if (region.sector as u64) < room_at(needs, 1) {
+        free.behind(free.count)
+    } else {
+        free
+    }
+}
+
+// Returns the number of gates and headers that lie in regions of which they take sectors before they take those of region `j`.
+fn taken_before(regions: &[Region], needs: Needs, j: usize) -> u32
+    requires { j < length regions.now }
+{
+    let mut taken = 0u32;
+    for (i, region) in regions.iter().enumerate() {
+        if is_first(*region, i, regions[j], j) {
+            taken = taken.saturating_add(heads_of(*region, needs).count);
+        }
+    }
+    taken.min(HEADS)
+}
+
+/// Returns the sectors for a gate or a header, by its number from 0 to 3.
+pub(crate) fn head(regions: &[Region], needs: Needs, number: u32) -> Option<Span> {
+    for (j, region) in regions.iter().enumerate() {
+        let before = taken_before(regions, needs, j);
+        let free = heads_of(*region, needs);
+        if before <= number && number - before < free.count {
+            return Some(Span {
+                at: free.behind(number - before).at,
+                len: region.sector,
+            });
+        }
+    }
+    None
+}
+
+/// Returns the free sectors of region `j` that gates and headers leave.
+pub(crate) fn rest_of(regions: &[Region], needs: Needs, j: usize) -> Free
+    requires { j < length regions.now }
+{
+    let taken = HEADS.saturating_sub(taken_before(regions, needs, j));
+    let heads = heads_of(regions[j], needs).count;
+    free_of(regions[j], needs.boot).behind(taken.min(heads))
+}

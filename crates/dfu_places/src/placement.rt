@@ -1,0 +1,131 @@
+//! Placement of two slots on a part.
+ghost use Rattle.std.specs.Prelude.{◌≡◌, ◌+◌, ◌^◌, ◌≤◌, ◌<◌};
+ghost use Rattle.dfu_slots.specs.Units.{gate_size};
+ghost use Rattle.dfu_places.specs.Things.{run_span, things, span_at, part_at, bytes_at, room_at};
+
+use crate::Span;
+use dfu_slots::Unit;
+
+/// Places of the three things of a slot.
+#[derive(Clone, Copy, Drop)]
+pub struct SlotPlaces {
+    /// Sectors of the gate, erased together; 16 bytes of it are used, or a unit if that is more.
+    pub gate: Span,
+    /// Sectors of the header, erased together; as many bytes of it are used, and behind them the marks of trials.
+    pub header: Span,
+    /// Sectors of the data.
+    pub data: Span,
+}
+
+/// Places of two slots, and of a run area. The slot store sees a *virtual* flash, in which all sectors have `sector` bytes: for each slot a
+/// sector for the gate, one for the header, and the data. Virtual bytes of a gate or a header that are not there are never used.
+#[derive(Clone, Copy, Drop)]
+pub struct Placement {
+    /// Bytes of a virtual sector: a multiple of 256, up to 262,144. Each virtual sector of data is whole sectors of the part.
+    pub sector: u32,
+    /// The first slot. In two areas images run from its data.
+    pub first: SlotPlaces,
+    /// The second slot.
+    pub second: SlotPlaces,
+    /// The run area, to which images are copied before they start; None in two areas.
+    pub run: Option<Span>,
+}
+
+/// What a placement must have room for.
+#[derive(Clone, Copy, Drop)]
+pub struct Needs {
+    /// Bytes of the bootloader, whose sectors nothing else may have.
+    pub boot: Span,
+    /// Bytes that the part programs at a time.
+    pub unit: Unit,
+    /// Bytes of the marks of trials behind a header; 0 without trials. With T tries they are T + 1 units, of 16 bytes at least.
+    pub marks: u32,
+}
+
+// Returns the run area, or else the empty span.
+fn run_span(run: Option<Span>) -> Span
+    ensures { result ≡ run_span run }
+{
+    match run {
+        Some(span) => span,
+        None => Span { at: 0, len: 0 },
+    }
+}
+
+/// Returns the number of things of a placement: 7 with a run area, else 6.
+pub(crate) fn things(placement: &Placement) -> u32
+    ensures value { result ≡ things placement.now }
+    ensures most { result ≤ 7 }
+{
+    if placement.run.is_some() { 7 } else { 6 }
+}
+
+/// Returns the span of a thing, by its rank.
+#[tactic(auto, unfolding(crate::specs::Things::span_at))]
+pub(crate) fn span_at(placement: &Placement, i: u32) -> Span
+    ensures { result ≡ span_at placement.now i }
+{
+    if i == 0 {
+        placement.first.gate
+    } else if i == 1 {
+        placement.first.header
+    } else if i == 2 {
+        placement.first.data
+    } else if i == 3 {
+        placement.second.gate
+    } else if i == 4 {
+        placement.second.header
+    } else if i == 5 {
+        placement.second.data
+    } else {
+        run_span(placement.run)
+    }
+}
+
+/// Returns the bytes of a thing that are erased together: a virtual sector of data, else all.
+#[tactic(auto, unfolding(crate::specs::Things::part_at))]
+pub(crate) fn part_at(placement: &Placement, i: u32) -> u32
+    ensures { result ≡ part_at placement.now i }
+{
+    if i == 2 || i == 5 {
+        placement.sector
+    } else {
+        span_at(placement, i).len
+    }
+}
+
+/// Returns the bytes of a thing that virtual ones stand for: of a gate and a header no more than a virtual sector.
+#[tactic(auto, unfolding(crate::specs::Things::bytes_at))]
+pub(crate) fn bytes_at(placement: &Placement, i: u32) -> u32
+    ensures { result ≡ bytes_at placement.now i }
+{
+    let len = span_at(placement, i).len;
+    if i == 2 || i == 5 {
+        len
+    } else {
+        len.min(placement.sector)
+    }
+}
+
+// Returns the bytes of a gate or of a header's unit: 16, or a unit if that is more.
+fn gate_size(unit: Unit) -> u32
+    ensures value { result ≡ gate_size unit }
+    ensures most { result ≤ 256 }
+{
+    unit.size().max(16)
+}
+
+/// Returns the fewest bytes that a thing has.
+#[tactic(auto, unfolding(crate::specs::Things::room_at))]
+pub(crate) fn room_at(needs: Needs, i: u32) -> u64
+    ensures { result ≡ room_at needs i }
+{
+    let size = gate_size(needs.unit) as u64;
+    if i == 0 || i == 3 {
+        size
+    } else if i == 1 || i == 4 {
+        size + needs.marks as u64
+    } else {
+        1
+    }
+}

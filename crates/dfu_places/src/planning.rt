@@ -1,0 +1,162 @@
+//! Plans: the placement with the largest image.
+ghost use Rattle.std.specs.Prelude.{◌<◌, ◌≤◌, IfOk, IfErr, IfSome};
+ghost use Rattle.dfu_places.specs.Placement.{IsPlacement};
+ghost use Rattle.dfu_places.specs.Planning.{HasAreas, IsPlanRefusal};
+
+use crate::checking::MAX_CAPACITY;
+use crate::free::{Free, head, rest_of};
+use crate::region::are_regions;
+use crate::{Needs, Placement, Refusal, Region, SlotPlaces, Span, check};
+use dfu_slots::{MAX_SECTOR, PAGE};
+
+/// Areas of a plan.
+#[derive(Clone, Copy, Debug, Drop)]
+pub enum Areas {
+    /// Two areas: images run from the data of the first slot.
+    Two,
+    /// Two slots and a run area, to which images are copied before they start.
+    Three,
+}
+
+// Sizes of a plan: bytes of a virtual sector, and of the data of each area.
+#[derive(Clone, Copy, Drop)]
+struct Sizes {
+    sector: u32,
+    len: u32,
+}
+
+// Returns the number of areas that the sectors have room for, side by side.
+fn areas_in(free: Free, sizes: Sizes) -> u32 {
+    if free.sector == 0 || sizes.len == 0 || sizes.sector % free.sector != 0 {
+        return 0;
+    }
+    free.sector.saturating_mul(free.count) / sizes.len
+}
+
+// Returns an area, by its number from 0 on.
+fn area(regions: &[Region], needs: Needs, sizes: Sizes, number: u32) -> Option<Span> {
+    let mut before = 0u32;
+    for j in 0..regions.len() {
+        let free = rest_of(regions, needs, j);
+        let count = areas_in(free, sizes);
+        if before <= number && number - before < count {
+            let at = free
+                .at
+                .saturating_add(sizes.len.saturating_mul(number - before));
+            return Some(Span { at, len: sizes.len });
+        }
+        before = before.saturating_add(count);
+    }
+    None
+}
+
+// Returns the virtual sector for data in sectors of so many bytes: these, or 256 if they are a part of that; 0 if the store takes neither.
+fn virtual_sector(sector: u32) -> u32 {
+    if sector == 0 || sector > MAX_SECTOR {
+        0
+    } else if sector % PAGE == 0 {
+        sector
+    } else if PAGE % sector == 0 {
+        PAGE
+    } else {
+        0
+    }
+}
+
+// Returns the larger data of two plans, if the second one has so many areas.
+fn larger(
+    regions: &[Region],
+    needs: Needs,
+    areas: u32,
+    best: Sizes,
+    bytes: u32,
+    sector: u32,
+) -> Sizes
+    requires { 0 < sector }
+{
+    let whole = bytes.min(MAX_CAPACITY);
+    let sizes = Sizes {
+        sector,
+        len: whole - whole % sector,
+    };
+    if sizes.len > best.len && area(regions, needs, sizes, areas.saturating_sub(1)).is_some() {
+        sizes
+    } else {
+        best
+    }
+}
+
+// Returns the largest data of so many areas, which fill the rest of one region, a half of it or a third; 0 bytes if there are none.
+fn largest(regions: &[Region], needs: Needs, areas: u32, sector: u32, best: Sizes) -> Sizes
+    requires { 0 < sector }
+{
+    let mut best = best;
+    for j in 0..regions.len() {
+        let free = rest_of(regions, needs, j);
+        let bytes = free.sector.saturating_mul(free.count);
+        best = larger(regions, needs, areas, best, bytes, sector);
+        best = larger(regions, needs, areas, best, bytes / 2, sector);
+        best = larger(regions, needs, areas, best, bytes / 3, sector);
+    }
+    best
+}
+
+// Returns the sizes with the largest data, of virtual sectors as large as those of one of the regions.
+fn best_sizes(regions: &[Region], needs: Needs, areas: u32) -> Sizes {
+    let mut best = Sizes { sector: 0, len: 0 };
+    for region in regions {
+        let sector = virtual_sector(region.sector);
+        if sector > 0 {
+            best = largest(regions, needs, areas, sector, best);
+        }
+    }
+    best
+}
+
+// Returns the places of a slot: the first one's number is 0, the second one's 1.
+fn slot(regions: &[Region], needs: Needs, sizes: Sizes, number: u32) -> Option<SlotPlaces>
+    requires { number ≤ 1 }
+{
+    Some(SlotPlaces {
+        gate: head(regions, needs, 2 * number)?,
+        header: head(regions, needs, 2 * number + 1)?,
+        data: area(regions, needs, sizes, number)?,
+    })
+}
+
+// Returns the placement of a plan, unchecked.
+fn placed(regions: &[Region], needs: Needs, areas: Areas) -> Option<Placement>
+    ensures { IfSome result (HasAreas areas) }
+{
+    let sizes = best_sizes(regions, needs, if let Areas::Two = areas { 2 } else { 3 });
+    Some(Placement {
+        sector: sizes.sector,
+        first: slot(regions, needs, sizes, 0)?,
+        second: slot(regions, needs, sizes, 1)?,
+        run: match areas {
+            Areas::Two => None,
+            Areas::Three => Some(area(regions, needs, sizes, 2)?),
+        },
+    })
+}
+
+/// Plans the placement with the largest data on a part with these regions. Gates and headers take the smallest free sectors, from the
+/// smallest on; areas lie in what is left, each in one region. A larger image may be possible by hand.
+///
+/// What comes is what `check` accepts. `BadRegions`: as `check` says it. `NoPlacement`: the sectors are too few, or too unequal.
+pub fn plan(regions: &[Region], needs: Needs, areas: Areas) -> Result<Placement, Refusal>
+    ensures ok { IfOk result (IsPlacement regions.now needs) }
+    ensures areas { IfOk result (HasAreas areas) }
+    ensures refused { IfErr result (IsPlanRefusal regions.now) }
+{
+    if !are_regions(regions) {
+        return Err(Refusal::BadRegions);
+    }
+    match placed(regions, needs, areas) {
+        Some(placement) => match check(regions, needs, &placement) {
+            Ok(()) => Ok(placement),
+            Err(_) => Err(Refusal::NoPlacement),
+        },
+        None => Err(Refusal::NoPlacement),
+    }
+}

@@ -1,0 +1,20 @@
+-- Pieces of a text.
+use Rattle.std.specs.Prelude.{ℕ, ◌-◌, ◌^◌, false, List, [], ◌∷◌, ◌++◌}
+use Rattle.std.specs.Fmt.{decimal, digits, format_spec, padded_integral}
+use Rattle.dfu_plan.specs.declared.pieces.Piece.{Piece}
+use Rattle.dfu_plan.specs.declared.pieces.Piece.TheVariants.{Word, Number, Hex}
+
+-- A number in lower-case hexadecimal digits, of which there are eight at least.
+abbrev pub hexadecimal : ℕ → List ℕ
+hexadecimal number = padded_integral (format_spec 32 0 4 8 (2 ^ 64 - 1)) false [] (digits 16 false number)
+
+-- The text of a piece.
+abbrev pub piece_text : Piece → List ℕ
+piece_text (Word word) = word.now
+piece_text (Number number) = decimal number
+piece_text (Hex number) = hexadecimal number
+
+-- Texts, one after the other.
+abbrev pub joined : List (List ℕ) → List ℕ
+joined [] = []
+joined (text ∷ texts) = text ++ joined texts

@@ -1,0 +1,139 @@
+//! The regions of one part in a table of parts.
+
+ghost use Rattle.std.specs.Prelude.{◌≡◌, IfOk, Ok};
+ghost use Rattle.dfu_plan.specs.Parts.{IsPartResult, known_part, part_in, region_end, with_line, with_row};
+
+use crate::row::{Row, RowFault, row_in};
+use crate::words::next_line;
+use dfu_places::Region;
+use std::alloc::{AllocError, Global};
+use std::marker::Model;
+use thiserror::Error;
+
+/// Faults for which a table gives no regions of a part.
+#[derive(Debug, Drop, Error)]
+pub enum PartFault {
+    /// The line with this number, from 1 on, is neither empty, a comment nor a region, or its region is out of order.
+    #[error("line {number}: {why}")]
+    BadLine {
+        /// Number of the line.
+        number: usize,
+        /// Fault of the line.
+        why: RowFault,
+    },
+    /// No line names the part.
+    #[error("no line names the part")]
+    UnknownPart,
+    /// An allocation was refused.
+    #[error("there is no memory for it")]
+    NoMemory,
+}
+
+/// Regions of a part.
+#[derive(Drop)]
+pub struct Part {
+    /// The regions, in the order of their addresses, none of which overlaps another.
+    pub regions: Vec<Region>,
+    /// Note of the first region: where the numbers are from. Empty if there is none.
+    pub note: Vec<u8>,
+    /// Address behind the last region; 0 if there are no regions.
+    pub end: u64,
+}
+
+impl Model for Part {
+    ghost use Rattle.dfu_plan.specs.PartRead.{PartRead};
+
+    ghost Value = { PartRead };
+
+    ghost view = { λ p. record { regions = p.regions.items; note = p.note.items; end = p.end } };
+}
+
+/// Address behind a region.
+fn region_end(region: Region) -> u64
+    ensures { result ≡ region_end region }
+{
+    region.at as u64 + region.sector as u64 * region.count as u64
+}
+
+/// The part with the region of a row, if the row names the part.
+#[tactic(auto, using(std::proofs::lemmas::Bool::Decides::nat_tests), unfolding(crate::specs::Parts::with_row))]
+fn with_row(
+    part: Part,
+    name: &[u8],
+    row: Option<Row<'_>>,
+) -> Result<Result<Part, RowFault>, AllocError>
+    ensures { IfOk result (λ r. r ≡ with_row name.now row.entry part) }
+{
+    let Some(row) = row else {
+        return Ok(Ok(part));
+    };
+    if row.name != name {
+        return Ok(Ok(part));
+    }
+    if (row.region.at as u64) < part.end {
+        return Ok(Err(RowFault::Order));
+    }
+    let Part {
+        mut regions,
+        mut note,
+        ..
+    } = part;
+    if regions.is_empty() {
+        note.extend_from_slice(row.note)?;
+    }
+    regions.push(row.region)?;
+    Ok(Ok(Part {
+        regions,
+        note,
+        end: region_end(row.region),
+    }))
+}
+
+/// The part with the region of a line, if the line names the part.
+fn with_line(part: Part, name: &[u8], line: &[u8]) -> Result<Result<Part, RowFault>, AllocError>
+    ensures { IfOk result (λ r. r ≡ with_line name.now line.now part) }
+{
+    match row_in(line) {
+        Ok(row) => with_row(part, name, row),
+        Err(why) => Ok(Err(why)),
+    }
+}
+
+/// The part, if a line named it.
+#[tactic(auto, using(std::proofs::lemmas::Bool::Decides::nat_tests))]
+fn known_part(part: Part) -> Result<Part, PartFault>
+    ensures { result ≡ known_part (Ok part) }
+{
+    if part.regions.len() == 0 {
+        return Err(PartFault::UnknownPart);
+    }
+    Ok(part)
+}
+
+/// The regions of a part in a table of parts. Each line of the table is read, those of other parts too.
+///
+/// # Errors
+///
+/// BadLine at the first wrong line, UnknownPart if no line names the part, and NoMemory if an allocation was refused.
+pub fn part_in(alloc: Global, table: &[u8], name: &[u8]) -> Result<Part, PartFault>
+    ensures { IsPartResult (part_in name.now table.now) result }
+{
+    let mut part = Part {
+        regions: Vec::new(alloc),
+        note: Vec::new(alloc),
+        end: 0,
+    };
+    let mut rest = table;
+    let mut number = 0usize;
+    'lines: while rest.len() > 0 {
+        let (line, behind) = next_line(rest);
+        number += 1;
+        part = match with_line(part, name, line) {
+            Ok(Ok(part)) => part,
+            Ok(Err(why)) => return Err(PartFault::BadLine { number, why }),
+            Err(_) => return Err(PartFault::NoMemory),
+        };
+        rest = behind;
+    }
+    known_part(part)
+}

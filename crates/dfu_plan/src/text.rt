@@ -1,0 +1,265 @@
+//! Text of a plan: where gates, headers, data and run area lie, and their initialiser in C.
+
+ghost use Rattle.std.specs.Prelude.{◌≡◌, ◌++◌, ◌<◌, ◌^◌, IfOk, OnOk};
+ghost use Rattle.std.specs.String.{string_bytes};
+ghost use Rattle.dfu_plan.specs.PlanText.{areas_of, data_line, first_lines, head_text, lines_text, note_line, place_line, places_text, plan_objects, plan_text, run_line, run_text, second_lines};
+
+use crate::pieces::Piece::{Hex, Number, Word};
+use crate::pieces::push_pieces;
+use dfu_places::{Placement, SlotPlaces, Span};
+use std::alloc::{AllocError, Global};
+
+/// A placement, and what it was made for.
+#[derive(Clone, Copy)]
+pub struct Plan<'p> {
+    /// Name of the part.
+    pub part: &'p str,
+    /// Note of where its sectors are from; empty if there is none.
+    pub note: &'p str,
+    /// Bytes of the bootloader.
+    pub boot: Span,
+    /// The placement.
+    pub placement: Placement,
+}
+
+/// Form of the lines of a plan.
+#[derive(Clone, Copy)]
+pub(crate) enum Form {
+    /// Words.
+    Words,
+    /// JSON objects (RFC 8259).
+    Objects,
+    /// Arguments of an initialiser in C, DFU_PLACEMENT of dfu_places.h.
+    Arguments,
+}
+
+/// Returns the number of areas of a placement.
+fn areas_of(placement: &Placement) -> u32
+    ensures { result ≡ areas_of placement.now.run }
+{
+    match placement.run {
+        Some(_) => 3,
+        None => 2,
+    }
+}
+
+/// Adds the line of the part, the bootloader and the largest image; in C what stands before the places.
+#[rattlefmt::skip]
+#[tactic(auto, unfolding(crate::specs::PlanText::head_text))]
+fn push_head(alloc: Global, text: &mut String, form: Form, plan: &Plan<'_>, areas: u32) -> Result<(), AllocError>
+    ensures { OnOk result (string_bytes text.new ≡ string_bytes text.old ++ head_text form areas plan.now) }
+{
+    let part = Word(plan.part);
+    let boot = Number(plan.boot.len);
+    let areas = Number(areas);
+    let image = Number(plan.placement.first.data.len);
+    let sector = Number(plan.placement.sector);
+    match form {
+        Form::Words => push_pieces(alloc, text, &[
+            Word("part "), part, Word(" boot "), boot, Word(" areas "), areas, Word(" image "), image, Word(" sector "), sector,
+            Word("\n"),
+        ]),
+        Form::Objects => push_pieces(alloc, text, &[
+            Word("{\"part\":\""), part, Word("\",\"boot\":"), boot, Word(",\"areas\":"), areas, Word(",\"image\":"), image,
+            Word(",\"sector\":"), sector, Word("}\n"),
+        ]),
+        Form::Arguments => push_pieces(alloc, text, &[
+            Word("\n/* dfu plan --part "), part, Word(" --boot "), boot, Word(" --areas "), areas,
+            Word(" */\nDFU_PLACEMENT(places, "), sector, Word(", "), image,
+            Word(", 256, /* virtual sector, data of a slot, any unit */\n    0x"), Hex(plan.boot.at as u64), Word(", "), boot,
+            Word(", /* bootloader */\n"),
+        ]),
+    }
+}
+
+/// Adds the note of where the sectors are from, if there is one.
+#[tactic(auto, unfolding(crate::specs::PlanText::note_line))]
+fn push_note(alloc: Global, text: &mut String, note: &str) -> Result<(), AllocError>
+    ensures { OnOk result (string_bytes text.new ≡ string_bytes text.old ++ note_line note.now) }
+{
+    if note.is_empty() {
+        return Ok(());
+    }
+    push_pieces(alloc, text, &[Word("sectors "), Word(note), Word("\n")])
+}
+
+/// Adds the line of a place: its name, where it lies on the part, and where in the virtual flash.
+#[rattlefmt::skip]
+#[tactic(auto, unfolding(crate::specs::PlanText::place_line))]
+fn push_place(alloc: Global, text: &mut String, form: Form, name: &str, span: Span, place: u64) -> Result<(), AllocError>
+    ensures { OnOk result (string_bytes text.new ≡ string_bytes text.old ++ place_line form name.now span place) }
+{
+    let name = Word(name);
+    let at = Hex(span.at as u64);
+    let place = Hex(place);
+    match form {
+        Form::Words => push_pieces(alloc, text, &[
+            name, Word(" at "), at, Word(" bytes "), Number(span.len), Word(" virtual "), place, Word("\n"),
+        ]),
+        Form::Objects => push_pieces(alloc, text, &[
+            Word("{\"place\":\""), name, Word("\",\"at\":\""), at, Word("\",\"bytes\":"), Number(span.len), Word(",\"virtual\":\""), place,
+            Word("\"}\n"),
+        ]),
+        Form::Arguments => push_pieces(alloc, text, &[
+            Word("    0x"), at, Word(", "), Number(span.len), Word(", /* "), name, Word(" */\n"),
+        ]),
+    }
+}
+
+/// Adds the line of the data of a slot. In C their bytes stand before all places, and `end` stands behind their address.
+#[rattlefmt::skip]
+fn push_data<'t>(alloc: Global, text: &mut String, form: Form, name: &'t str, end: &'t str, span: Span, place: u64) -> Result<(), AllocError>
+    ensures { OnOk result (string_bytes text.new ≡ string_bytes text.old ++ data_line form name.now end.now span place) }
+{
+    match form {
+        Form::Words | Form::Objects => push_place(alloc, text, form, name, span, place),
+        Form::Arguments => push_pieces(alloc, text, &[
+            Word("    0x"), Hex(span.at as u64), Word(end), Word(" /* "), Word(name), Word(" */\n"),
+        ]),
+    }
+}
+
+/// Adds the lines of the first slot.
+fn push_first(
+    alloc: Global,
+    text: &mut String,
+    form: Form,
+    slot: SlotPlaces,
+    sector: u64,
+) -> Result<(), AllocError>
+    requires { sector < 2 ^ 32 }
+    ensures { OnOk result (string_bytes text.new ≡ string_bytes text.old ++ first_lines form slot sector) }
+{
+    push_place(alloc, text, form, "first gate", slot.gate, 0)?;
+    push_place(alloc, text, form, "first header", slot.header, sector)?;
+    push_data(alloc, text, form, "first data", ",", slot.data, 2 * sector)
+}
+
+/// Adds the lines of the second slot, which begins at a place of the virtual flash.
+fn push_second(
+    alloc: Global,
+    text: &mut String,
+    form: Form,
+    slot: SlotPlaces,
+    place: u64,
+    sector: u64,
+) -> Result<(), AllocError>
+    requires place { place < 2 ^ 35 }
+    requires sector { sector < 2 ^ 32 }
+    ensures { OnOk result (string_bytes text.new ≡ string_bytes text.old ++ second_lines form slot place sector) }
+{
+    push_place(alloc, text, form, "second gate", slot.gate, place)?;
+    push_place(
+        alloc,
+        text,
+        form,
+        "second header",
+        slot.header,
+        place + sector,
+    )?;
+    push_data(
+        alloc,
+        text,
+        form,
+        "second data",
+        ");",
+        slot.data,
+        place + 2 * sector,
+    )
+}
+
+/// Adds the lines of both slots.
+fn push_places(
+    alloc: Global,
+    text: &mut String,
+    form: Form,
+    placement: &Placement,
+) -> Result<(), AllocError>
+    ensures { OnOk result (string_bytes text.new ≡ string_bytes text.old ++ places_text form placement.now) }
+{
+    let sector = placement.sector as u64;
+    let half = 2 * sector + placement.first.data.len as u64;
+    push_first(alloc, text, form, placement.first, sector)?;
+    push_second(alloc, text, form, placement.second, half, sector)
+}
+
+/// Adds the line of a run area. The virtual flash has no place for it.
+#[rattlefmt::skip]
+#[tactic(auto, unfolding(crate::specs::PlanText::run_line))]
+fn push_area(alloc: Global, text: &mut String, form: Form, span: Span) -> Result<(), AllocError>
+    ensures { OnOk result (string_bytes text.new ≡ string_bytes text.old ++ run_line form span) }
+{
+    let at = Hex(span.at as u64);
+    match form {
+        Form::Words => push_pieces(alloc, text, &[Word("run area at "), at, Word(" bytes "), Number(span.len), Word("\n")]),
+        Form::Objects => push_pieces(alloc, text, &[
+            Word("{\"place\":\"run area\",\"at\":\""), at, Word("\",\"bytes\":"), Number(span.len), Word("}\n"),
+        ]),
+        Form::Arguments => push_pieces(alloc, text, &[Word("#define RUN_AREA 0x"), at, Word("u\n")]),
+    }
+}
+
+/// Adds the line of the run area, if there is one.
+fn push_run(
+    alloc: Global,
+    text: &mut String,
+    form: Form,
+    run: Option<Span>,
+) -> Result<(), AllocError>
+    ensures { OnOk result (string_bytes text.new ≡ string_bytes text.old ++ run_text form run) }
+{
+    match run {
+        Some(span) => push_area(alloc, text, form, span),
+        None => Ok(()),
+    }
+}
+
+/// Adds the lines of a plan, without the note.
+fn push_lines(
+    alloc: Global,
+    text: &mut String,
+    form: Form,
+    plan: &Plan<'_>,
+) -> Result<(), AllocError>
+    ensures { OnOk result (string_bytes text.new ≡ string_bytes text.old ++ lines_text form plan.now) }
+{
+    push_head(alloc, text, form, plan, areas_of(&plan.placement))?;
+    push_places(alloc, text, form, &plan.placement)?;
+    push_run(alloc, text, form, plan.placement.run)
+}
+
+/// Adds the text of a plan.
+fn push_plan(alloc: Global, text: &mut String, plan: &Plan<'_>) -> Result<(), AllocError>
+    ensures { OnOk result (string_bytes text.new ≡ string_bytes text.old ++ plan_text plan.now) }
+{
+    push_lines(alloc, text, Form::Words, plan)?;
+    push_note(alloc, text, plan.note)?;
+    push_lines(alloc, text, Form::Arguments, plan)
+}
+
+/// Returns the text of a plan: a line for the part, with the largest image, a line for each place, the note of where the sectors are from,
+/// and the initialiser of the places in C.
+///
+/// # Errors
+///
+/// There is no memory for it.
+pub fn plan_text(alloc: Global, plan: &Plan<'_>) -> Result<String, AllocError>
+    ensures { IfOk result (λ t. string_bytes t ≡ plan_text plan.now) }
+{
+    let mut text = String::new(alloc);
+    push_plan(alloc, &mut text, plan)?;
+    Ok(text)
+}
+
+/// Returns the JSON objects of a plan, a line each: one for the part, and one for each place.
+///
+/// # Errors
+///
+/// There is no memory for it.
+pub fn plan_objects(alloc: Global, plan: &Plan<'_>) -> Result<String, AllocError>
+    ensures { IfOk result (λ t. string_bytes t ≡ plan_objects plan.now) }
+{
+    let mut text = String::new(alloc);
+    push_lines(alloc, &mut text, Form::Objects, plan)?;
+    Ok(text)
+}
