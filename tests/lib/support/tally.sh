@@ -14,7 +14,10 @@ ended() {
         echo "$1: ended with status $3, and says of no failure what it was"
         wrong=$((${wrong:-0} + 1))
     fi
-    [ "$wrong" -eq 0 ] || trouble="$trouble, $1"
+    if [ "$wrong" -ne 0 ]; then
+        trouble="$trouble, $1"
+        { echo "== the end of $1" && tail -n 20 "$2"; } >> "$room/failures"
+    fi
     passed=$((passed + ${right:-0}))
     failed=$((failed + wrong))
 }
@@ -57,9 +60,12 @@ try_all() {
         ended "$script" "$room/$name.log" "$(cat "$room/$name.status" 2> /dev/null || echo unknown)"
     done < "$room/scripts"
 }
-# verdict: the last line, and the status: 0 if something was checked and nothing failed.
+# verdict: how each script that failed ended, the last line, and the status: 0 if something was checked and nothing failed.
 verdict() {
-    [ -z "$trouble" ] || echo "failures in${trouble#,}"
+    if [ -n "$trouble" ]; then
+        [ ! -e "$room/failures" ] || cat "$room/failures"
+        echo "failures in${trouble#,}"
+    fi
     echo "$passed passed, $failed failed"
     [ "$failed" -eq 0 ] && [ "$passed" -gt 0 ]
 }

@@ -148,6 +148,7 @@ for signals in 'INT INT' KILL; do
     soon sent 1 1-1 1-2
     for signal in $signals; do
         kill "-$signal" "$first"
+        soon is_taken "$first"
         sleep 0.3
     done
     reap

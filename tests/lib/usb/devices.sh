@@ -198,7 +198,7 @@ says 'may not be opened: LIBUSB_ERROR_ACCESS'
 says 'ATTR{idVendor}=="1209", ATTR{idProduct}=="0001"'
 # If the system names no ports, what is said then is of no other board.
 env LD_LIBRARY_PATH="$work" USB_PATH=1 USB_DEVICES=2 USB_OTHER_DENIED=3 USB_AWAY=100000 USB_FATE='leave 4' USB_IMAGE="$work/old" \
-    timeout --preserve-status -s INT 1 ./dfu-flash --serial F1 new.dfu > out 2> err || code=$?
+    timeout --foreground --preserve-status -s INT 1 ./dfu-flash --serial F1 new.dfu > out 2> err || code=$?
 expect 'no ports: nothing is said of another board' test "$(grep -c 'may not be opened' err)" -eq 0
 
 # From each transfer on none comes back: lost on its way out (deaf), or its answer lost (mute). 24 in a row are waited for, 5

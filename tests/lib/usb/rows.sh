@@ -36,6 +36,11 @@ soon() {
     done
 }
 
+# is_taken NUMBER: the process has taken each signal that was sent to it, or has ended. A second one that comes before that is none.
+is_taken() {
+    ! grep -qs '^...Pnd:.*[1-9a-f]' "/proc/$1/status"
+}
+
 # flash SETTINGS WORDS..: runs it over a device that is set up so, as the user $as, with the fate of a transfer in $fate.
 # Its status is in $code, its texts in out and err, what was sent in log, and the image that the device has then in saved.
 flash() {

@@ -32,9 +32,10 @@ fate=
 # A transfer is waited for; a second signal of the kind ends the program, and the device stays as it is.
 code=0
 rm -f log
-env LD_LIBRARY_PATH="$work" USB_SLOW=3000 USB_LOG="$work/log" ./dfu-flash new.dfu > out 2> err &
+env LD_LIBRARY_PATH="$work" USB_SLOW=9000 USB_LOG="$work/log" ./dfu-flash new.dfu > out 2> err &
 soon test -s log
 kill -INT "$!" || :
+soon is_taken "$!"
 sleep 0.2
 kill -INT "$!" || :
 wait "$!" || code=$?
