@@ -114,7 +114,7 @@ if [ -z "${NO_ALL-}" ]; then
     ln -s serials serials-link
     row 0 - 'verified: ' '' --stamp serials-link --stamp-at 16:8 room.dfu
     stamped 115
-    env LD_LIBRARY_PATH="$work" USB_BUSY=300 USB_IMAGE="$work/old" ./dfu-flash $at 16:8 room.dfu > other 2>&1 &
+    env LD_LIBRARY_PATH="$work" USB_BUSY=2500 USB_IMAGE="$work/old" ./dfu-flash $at 16:8 room.dfu > other 2>&1 &
     soon grep -q '	116	.*begun' serials.used
     row 3 - '' '' $at 16:8 room.dfu
     says 'dfu-flash: serials.used: another dfu-flash is at work with it'

@@ -87,7 +87,7 @@ if [ -z "${NO_ALL-}" ]; then
     expect 'an entry each' test "$(grep -c begun serials.used)" -eq "$done_all"
     expect 'each another' test "$(grep begun serials.used | cut -f 2 | sort | uniq -d | wc -l)" -eq 0
     # A record that is replaced meanwhile, as by an editor, and a list with two names.
-    env LD_LIBRARY_PATH="$work" USB_BUSY=100 USB_ABSENT=20 USB_IMAGE="$work/old" ./dfu-flash --wait $at 16:8 room.dfu > other 2>&1 &
+    env LD_LIBRARY_PATH="$work" USB_BUSY=100 USB_ABSENT=40 USB_IMAGE="$work/old" ./dfu-flash --wait $at 16:8 room.dfu > other 2>&1 &
     soon grep -q 'waiting for the device' other
     cp serials.used other.used
     mv other.used serials.used

@@ -118,23 +118,23 @@ begin verified 1209:0001:0100 1-1 0 0 run-time 092107e80310001001 16 380 3
 3 RESET 0 0 reset -
 4 GETSTATUS 0 6 000000000200 dfuIDLE
 5 DNLOAD 0 16 ack -
-6 GETSTATUS 0 6 00e703000400 dfuDNBUSY
-7 WAIT 999 0 waited -
+6 GETSTATUS 0 6 00b70b000400 dfuDNBUSY
+7 WAIT 2999 0 waited -
 8 GETSTATUS 0 6 000000000500 dfuDNLOAD-IDLE
 9 DNLOAD 1 10 ack -
-10 GETSTATUS 0 6 00e703000400 dfuDNBUSY
-11 WAIT 999 0 nothing -
+10 GETSTATUS 0 6 00b70b000400 dfuDNBUSY
+11 WAIT 2999 0 nothing -
 abort
 12 ABORT 0 0 stall -
 END
-# (a machine on which the signal comes after the wait of 999 ms is too slow for it, and it is tried again)
+# (a machine on which the signal comes after the wait of 2999 ms is too slow for it, and it is tried again)
 for _ in 1 2 3 4 5; do
-    stopped INT '^10 GETSTATUS' 'USB_TRANSFER=16 USB_START=app USB_BUSY=999' --verbose new.dfu
-    grep -q '^11 WAIT 999 0 waited' err || break
+    stopped INT '^10 GETSTATUS' 'USB_TRANSFER=16 USB_START=app USB_BUSY=2999' --verbose new.dfu
+    grep -q '^11 WAIT 2999 0 waited' err || break
 done
 trace > found
 expect 'a trace' diff wanted found
-expect 'its milliseconds' grep -q '^7 WAIT 999 0 waited - \(999\|1[0-9][0-9][0-9]\)$' err
+expect 'its milliseconds' grep -q '^7 WAIT 2999 0 waited - \(2999\|[3-9][0-9][0-9][0-9]\|[1-9][0-9]\{4\}\)$' err
 
 # And each transfer as the stand-in saw it, with all that can become of one.
 heard() {
