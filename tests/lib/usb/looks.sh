@@ -181,7 +181,7 @@ printf 'S107000041414141F4\nS9030000FC\n' > whole.srec
 cp it.ihex whole.ihex
 for format in ihex srec; do
     "$dfu" add --format auto "whole.$format" it.dfu > added
-    expect "$format: the address is printed" grep -q 'address 00000000' added
+    expect "$format: the address is printed" grep -q 'address 0x00000000' added
     row 0 inside 'verified: ' '' it.dfu
     row 0 - 'verified: ' 'USB_DEVICE=dfuse USB_IDS=1209:0001:0100' --address 0x08000000 it.dfu
     expect "$format: the image at the address" test "$(head -c 4 saved)" = AAAA
