@@ -3,3 +3,4 @@ mod Units
 mod Asked
 mod Staying
 mod Allowing
+mod Known

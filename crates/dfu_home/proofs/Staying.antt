@@ -2,13 +2,13 @@
 use Rattle.std.proofs.Common.{◌≡◌, inl, inr, ⊎_elim, ℕ, ◌≤◌, ◌<◌, List, length, take, slice_index, refl, sym, ◌∙◌, ap, subst, arith}
 use Rattle.std.proofs.lemmas.Bool.{cases_eq}
 use Rattle.dfu_suffix.specs.Register.{register}
-use Rattle.dfu_slots.specs.Units.{IsWhole}
+use Rattle.dfu_slots.specs.Units.{Grain, IsWhole, gate_room}
 use Rattle.dfu_slots.specs.Medium.{MediumState, FrameOutside}
 use Rattle.dfu_slots.specs.Layout.{Slot, slot, slot_size, HasOpenGate, OPEN, generation, next_generation, header, header_length, HasHeader}
 use Rattle.dfu_slots.specs.Image.{gate_of, capacity_of, SlotCounts, IsNewest, Active}
 use Rattle.dfu_slots.proofs.Stands.{ActiveAt}
 use Rattle.dfu_slots.proofs.Sectors.{gate_room_at_least_16}
-use Rattle.dfu_slots.proofs.Parts.{header_kept_outside_change, data_kept_outside_change, slot_size_kept_by_change, two_slots_of_same_length, data_length}
+use Rattle.dfu_slots.proofs.Parts.{gate_kept_outside_change, header_kept_outside_change, data_kept_outside_change, slot_size_kept_by_change, two_slots_of_same_length, data_length}
 use Rattle.dfu_slots.proofs.Counting.{length_in_formed_header, version_two_header_formed}
 use Rattle.dfu_slots.proofs.Kept.{active_slot_kept, active_image_kept, open_gate_change_keeps_image, closed_slot_change_keeps_image}
 use Rattle.dfu_slots.proofs.Series.{SameSize}
@@ -44,6 +44,27 @@ module _ (m now : MediumState) (image : List ℕ) (from to : ℕ) (a : ActiveAt 
   pub image_stays_as_data_fills : ¬ HasOpenGate (first_of m) → 0 < from → Active now image
   image_stays_as_data_fills shut above = on
       (closed_slot_change_keeps_image g wide m.bytes now.bytes half 0 image from to a keeps shut above (omega (arith, below)))
+
+  -- The first slot after the change, by the gate size of before.
+  first_slot_now : first_of now ≡ slot g now.bytes 0
+  first_slot_now = ap (λ (w : Grain). slot (gate_room w) now.bytes 0) grain
+
+  -- The first slot is as it was if only its gate changes, which was open and is open.
+  pub first_slot_stays_if_open : HasOpenGate (first_of m) → to ≤ g → HasOpenGate (first_of now) → first_of now ≡ first_of m
+  first_slot_stays_if_open was_open gate is_open =
+      let head : (slot g now.bytes 0).header
+      ≡ (first_of m).header = header_kept_outside_change g from to m.bytes now.bytes 0 keeps (inr (omega (arith, gate))) in
+      let body : (slot g now.bytes 0).data_bytes
+      ≡ (first_of m).data_bytes = data_kept_outside_change g from to m.bytes now.bytes 0 keeps (inr (omega (arith, gate))) in
+      let opened : (slot g now.bytes 0).gate ≡ (first_of m).gate = is_open ∙ sym was_open in
+      first_slot_now ∙ (λ i. record { gate = opened i; header = head i; data_bytes = body i })
+
+  -- The gate of the first slot stays closed if only bytes behind it change.
+  pub first_slot_stays_shut : ¬ HasOpenGate (first_of m) → 0 < from → ¬ HasOpenGate (first_of now)
+  first_slot_stays_shut shut above is_open =
+      let gate : (slot g now.bytes 0).gate
+      ≡ (first_of m).gate = gate_kept_outside_change g from to m.bytes now.bytes 0 keeps (inl above) in
+      shut (sym gate ∙ is_open)
 
   -- Changes of the gate of a whole copy: the first slot does not count, or it is one generation on, with the same image.
   module _ (gate : to ≤ g) (bytes : HasBytes m) (head : HasCopyHeader m) where
@@ -105,3 +126,8 @@ module _ (m now : MediumState) (image : List ℕ) (from to : ℕ) (a : ActiveAt 
     image_stays_as_gate_opens = ⊎_elim opened
         (λ off. on (active_image_kept g wide m.bytes now.bytes half 0 image from to a keeps (omega arith) (omega (arith, below))
         (inl (λ c. off c.is_open)))) (cases_eq s.gate OPEN)
+
+    -- The first slot shows the image, whatever its gate is.
+    pub copy_shows_image : take (header_length (first_of now)) (first_of now).data_bytes ≡ image
+    copy_shows_image = ap (λ (x : Slot). take (header_length x) x.data_bytes) first_slot_now
+        ∙ ap (λ (n : ℕ). take n s.data_bytes) header_now_has_image_length ∙ copied

@@ -1,13 +1,13 @@
 -- Facts of each operation that is due, whatever becomes of it.
-use Rattle.std.specs.Prelude.{◌≡◌, ℕ, ◌+◌, ◌%◌, ◌≤◌, List}
+use Rattle.std.specs.Prelude.{◌≡◌, ◌⊎◌, ℕ, ◌+◌, ◌%◌, ◌≤◌, List, take}
 use Rattle.dfu_slots.specs.Medium.{MediumState, FrameOutside}
-use Rattle.dfu_slots.specs.Layout.{slot_size}
+use Rattle.dfu_slots.specs.Layout.{slot_size, HasOpenGate, header_length}
 use Rattle.dfu_slots.specs.Image.{Active, gate_of, spare_at}
 use Rattle.dfu_boot.specs.install.Area.{RangeIsBlank}
 use Rattle.dfu_home.specs.declared.due.Due.{Due}
 use Rattle.dfu_home.specs.declared.due.Due.TheVariants.{Refuse, Home, Erase, Program}
 use Rattle.dfu_home.specs.declared.due.Progress.{Progress}
-use Rattle.dfu_home.specs.Places.{IsActiveHome}
+use Rattle.dfu_home.specs.Places.{first_of, IsActiveHome}
 use Rattle.dfu_home.specs.Next.{IsNextDue}
 
 -- Place at which the range of an operation begins.
@@ -49,3 +49,11 @@ WritesTheFirstSlot = (m : MediumState) (p : Progress) (due : Due) → IsNextDue 
 -- As long as the active image is in the first slot, the second one is spare: each operation of a download lies in it.
 abbrev pub SecondIsSpare : Type 0
 SecondIsSpare = (m : MediumState) → IsActiveHome m → spare_at (gate_of m) m.bytes ≡ slot_size m.bytes
+
+-- Whatever becomes of the operation that is due, if the gate of the first slot is open afterwards, the slot is as it was before, or shows
+-- the active image.
+abbrev pub FirstSlotIsKnown : Type 0
+FirstSlotIsKnown =
+    (m now : MediumState) (image : List ℕ) (p : Progress) (due : Due) → Active m image → IsNextDue m p due →
+    HomeOperationOutcome m due now → HasOpenGate (first_of now) →
+    (first_of now ≡ first_of m) ⊎ (take (header_length (first_of now)) (first_of now).data_bytes ≡ image)

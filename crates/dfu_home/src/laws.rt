@@ -1,5 +1,5 @@
 //! Laws of two areas. Each is the contract of a function with an empty body, which is proved and not to be called.
-ghost use Rattle.dfu_home.specs.Laws.{ImageStays, WritesTheFirstSlot, SecondIsSpare};
+ghost use Rattle.dfu_home.specs.Laws.{ImageStays, WritesTheFirstSlot, SecondIsSpare, FirstSlotIsKnown};
 
 /// Whatever becomes of an operation that is due, also if it fails, lies or is cut off with any bytes in its range, the same image is the
 /// active one. So it is after any list of them, and of losses of power.
@@ -15,4 +15,10 @@ pub fn writes_the_first_slot()
 /// As long as the active image is in the first slot, the second one is spare.
 pub fn second_is_spare()
     ensures { SecondIsSpare }
+{}
+
+/// Whatever becomes of an operation that is due, no other image comes into the first slot: if its gate is open afterwards, the slot is as
+/// it was before, or shows the active image.
+pub fn first_slot_is_known()
+    ensures { FirstSlotIsKnown }
 {}

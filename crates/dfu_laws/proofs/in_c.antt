@@ -9,6 +9,7 @@ pub mod Runs
 pub mod Counts
 pub mod Marked
 pub mod Played
+pub mod Copied
 pub mod GoesOn
 pub mod Stays
 pub mod FormatCalls

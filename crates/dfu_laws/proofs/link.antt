@@ -7,6 +7,8 @@ pub mod Sent
 pub mod Handed
 pub mod Marked
 pub mod InSlots
+pub mod Copied
+pub mod Premises
 pub mod Ended
 pub mod Played
 pub mod Ran

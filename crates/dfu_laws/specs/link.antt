@@ -3,4 +3,5 @@ pub mod LinkSteps
 pub mod Plays
 pub mod Stays
 pub mod Marks
+pub mod Copies
 pub mod Trials

@@ -12,6 +12,7 @@ ghost use Rattle.dfu_laws.specs.board.Slots.{IdleRunsKeepSlots};
 ghost use Rattle.dfu_laws.specs.link.Plays.{UploadIsActiveImage, ReportMeansPayloadInPlace, ActiveImageIsKnown, ActiveImageIsKnownWithin, PlaysAreRuns};
 ghost use Rattle.dfu_laws.specs.link.Stays.{ReportedTrialStays};
 ghost use Rattle.dfu_laws.specs.link.Marks.{OpenGateWasClosed};
+ghost use Rattle.dfu_laws.specs.link.Copies.{HomeOperationsKeepImage};
 ghost use Rattle.dfu_laws.specs.judge.Conformity.{HistoriesConform, DevicesFromStartConform};
 ghost use Rattle.dfu_laws.specs.in_c.Closes.{ClosesIfRefused};
 ghost use Rattle.dfu_laws.specs.in_c.Runs.{CoreRunsRefineTable, CoreRunsKeepImage, CoreImageStaysInRun, CoreManifestationInstalls, CorePowerOnSucceeds};
@@ -24,6 +25,7 @@ ghost use Rattle.dfu_laws.specs.in_c.Stays.{CoreReportedTrialStays};
 use dfu_asks::laws::{pieces_are_the_writes, steps_are_the_writes, writes_are_the_calls};
 use dfu_boot::trial::laws::what_was_confirmed_runs_or_the_newest_on_trial;
 use dfu_device::laws::rows_take;
+use dfu_home::laws::{first_slot_is_known, image_stays, writes_the_first_slot};
 use dfu_sim::laws::{only_offered, simulation};
 use dfu_slots::laws::active_image_is_one;
 
@@ -109,6 +111,17 @@ pub fn boards_install()
     only_offered();
     active_image_is_one();
     what_was_confirmed_runs_or_the_newest_on_trial();
+    image_stays();
+    writes_the_first_slot();
+    first_slot_is_known();
+}
+
+/// After any number of operations of the copy of two areas, each by `next` of dfu_home with any progress, the same image is active: also if
+/// any of them failed, lied or was cut off, and the power went between them.
+pub fn copies_change_no_image()
+    ensures { HomeOperationsKeepImage }
+{
+    image_stays();
 }
 
 /// As a trial ends by dfu_boot, whatever becomes of its operation, only the sector of one gate changes, and that gate was open. The laws

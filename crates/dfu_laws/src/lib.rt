@@ -10,8 +10,8 @@ pub mod steps;
 pub use hosts::core_ends_install;
 pub use laws::{
     answers_are_kept, boards_are_devices, boards_ask_few_times, boards_install,
-    boards_keep_an_image, boards_take_what_is_accepted, core_boards_are_devices,
-    core_boards_ask_few_times, core_boards_install, core_boards_keep_an_image,
-    core_closes_if_refused, core_formats_ask_few_times, core_formats_make_an_image,
-    ends_of_trials_close_a_gate,
+    boards_keep_an_image, boards_take_what_is_accepted, copies_change_no_image,
+    core_boards_are_devices, core_boards_ask_few_times, core_boards_install,
+    core_boards_keep_an_image, core_closes_if_refused, core_formats_ask_few_times,
+    core_formats_make_an_image, ends_of_trials_close_a_gate,
 };

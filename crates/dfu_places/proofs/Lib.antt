@@ -6,3 +6,4 @@ mod Used
 mod Erasing
 mod Own
 mod WholeErases
+mod Sectors

@@ -4,7 +4,7 @@ use Rattle.dfu_places.specs.declared.region.Span.{Span}
 use Rattle.dfu_places.specs.declared.region.Region.{Region}
 use Rattle.dfu_places.specs.declared.placement.Placement.{Placement}
 use Rattle.dfu_places.specs.declared.placement.Needs.{Needs}
-use Rattle.dfu_places.specs.Regions.{end_of, IsApart, IsWhole}
+use Rattle.dfu_places.specs.Regions.{end_of, IsApart, IsWhole, IsPartSector}
 use Rattle.dfu_places.specs.Things.{used_at}
 use Rattle.dfu_places.specs.Placement.{IsPlacement}
 use Rattle.dfu_places.specs.Finding.{spot_of, found, erased}
@@ -43,3 +43,15 @@ abbrev pub UsedAreThere : Type 0
 UsedAreThere =
     (regions : List Region) (needs : Needs) (p : Placement) (v len : ℕ) → IsPlacement regions needs p →
     (spot_of p v).offset + len ≤ used_at needs p (spot_of p v).rank → IsSome (found p v len)
+
+-- The sector is of this erase alone: it lies in the span that is erased, and has a byte of no other virtual sector.
+pub record IsSectorOfErase (p : Placement) (v : ℕ) (s x : Span) : Type 0 where
+  pub from : s.at ≤ x.at
+  pub to : end_of x ≤ end_of s
+  pub own : (w a : ℕ) → found p w 1 ≡ Some a → x.at ≤ a → a < end_of x → (v ≤ w) × (w < v + p.sector)
+
+-- A sector of the part that has a byte of an erase of a virtual sector is of this erase alone.
+abbrev pub ErasesOwnSectors : Type 0
+ErasesOwnSectors =
+    (regions : List Region) (needs : Needs) (p : Placement) (v a : ℕ) (s x : Span) → IsPlacement regions needs p → erased p v ≡ Some s →
+    IsPartSector regions x → s.at ≤ a → a < end_of s → x.at ≤ a → a < end_of x → IsSectorOfErase p v s x

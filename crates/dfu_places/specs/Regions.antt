@@ -41,3 +41,12 @@ pub record IsWhole (regions : List Region) (part : ℕ) (s : Span) : Type 0 wher
   pub region : Region
   pub has : Contains regions region
   pub split : IsSplit part s region
+
+-- A span is one sector of the part: that of a region.
+pub record IsPartSector (regions : List Region) (x : Span) : Type 0 where
+  pub region : Region
+  pub has : Contains regions region
+  pub after : region.at ≤ x.at
+  pub edge : (x.at - region.at) % region.sector ≡ 0
+  pub len : x.len ≡ region.sector
+  pub within : end_of x ≤ region_end region

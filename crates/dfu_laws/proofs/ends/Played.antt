@@ -18,17 +18,18 @@ use Rattle.dfu_core.specs.Board.{CoreBoard}
 use Rattle.dfu_host_core.specs.BeginCalls.{IsInitialRecord}
 use Rattle.dfu_host_core.specs.Runs.{BeginIsInitial, CoreSessionsRefineHosts, NextOfCoreSessions, HasPayload}
 use Rattle.dfu_laws.specs.board.Board.{Board, state_on, BoardStep}
-use Rattle.dfu_laws.specs.link.Plays.{BoardPlays, starts, offers, uploads, aborts, goes_on, ends}
+use Rattle.dfu_laws.specs.link.Plays.{BoardPlays, starts, offers, uploads, aborts, goes_on, ends, copies}
 use Rattle.dfu_laws.specs.in_c.Steps.{CoreStep, board_of_core, IsBoardOfCore}
-use Rattle.dfu_laws.specs.in_c.Marks.{no_core_mark_or_end}
+use Rattle.dfu_laws.specs.in_c.Marks.{no_core_mark_or_end, IsCoreRunWithMarks}
 use Rattle.dfu_laws.specs.in_c.Plays.{CorePlays, CoreLinkStep, CoreReportMeansInPlace, CoreUploadIsActiveImage, CoreActiveImageIsKnown, CoreActiveImageKnownWithin}
 use Rattle.dfu_laws.specs.ends.Sessions.{CoreSession, NoSession, InSession, IsSessionOf, CoreTrialMayEnd}
 use Rattle.dfu_laws.specs.ends.EndsSteps.{EndsStep, mark_is_set}
-use Rattle.dfu_laws.specs.ends.Plays.{EndsPlay, no_session_yet, download_begins, upload_begins, session_is_given_up, and_then, trial_is_over, CoreEndsLink, CoreEndsPlay, CoreEndsStep, SessionsOfEndsHaveHosts, EndsReportMeansInPlace, EndsUploadIsActiveImage, EndsActiveImageIsKnown, EndsActiveImageKnownWithin, EndsContinue}
+use Rattle.dfu_laws.specs.ends.Plays.{EndsPlay, no_session_yet, download_begins, upload_begins, session_is_given_up, and_then, trial_is_over, operations_come, CoreEndsLink, CoreEndsPlay, CoreEndsStep, SessionsOfEndsHaveHosts, EndsReportMeansInPlace, EndsUploadIsActiveImage, EndsActiveImageIsKnown, EndsActiveImageKnownWithin, EndsContinue}
 use Rattle.dfu_laws.proofs.in_c.Each.{power_outcome_starts_board}
 use Rattle.dfu_laws.proofs.in_c.Runs.{core_flash_is_board_flash, core_state_is_board_state}
 use Rattle.dfu_laws.proofs.in_c.Played.{core_board_is_one_board}
 use Rattle.dfu_laws.proofs.in_c.Marked.{core_mark_marks_board, core_trial_end_ends_board, core_run_with_marks_append, core_run_then_mark, core_run_then_trial_end}
+use Rattle.dfu_laws.proofs.in_c.Copied.{core_home_copy_copies_board, core_run_then_home_copy}
 use Rattle.dfu_laws.proofs.in_c.GoesOn.{board_steps_of_append}
 use Rattle.dfu_laws.proofs.ends.Actions.{host_of_session, trial_may_end_with_host}
 use Rattle.dfu_laws.proofs.ends.Heard.{abort_matches_aborted_host}
@@ -99,6 +100,9 @@ module _ (begin : BeginIsInitial) (refine : CoreSessionsRefineHosts) (tells : Ne
         counted = o.counted;
         plays = ends image o.plays (trial_may_end_with_host s o.session (state_on now) begins o.is may) end active;
       }
+  ends_plays_are_host_plays b steps past back last s _ (operations_come {now = now} {b' = b'} p copy) =
+      let o = ends_plays_are_host_plays b steps past back last s now p in
+      record { session = o.session; is = o.is; counted = o.counted; plays = copies o.plays copy }
 
   -- Sessions between both ends in C are sessions of a board in C with a host.
   ends_plays_are_core_plays : (b : CoreBoard) (steps : List CoreStep) (past back : List (List ℕ)) (last : Option (List ℕ)) (l :
@@ -192,6 +196,22 @@ ends_play_with_other_session p plays = record {
   plays = plays;
 }
 
+-- Sessions after the same steps, on a board in C that changed since.
+ends_play_on_changed_board : {b on b' : CoreBoard} {steps : List CoreStep} {past back back' : List (List ℕ)} {last : Option (List ℕ)}
+    {s : CoreSession} (p : CoreEndsPlay b steps past back last (record { board = on; session = s })) (now : Board) → IsBoardOfCore b' now
+    → IsCoreRunWithMarks b steps b' → EndsPlay p.first p.calls past back' last s now
+    → CoreEndsPlay b steps past back' last (record { board = b'; session = s })
+ends_play_on_changed_board p now is run plays = record {
+  run = run;
+  first = p.first;
+  is_first = p.is_first;
+  calls = p.calls;
+  are = p.are;
+  now = now;
+  is_now = is;
+  plays = plays;
+}
+
 -- Sessions between both ends in C go on.
 pub ends_sessions_go_on : EndsContinue
 ends_sessions_go_on = record {
@@ -230,29 +250,16 @@ ends_sessions_go_on = record {
   };
   marks = λ b b' on steps past back last s p mark.
       let x = core_mark_marks_board on b' p.now p.is_now mark in
-      record {
-        run = core_run_then_mark b on b' steps p.run mark;
-        first = p.first;
-        is_first = p.is_first;
-        calls = p.calls;
-        are = p.are;
-        now = x.board;
-        is_now = x.is;
-        plays = subst (λ (ts : List BoardStep). EndsPlay p.first ts past back last s x.board) (append-nil p.calls)
-            (and_then p.plays (mark_is_set x.mark));
-      };
+      ends_play_on_changed_board p x.board x.is (core_run_then_mark b on b' steps p.run mark)
+      (subst (λ (ts : List BoardStep). EndsPlay p.first ts past back last s x.board) (append-nil p.calls)
+      (and_then p.plays (mark_is_set x.mark)));
   ends = λ b b' on steps past back last s state begins image p is may end active.
       let x = core_trial_end_ends_board on b' begins p.now p.is_now end in
-      record {
-        run = core_run_then_trial_end b on b' begins steps p.run end;
-        first = p.first;
-        is_first = p.is_first;
-        calls = p.calls;
-        are = p.are;
-        now = x.board;
-        is_now = x.is;
-        plays = trial_is_over image p.plays
-            (subst (λ (y : State). CoreTrialMayEnd s y begins) (sym (core_state_is_board_state on p.now state p.is_now is)) may)
-            x.end (subst (λ (m : MediumState). Active m image) (sym (core_flash_is_board_flash b' x.board x.is)) active);
-      };
+      ends_play_on_changed_board p x.board x.is (core_run_then_trial_end b on b' begins steps p.run end)
+      (trial_is_over image p.plays
+      (subst (λ (y : State). CoreTrialMayEnd s y begins) (sym (core_state_is_board_state on p.now state p.is_now is)) may)
+      x.end (subst (λ (m : MediumState). Active m image) (sym (core_flash_is_board_flash b' x.board x.is)) active));
+  copies = λ b b' on steps past back last s p copy.
+      let x = core_home_copy_copies_board on b' p.now p.is_now copy in
+      ends_play_on_changed_board p x.board x.is (core_run_then_home_copy b on b' steps p.run copy) (operations_come p.plays x.copy);
 }

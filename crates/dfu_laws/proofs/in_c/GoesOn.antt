@@ -13,7 +13,7 @@ use Rattle.dfu_sim.specs.LinkView.{Session, NoLiveSession, HostSession}
 use Rattle.dfu_laws.specs.board.Board.{state_on, BoardStep}
 use Rattle.dfu_laws.specs.link.LinkSteps.{marks}
 use Rattle.dfu_laws.specs.link.Trials.{TrialMayEnd}
-use Rattle.dfu_laws.specs.link.Plays.{BoardPlays, starts as begins, offers as offers_on, uploads as uploads_on, aborts as gives_up, goes_on as comes_next, ends as trial_ends}
+use Rattle.dfu_laws.specs.link.Plays.{BoardPlays, starts as begins, offers as offers_on, uploads as uploads_on, aborts as gives_up, goes_on as comes_next, ends as trial_ends, copies as home_copy_comes}
 use Rattle.dfu_core.specs.Board.{CoreBoard}
 use Rattle.dfu_laws.specs.in_c.Steps.{CoreStep, board_of_core, IsBoardOfCore, AreBoardStepsOf}
 use Rattle.dfu_laws.specs.in_c.Marks.{no_core_mark_or_end}
@@ -22,6 +22,7 @@ use Rattle.dfu_laws.proofs.in_c.Each.{power_outcome_starts_board}
 use Rattle.dfu_laws.proofs.in_c.Runs.{core_flash_is_board_flash, core_state_is_board_state}
 use Rattle.dfu_laws.proofs.in_c.Marked.{core_mark_marks_board, core_trial_end_ends_board, core_run_with_marks_append, core_run_then_mark, core_run_then_trial_end}
 use Rattle.dfu_laws.proofs.in_c.Played.{event_comes_to_board}
+use Rattle.dfu_laws.proofs.in_c.Copied.{core_home_copy_copies_board, core_run_then_home_copy}
 
 pub board_steps_of_append : (xs ys : List CoreStep) (ts us : List BoardStep) → AreBoardStepsOf xs ts → AreBoardStepsOf ys us →
     AreBoardStepsOf (xs ++ ys) (ts ++ us)
@@ -110,5 +111,17 @@ core_plays_continue = record {
             (subst (λ (s : Session). TrialMayEnd s (state_on p.link.board) begins) (sym p.is_link.session)
             (subst (λ (s : State). TrialMayEnd l.session s begins) (sym here) may))
             x.end (subst (λ (m : MediumState). Active m image) (sym (core_flash_is_board_flash b' x.board x.is)) active);
+      };
+  copies = λ b b' steps past back last l p copy.
+      let x = core_home_copy_copies_board l.board b' p.link.board p.is_link.board copy in
+      record {
+        run = core_run_then_home_copy b l.board b' steps p.run copy;
+        first = p.first;
+        is_first = p.is_first;
+        calls = p.calls;
+        are = p.are;
+        link = record { board = x.board; session = p.link.session };
+        is_link = record { board = x.is; session = p.is_link.session };
+        plays = home_copy_comes p.plays x.copy;
       };
 }

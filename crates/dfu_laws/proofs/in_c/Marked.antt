@@ -10,7 +10,7 @@ use Rattle.dfu_core.specs.Happens.{CoreEventOutcome}
 use Rattle.dfu_laws.specs.board.Board.{Board, medium_on}
 use Rattle.dfu_laws.specs.link.Marks.{IsMarkedBoard, OpenGateWasClosed, TrialEnd}
 use Rattle.dfu_laws.specs.in_c.Steps.{CoreStep, IsCoreRun, board_of_core, IsBoardOfCore}
-use Rattle.dfu_laws.specs.in_c.Marks.{IsMarkedCoreBoard, CoreTrialEnd, CoreMarksOrTrialEnds, no_core_mark_or_end, then_core_mark, then_core_trial_end, IsCoreRunWithMarks, AreCoreStepsJoined}
+use Rattle.dfu_laws.specs.in_c.Marks.{IsMarkedCoreBoard, CoreTrialEnd, CoreMarksOrTrialEnds, no_core_mark_or_end, then_core_mark, then_core_trial_end, then_core_home_copy, IsCoreRunWithMarks, AreCoreStepsJoined}
 use Rattle.dfu_laws.proofs.in_c.Same.{same_config_same_setup}
 use Rattle.dfu_laws.proofs.in_c.Each.{power_outcome_starts_board}
 use Rattle.dfu_laws.proofs.in_c.Runs.{core_flash_is_board_flash}
@@ -70,6 +70,8 @@ core_marks_append b mid _ marked (then_core_mark {mid = late} {b' = b'} more mar
     more) mark
 core_marks_append b mid _ marked (then_core_trial_end {mid = late} {b' = b'} {begins = begins} more end) = then_core_trial_end
     (core_marks_append b mid late marked more) end
+core_marks_append b mid _ marked (then_core_home_copy {mid = late} {b' = b'} more copy) = then_core_home_copy
+    (core_marks_append b mid late marked more) copy
 
 pub core_run_with_marks_append : (b mid b' : CoreBoard) (xs ys : List CoreStep) → IsCoreRunWithMarks b xs mid → IsCoreRunWithMarks mid ys b'
     → IsCoreRunWithMarks b (xs ++ ys) b'

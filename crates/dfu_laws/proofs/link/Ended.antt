@@ -17,11 +17,13 @@ use Rattle.dfu_host.specs.Table.{deed}
 use Rattle.dfu_sim.specs.LinkView.{Session, NoLiveSession, HostSession}
 use Rattle.dfu_sim.specs.Fact.{IsAtBlock, WholePayloadAccepted, FetchedSoFar, PhaseFact, FetchFact, CompareFact, GoalFact, SessionFact}
 use Rattle.dfu_sim.proofs.CommonFacts.{common_phase_has_goal_fact}
-use Rattle.dfu_laws.specs.board.Board.{Board, lent_on, device_on, state_on}
+use Rattle.dfu_laws.specs.board.Board.{Board, lent_on, medium_on, device_on, state_on}
 use Rattle.dfu_laws.specs.board.Happens.{start_stage, BoardStarts}
 use Rattle.dfu_laws.specs.board.Refines.{IsIdleBoard, IdleRunsRefineTable}
 use Rattle.dfu_laws.specs.link.Marks.{TrialEnd}
+use Rattle.dfu_laws.specs.link.Copies.{HomeCopy}
 use Rattle.dfu_laws.specs.link.Trials.{BeginsTransfer, TrialMayEnd}
+use Rattle.dfu_laws.proofs.link.Copied.{operations_keep_size}
 
 -- The board after the end of a trial.
 
@@ -36,6 +38,19 @@ pub trial_end_keeps_profile : (b b' : Board) (begins : Bool) → TrialEnd b begi
 trial_end_keeps_profile b b' begins end = λ i. profile_of (end.same.config i)
     (same_length_same_room (lent_on b) (lent_on b') b.flash b'.flash end.closed.4.size (λ j. grain_of (end.same.unit j) (end.same.sector
     j)) i)
+
+-- Operations of the copy keep the profile of the device.
+pub home_copy_keeps_profile : (b b' : Board) → HomeCopy b b' → profile (device_on b') ≡ profile (device_on b)
+home_copy_keeps_profile b b' copy = λ i. profile_of (copy.same.config i)
+    (same_length_same_room (lent_on b) (lent_on b') b.flash b'.flash
+    (operations_keep_size (medium_on b) (medium_on b') copy.operations) (λ j. grain_of (copy.same.unit j) (copy.same.sector j)) i)
+
+-- A board is in the same stage after operations of the copy.
+pub home_copy_keeps_stage : (b b' : Board) → HomeCopy b b' → (device_on b').stage ≡ (device_on b).stage
+home_copy_keeps_stage b b' copy =
+    ap (λ (d : DeviceView). d.stage) copy.starts.0.device
+    ∙ ap start_stage (copy.starts.1 ∙ sym copy.power.1)
+    ∙ sym (ap (λ (d : DeviceView). d.stage) copy.power.0.device)
 
 -- A board with no writes due is in the state of its device.
 pub idle_board_has_device_state : (refines : IdleRunsRefineTable) (b : Board) (d : DeviceView) → IsIdleBoard b d → state_on b

@@ -7,9 +7,10 @@ use Rattle.dfu_asks.specs.Lent.{SameSetup}
 use Rattle.dfu_laws.specs.board.Board.{Board, Event, Handle, BoardReply, BoardStep}
 use Rattle.dfu_laws.specs.board.Happens.{EventOutcome, IsRun}
 use Rattle.dfu_laws.specs.link.Calls.{CallReaches, lost, once, twice, ImageRefusedAtClose, close_refused_once, close_refused_then_repeated, CallCutOff, behind, within, power_lost_in_second_call}
-use Rattle.dfu_laws.specs.link.Marks.{IsMarkedBoard, TrialEnd, MarksOrTrialEnds, no_mark_or_end, one_more, then_trial_end, IsRunWithMarks, AreStepsJoined}
+use Rattle.dfu_laws.specs.link.Marks.{IsMarkedBoard, TrialEnd, MarksOrTrialEnds, no_mark_or_end, one_more, then_trial_end, then_home_copy, IsRunWithMarks, AreStepsJoined}
+use Rattle.dfu_laws.specs.link.Copies.{HomeCopy}
 use Rattle.dfu_laws.specs.link.LinkSteps.{BoardLink, BoardLinkStep, passes, sends, refuses, waits, resets, is_reset_by_other_cause, restarts, leaves, restarts_at_reset, marks}
-use Rattle.dfu_laws.specs.link.Plays.{BoardPlays, starts, offers, uploads, aborts as gives_up, goes_on, ends, PlaysAreRuns}
+use Rattle.dfu_laws.specs.link.Plays.{BoardPlays, starts, offers, uploads, aborts as gives_up, goes_on, ends, copies, PlaysAreRuns}
 
 run_append : (b mid b' : Board) (xs ys : List BoardStep) → IsRun b xs mid → IsRun mid ys b' → IsRun b (xs ++ ys) b'
 run_append b mid b' [] ys run more = subst (λ (x : Board). IsRun x ys b') run more
@@ -108,11 +109,16 @@ marks_append b mid _ marked no_mark_or_end = marked
 marks_append b mid _ marked (one_more {mid = late} {b' = b'} more mark) = one_more (marks_append b mid late marked more) mark
 marks_append b mid _ marked (then_trial_end {mid = late} {b' = b'} {begins = begins} more end) = then_trial_end (marks_append b mid late
     marked more) end
+marks_append b mid _ marked (then_home_copy {mid = late} {b' = b'} more copy) = then_home_copy (marks_append b mid late marked more) copy
 
 run_then_trial_end : (b mid b' : Board) (begins : Bool) (steps : List BoardStep) → IsRunWithMarks b steps mid → TrialEnd mid begins b'
     → IsRunWithMarks b steps b'
 run_then_trial_end b mid b' begins [] marked end = then_trial_end marked end
 run_then_trial_end b mid b' begins (s ∷ rest) run end = (run.0, run.1, run.2, run_then_trial_end s.after mid b' begins rest run.3 end)
+
+run_then_home_copy : (b mid b' : Board) (steps : List BoardStep) → IsRunWithMarks b steps mid → HomeCopy mid b' → IsRunWithMarks b steps b'
+run_then_home_copy b mid b' [] marked copy = then_home_copy marked copy
+run_then_home_copy b mid b' (s ∷ rest) run copy = (run.0, run.1, run.2, run_then_home_copy s.after mid b' rest run.3 copy)
 
 run_with_marks_append : (b mid b' : Board) (xs ys : List BoardStep) → IsRunWithMarks b xs mid → IsRunWithMarks mid ys b' →
     IsRunWithMarks b (xs ++ ys) b'
@@ -142,6 +148,8 @@ plays_are_runs_with_marks b _ past back last _ (goes_on {steps = steps} {more = 
     (run_or_mark_has_marks l.board l'.board more (link_step_is_run_or_mark l l' more answer comes))
 plays_are_runs_with_marks b steps _ _ last _ (ends {past = past} {back = back} {l = l} {b' = b'} {begins = begins} image p may end active) =
     run_then_trial_end b l.board b' begins steps (plays_are_runs_with_marks b steps past back last l p) end
+plays_are_runs_with_marks b steps past back last _ (copies {l = l} {b' = b'} p copy) =
+    run_then_home_copy b l.board b' steps (plays_are_runs_with_marks b steps past back last l p) copy
 
 -- The steps of sessions with a board are runs between marks and ends of trials.
 pub plays_are_runs : PlaysAreRuns

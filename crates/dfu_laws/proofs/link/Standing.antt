@@ -2,9 +2,10 @@
 use Rattle.std.specs.Prelude.{◌≡◌, ◌⊎◌, ℕ, ◌<◌, Bool, List, [], ◌∷◌, Option, Some, None}
 use Rattle.std.proofs.Common.{inl, inr, refl, sym, ap, ◌∙◌, subst}
 use Rattle.dfu_slots.specs.Medium.{MediumState}
-use Rattle.dfu_slots.specs.Image.{Active, HasImage}
-use Rattle.dfu_slots.specs.StoreView.{SlotsState, image_of}
+use Rattle.dfu_slots.specs.Image.{Active}
+use Rattle.dfu_slots.specs.StoreView.{image_of}
 use Rattle.dfu_device.specs.Stage.{Profile}
+use Rattle.dfu_device.specs.Outcome.{Situation}
 use Rattle.dfu_device.specs.DeviceView.{DeviceView, profile, situation}
 use Rattle.dfu_asks.specs.Mapped.{grain_of}
 use Rattle.dfu_asks.specs.Asks.{flash_store}
@@ -18,46 +19,25 @@ use Rattle.dfu_sim.specs.LinkView.{Session, HostSession}
 use Rattle.dfu_sim.specs.Agreement.{live_session_of_goal, live_session_of, IsLiveOffer}
 use Rattle.dfu_sim.specs.LinkAgreement.{ClosedWasOffered}
 use Rattle.dfu_sim.specs.Fact.{SessionFact}
-use Rattle.dfu_sim.specs.Simulation.{Simulation, ActiveImageWasOffered}
 use Rattle.dfu_laws.specs.board.Board.{Board, lent_on, medium_on, device_on, state_on, BoardStep}
 use Rattle.dfu_laws.specs.board.Happens.{IsPoweredOn}
-use Rattle.dfu_laws.specs.board.Refines.{IdleRunsRefineTable}
-use Rattle.dfu_laws.specs.board.Slots.{IsInSlot, WasActiveMeanwhile, IdleRunsKeepSlots}
+use Rattle.dfu_laws.specs.board.Slots.{IsInSlot, WasActiveMeanwhile}
 use Rattle.dfu_laws.specs.link.LinkSteps.{BoardLink, BoardLinkStep}
 use Rattle.dfu_laws.specs.link.Marks.{TrialEnd}
+use Rattle.dfu_laws.specs.link.Copies.{HomeCopy}
 use Rattle.dfu_laws.specs.link.Trials.{TrialMayEnd}
-use Rattle.dfu_laws.specs.link.Plays.{BoardPlays, starts, offers, uploads, aborts as gives_up, goes_on, ends}
+use Rattle.dfu_laws.specs.link.Plays.{BoardPlays, starts, offers, uploads, aborts as gives_up, goes_on, ends, copies}
 use Rattle.dfu_laws.proofs.board.Slots.{active_in_slot}
 use Rattle.dfu_laws.proofs.link.InSlots.{marks_change_no_slot, gate_close_adds_no_image}
-use Rattle.dfu_laws.proofs.link.Ended.{idle_board_has_device_state, trial_end_keeps_profile, session_fact_after_trial_end}
+use Rattle.dfu_laws.proofs.link.Premises.{LinkLaws}
+use Rattle.dfu_laws.proofs.link.Copied.{operations_keep_image, operations_add_no_image}
+use Rattle.dfu_laws.proofs.link.Ended.{idle_board_has_device_state, trial_end_keeps_profile, session_fact_after_trial_end, home_copy_keeps_profile, home_copy_keeps_stage}
 use Rattle.dfu_laws.proofs.link.Played.{BoardAndHostFacts, FactsAfterEvent, event_keeps_facts}
 use Rattle.dfu_laws.proofs.link.Ran.{link_step_is_run_or_mark}
 use Rattle.dfu_laws.proofs.link.Sessions.{purpose_goal_is_loading, same_loading_same_payload, closed_bytes_offered_with_more, opened_fact_of_same_profile, fact_of_offered_session, fact_of_upload_session, given_up_session_keeps_fact}
 use Rattle.dfu_laws.proofs.link.Stopped.{no_bytes_closed_at_start}
 use Rattle.dfu_laws.proofs.link.Within.{idle_board_image_is_known}
 use Rattle.dfu_laws.proofs.link.Throughout.{known_through_event}
-
--- Clauses `shown` and `only` of the law `active_image_is_one`: the image that image_of gives is active, and no other one is.
-abbrev pub ImageIsShown : Type 0
-ImageIsShown = (s : SlotsState) → HasImage s.medium → Active s.medium (image_of s)
-
-abbrev pub OneActiveImageClause : Type 0
-OneActiveImageClause = (s : SlotsState) (image : List ℕ) → Active s.medium image → image ≡ image_of s
-
--- Laws on which the proof stands.
-pub record LinkLaws : Type 0 where
-  pub refines : IdleRunsRefineTable
-  pub keeps : IdleRunsKeepSlots
-  pub simulation : Simulation
-  pub only : ActiveImageWasOffered
-  pub shown : ImageIsShown
-  pub one : OneActiveImageClause
-
--- The laws together.
-pub link_laws : IdleRunsRefineTable → IdleRunsKeepSlots → Simulation → ActiveImageWasOffered → ImageIsShown → OneActiveImageClause →
-    LinkLaws
-link_laws refines keeps simulation only shown one =
-    record { refines = refines; keeps = keeps; simulation = simulation; only = only; shown = shown; one = one }
 
 -- An image was there at first: as the active image, or in a slot if it was active as a trial ended.
 abbrev pub WasThereAtFirst : MediumState → (image : List ℕ) (back : List (List ℕ)) → List ℕ → Type 0
@@ -144,6 +124,37 @@ module _ (laws : LinkLaws) (c : Profile) (sized : 0 < c.transfer) (b : Board) (i
         slots = there;
       }
 
+  -- If operations of the copy come to a board on which the facts hold, they hold again.
+  home_copy_keeps_invariant : (past back : List (List ℕ)) (last : Option (List ℕ)) (l : BoardLink) (b' : Board)
+      → BoardAndSlotsStand past back last l → HomeCopy l.board b'
+      → BoardAndSlotsStand past back last (record { board = b'; session = l.session })
+  home_copy_keeps_invariant past back last l b' x copy =
+      let on = copy.starts.0 in
+      let was : Active (medium_on l.board) (image_of (device_on l.board).slots) =
+      laws.shown (flash_store (lent_on l.board) l.board.flash) copy.power.0.is.store.has_image in
+      let now : Active (medium_on b') (image_of (device_on l.board).slots) =
+      operations_keep_image laws.home.stays (medium_on l.board) (medium_on b') (image_of (device_on l.board).slots) was copy.operations in
+      let image : image_of (device_on b').slots ≡ image_of x.device.slots =
+      sym (laws.one (flash_store (lent_on b') b'.flash) (image_of (device_on l.board).slots) now)
+      ∙ ap (λ (d : DeviceView). image_of d.slots) x.stands.idle.device in
+      let stage : (device_on b').stage ≡ x.device.stage =
+      home_copy_keeps_stage l.board b' copy ∙ ap (λ (d : DeviceView). d.stage) x.stands.idle.device in
+      let same : situation (device_on b') ≡ situation x.device = λ i. record { image = image i; stage = stage i } in
+      record {
+        device = device_on b';
+        stands = record {
+          idle = record { work = on.work; is = on.is; device = refl };
+          profile_is = home_copy_keeps_profile l.board b' copy ∙ ap profile x.stands.idle.device ∙ x.stands.profile_is;
+          fact = subst (λ (z : Situation). SessionFact c z l.session) (sym same) x.stands.fact;
+          live = x.stands.live;
+          offered = x.stands.offered;
+          sound = subst (λ (z : Situation). ClosedWasOffered past z.stage) (sym same) x.stands.sound;
+          known = subst (λ (z : Situation). WasOnBoardAtFirst back z.image ⊎ IsOneOf z.image past) (sym same) x.stands.known;
+        };
+        slots = λ i there. x.slots i (operations_add_no_image laws.home (medium_on l.board) (medium_on b')
+            (image_of (device_on l.board).slots) was copy.operations i there);
+      }
+
   -- After the next event each image in a slot was in a slot before, or was active meanwhile.
   event_keeps_slot_origins : (past back : List (List ℕ)) (last : Option (List ℕ)) (l l' : BoardLink) (more : List BoardStep) (answer :
       Answered)
@@ -224,3 +235,5 @@ module _ (laws : LinkLaws) (c : Profile) (sized : 0 < c.transfer) (b : Board) (i
       record { device = y.device; stands = y.stands; slots = event_keeps_slot_origins past back last l l' more answer x y comes }
   stands steps _ _ last _ on e (ends {past = past} {back = back} {l = l} {b' = b'} {begins = dfu} came p may end now) =
       trial_end_keeps_invariant past back last l b' came dfu (stands steps past back last l on e p) may end now
+  stands steps past back last _ on e (copies {l = l} {b' = b'} p copy) =
+      home_copy_keeps_invariant past back last l b' (stands steps past back last l on e p) copy

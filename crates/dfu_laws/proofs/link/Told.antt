@@ -16,7 +16,8 @@ use Rattle.dfu_laws.proofs.link.Ended.{idle_board_has_device_state}
 use Rattle.dfu_laws.proofs.link.Played.{FactsAfterEvent, event_keeps_facts}
 use Rattle.dfu_laws.proofs.link.Within.{idle_board_image_is_known}
 use Rattle.dfu_laws.proofs.link.Throughout.{known_through_event}
-use Rattle.dfu_laws.proofs.link.Standing.{LinkLaws, WasThereAtFirst, BoardAndSlotsStand, stands}
+use Rattle.dfu_laws.proofs.link.Premises.{LinkLaws}
+use Rattle.dfu_laws.proofs.link.Standing.{WasThereAtFirst, BoardAndSlotsStand, stands}
 
 module _ (laws : LinkLaws) where
   idle_board_image_is_active : (b : Board) (d : DeviceView) → IsIdleBoard b d → Active (medium_on b) (image_of d.slots)

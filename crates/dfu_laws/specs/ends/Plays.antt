@@ -18,8 +18,9 @@ use Rattle.dfu_host_core.specs.BeginCalls.{IsInitialRecord}
 use Rattle.dfu_host_core.specs.Runs.{CoreHost, CoreAbortCall, HostCallResult}
 use Rattle.dfu_laws.specs.board.Board.{Board, medium_on, state_on, BoardStep}
 use Rattle.dfu_laws.specs.link.Marks.{TrialEnd}
+use Rattle.dfu_laws.specs.link.Copies.{HomeCopy}
 use Rattle.dfu_laws.specs.in_c.Steps.{CoreStep, IsCoreRun, IsBoardOfCore, AreBoardStepsOf}
-use Rattle.dfu_laws.specs.in_c.Marks.{IsMarkedCoreBoard, CoreTrialEnd, IsCoreRunWithMarks}
+use Rattle.dfu_laws.specs.in_c.Marks.{IsMarkedCoreBoard, CoreTrialEnd, CoreHomeCopy, IsCoreRunWithMarks}
 use Rattle.dfu_laws.specs.in_c.Plays.{CorePlays, IsCorePayloadInPlace, HasKnownCoreImage}
 use Rattle.dfu_laws.specs.ends.Sessions.{CoreSession, NoSession, InSession, IsSessionOf, CoreTrialMayEnd}
 use Rattle.dfu_laws.specs.ends.EndsSteps.{EndsStep}
@@ -56,6 +57,9 @@ pub data EndsPlay (b : Board) : List BoardStep → List (List ℕ) → List (Lis
       {begins : Bool} (image : List ℕ) → EndsPlay b steps past back last s now → CoreTrialMayEnd s (state_on now) begins
       → TrialEnd now begins b'
       → Active (medium_on b') image → EndsPlay b steps past (image ∷ back) last s b'
+  -- In two areas, operations of the copy come after a restart. The session learns nothing of it.
+  operations_come : {steps : List BoardStep} {past back : List (List ℕ)} {last : Option (List ℕ)} {s : CoreSession} {now b' : Board}
+      → EndsPlay b steps past back last s now → HomeCopy now b' → EndsPlay b steps past back last s b'
 
 -- A board in C, and the session in C that is live.
 pub record CoreEndsLink : Type 0 where
@@ -130,7 +134,8 @@ EndsActiveImageKnownWithin = (b mid : CoreBoard) (steps front rest : List CoreSt
     → CoreEndsStep l (front ++ rest) answer l' → IsCoreRun l.board front mid → HasKnownCoreImage (medium_of_core b) image past back mid
 
 -- Sessions between both ends begin on a board in C that just got power, and go on: if no session is live a payload is offered or an upload
--- begins; the live session is given up; the next event comes; a mark of a trial is set; or a trial ends.
+-- begins; the live session is given up; the next event comes; a mark of a trial is set; a trial ends; or operations of the copy of two
+-- areas come.
 pub record EndsContinue : Type 0 where
   pub starts : (b : CoreBoard) → IsCorePoweredOn b → CoreEndsPlay b [] [] [] None (record { board = b; session = NoSession })
   pub offers : (b : CoreBoard) (steps : List CoreStep) (past back : List (List ℕ)) (last : Option (List ℕ)) (on : CoreBoard)
@@ -158,3 +163,6 @@ pub record EndsContinue : Type 0 where
       (begins : Bool) (image : List ℕ) → CoreEndsPlay b steps past back last (record { board = on; session = s }) → HasBoardState on state
       → CoreTrialMayEnd s state begins → CoreTrialEnd on begins b' → Active (medium_of_core b') image
       → CoreEndsPlay b steps past (image ∷ back) last (record { board = b'; session = s })
+  pub copies : (b b' on : CoreBoard) (steps : List CoreStep) (past back : List (List ℕ)) (last : Option (List ℕ)) (s : CoreSession)
+      → CoreEndsPlay b steps past back last (record { board = on; session = s }) → CoreHomeCopy on b'
+      → CoreEndsPlay b steps past back last (record { board = b'; session = s })

@@ -1,10 +1,11 @@
--- Bytes that a trial changes on the flash of a board in C, and steps with such changes between them.
+-- Bytes that a trial or the copy of two areas changes on the flash of a board in C, and steps with such changes between them.
 use Rattle.std.specs.Prelude.{◌≡◌, pos, Bool, List, [], ◌∷◌}
 use Rattle.dfu_boot.specs.trial.Unread.{ChangedUnreadBytes}
 use Rattle.dfu_core.specs.Power.{PowerOutcome}
 use Rattle.dfu_core.specs.Board.{CoreBoard, medium_of_core}
 use Rattle.dfu_core.specs.Happens.{start_mode, CoreEventOutcome}
 use Rattle.dfu_laws.specs.link.Marks.{OpenGateWasClosed}
+use Rattle.dfu_laws.specs.link.Copies.{HomeOperations}
 use Rattle.dfu_laws.specs.in_c.Steps.{CoreStep, IsCoreRun}
 
 -- Only bytes of the flash changed that the slot store does not read. The mark for which dfu_core_trial_start or dfu_core_trial_confirm asks
@@ -19,14 +20,25 @@ pub record CoreTrialEnd (b : CoreBoard) (begins : Bool) (b' : CoreBoard) : Type 
   pub config : b'.config ≡ b.config
   pub powers : PowerOutcome b'.config (start_mode begins) b'.flash (pos 0) b'.kept
 
--- Any number of marks and ends of trials came to a board in C, or none.
+-- Operations of the copy come to a board in C that got power, before its device begins. The restart before gives the board b, as if
+-- dfu_core_power_on had returned 0 at once, or dfu_core_begin; the program calls it only after the operations of dfu_core_home_next.
+pub record CoreHomeCopy (b b' : CoreBoard) : Type 0 where
+  pub begins : Bool
+  pub power : PowerOutcome b.config (start_mode begins) b.flash (pos 0) b.kept
+  pub operations : HomeOperations (medium_of_core b) (medium_of_core b')
+  pub config : b'.config ≡ b.config
+  pub starts : PowerOutcome b'.config (start_mode begins) b'.flash (pos 0) b'.kept
+
+-- Any number of marks, ends of trials and copies came to a board in C, or none.
 pub data CoreMarksOrTrialEnds (b : CoreBoard) : CoreBoard → Type 0 where
   no_core_mark_or_end : CoreMarksOrTrialEnds b b
   then_core_mark : {mid b' : CoreBoard} → CoreMarksOrTrialEnds b mid → IsMarkedCoreBoard mid b' → CoreMarksOrTrialEnds b b'
   then_core_trial_end : {mid b' : CoreBoard} {begins : Bool} → CoreMarksOrTrialEnds b mid → CoreTrialEnd mid begins b' →
       CoreMarksOrTrialEnds b b'
+  then_core_home_copy : {mid b' : CoreBoard} → CoreMarksOrTrialEnds b mid → CoreHomeCopy mid b' → CoreMarksOrTrialEnds b b'
 
--- The steps come to a board in C one after the other; before, between and after them marks may be set and trials may end.
+-- The steps come to a board in C one after the other; before, between and after them marks may be set, trials may end, and
+-- copies may come.
 abbrev pub IsCoreRunWithMarks : CoreBoard → List CoreStep → CoreBoard → Type 0
 IsCoreRunWithMarks b [] b' = CoreMarksOrTrialEnds b b'
 IsCoreRunWithMarks b (s ∷ rest) b' = CoreMarksOrTrialEnds b s.before × CoreEventOutcome s.before s.event s.number s.out s.after

@@ -20,7 +20,7 @@ use Rattle.dfu_laws.specs.link.Plays.{BoardPlays}
 use Rattle.dfu_core.specs.Config.{config_setting}
 use Rattle.dfu_core.specs.Board.{CoreBoard, medium_of_core, HasBoardState}
 use Rattle.dfu_laws.specs.in_c.Steps.{CoreStep, IsCoreRun, IsBoardOfCore, AreBoardStepsOf}
-use Rattle.dfu_laws.specs.in_c.Marks.{IsMarkedCoreBoard, CoreTrialEnd, IsCoreRunWithMarks, IsCoreRunBetweenMarks}
+use Rattle.dfu_laws.specs.in_c.Marks.{IsMarkedCoreBoard, CoreTrialEnd, CoreHomeCopy, IsCoreRunWithMarks, IsCoreRunBetweenMarks}
 use Rattle.dfu_core.specs.Happens.{IsCorePoweredOn}
 
 -- A board in C, and the session that is live.
@@ -115,7 +115,7 @@ core_link_of_new_session b goal limits = record {
 }
 
 -- Sessions begin on a board in C that just got power, and go on: if no session is live a payload is offered or an upload begins; the live
--- session is given up; the next event comes; a mark of a trial is set; or a trial ends.
+-- session is given up; the next event comes; a mark of a trial is set; a trial ends; or operations of the copy of two areas come.
 pub record CorePlaysContinue : Type 0 where
   pub starts : (b : CoreBoard) → IsCorePoweredOn b → CorePlays b [] [] [] None (record { board = b; session = NoLiveSession })
   pub offers : (b : CoreBoard) (steps : List CoreStep) (past back : List (List ℕ)) (last : Option (List ℕ)) (l : CoreLink)
@@ -138,3 +138,5 @@ pub record CorePlaysContinue : Type 0 where
       → TrialMayEnd l.session state begins
       → CoreTrialEnd l.board begins b' → Active (medium_of_core b') image
       → CorePlays b steps past (image ∷ back) last (record l { board = b' })
+  pub copies : (b b' : CoreBoard) (steps : List CoreStep) (past back : List (List ℕ)) (last : Option (List ℕ)) (l : CoreLink)
+      → CorePlays b steps past back last l → CoreHomeCopy l.board b' → CorePlays b steps past back last (record l { board = b' })

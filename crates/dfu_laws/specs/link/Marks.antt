@@ -6,6 +6,7 @@ use Rattle.dfu_boot.specs.trial.Unread.{ChangedUnreadBytes}
 use Rattle.dfu_asks.specs.Lent.{SameSetup}
 use Rattle.dfu_laws.specs.board.Board.{Board, medium_on, BoardStep}
 use Rattle.dfu_laws.specs.board.Happens.{IsPoweredOn, EventOutcome, IsRun}
+use Rattle.dfu_laws.specs.link.Copies.{HomeCopy}
 
 -- Only bytes of the flash changed that the slot store does not read. A mark of a trial changes such bytes, if it is set, torn or fails.
 pub record IsMarkedBoard (b b' : Board) : Type 0 where
@@ -24,13 +25,14 @@ pub record TrialEnd (b : Board) (begins : Bool) (b' : Board) : Type 0 where
   pub starts : (on : IsPoweredOn b') × (on.begins ≡ begins)
   pub same : SameSetup b.asking b'.asking
 
--- Any number of marks and ends of trials came to a board, or none.
+-- Any number of marks, ends of trials and copies of two areas came to a board, or none.
 pub data MarksOrTrialEnds (b : Board) : Board → Type 0 where
   no_mark_or_end : MarksOrTrialEnds b b
   one_more : {mid b' : Board} → MarksOrTrialEnds b mid → IsMarkedBoard mid b' → MarksOrTrialEnds b b'
   then_trial_end : {mid b' : Board} {begins : Bool} → MarksOrTrialEnds b mid → TrialEnd mid begins b' → MarksOrTrialEnds b b'
+  then_home_copy : {mid b' : Board} → MarksOrTrialEnds b mid → HomeCopy mid b' → MarksOrTrialEnds b b'
 
--- The steps come to a board one after the other; before, between and after them marks may be set and trials may end.
+-- The steps come to a board one after the other; before, between and after them marks may be set, trials may end, and copies may come.
 abbrev pub IsRunWithMarks : Board → List BoardStep → Board → Type 0
 IsRunWithMarks b [] b' = MarksOrTrialEnds b b'
 IsRunWithMarks b (s ∷ rest) b' = MarksOrTrialEnds b s.before × EventOutcome s.before s.event s.says s.after

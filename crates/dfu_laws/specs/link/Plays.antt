@@ -16,6 +16,7 @@ use Rattle.dfu_laws.specs.board.Happens.{IsPoweredOn, IsRun}
 use Rattle.dfu_laws.specs.board.Slots.{IsInSlot}
 use Rattle.dfu_laws.specs.link.LinkSteps.{BoardLink, BoardLinkStep}
 use Rattle.dfu_laws.specs.link.Marks.{TrialEnd, IsRunBetweenMarks}
+use Rattle.dfu_laws.specs.link.Copies.{HomeCopy}
 use Rattle.dfu_laws.specs.link.Trials.{TrialMayEnd}
 
 -- Sessions with a board, one after the other, and all that comes to it meanwhile: the steps of the board so far; the payloads offered so
@@ -44,6 +45,10 @@ pub data BoardPlays (b : Board) : List BoardStep → List (List ℕ) → List (L
   ends : {steps : List BoardStep} {past back : List (List ℕ)} {last : Option (List ℕ)} {l : BoardLink} {b' : Board} {begins : Bool}
       (image : List ℕ) → BoardPlays b steps past back last l → TrialMayEnd l.session (state_on l.board) begins → TrialEnd l.board begins b'
       → Active (medium_on b') image → BoardPlays b steps past (image ∷ back) last (record { board = b'; session = l.session })
+  -- In two areas, operations of the copy come after a restart. The host hears nothing.
+  copies : {steps : List BoardStep} {past back : List (List ℕ)} {last : Option (List ℕ)} {l : BoardLink} {b' : Board}
+      → BoardPlays b steps past back last l → HomeCopy l.board b'
+      → BoardPlays b steps past back last (record { board = b'; session = l.session })
 
 -- The payload with which the last session began is the active image of the board's flash, and the board is in appIDLE.
 pub record IsPayloadInPlace (last : Option (List ℕ)) (b : Board) : Type 0 where
