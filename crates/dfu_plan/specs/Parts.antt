@@ -1,7 +1,8 @@
 -- The regions of one part in a table of parts.
-use Rattle.std.specs.Prelude.{◌≡◌, ⊤, ℕ, ◌+◌, ◌*◌, ◌==◌, nat_lt, List, [], ◌∷◌, ◌++◌, length, Option, Some, None, Result, Ok, Err, if◌then◌else◌}
+use Rattle.std.specs.Prelude.{◌≡◌, ⊤, ℕ, ◌+◌, ◌==◌, nat_lt, List, [], ◌∷◌, ◌++◌, length, Option, Some, None, Result, Ok, Err, if◌then◌else◌}
 use Rattle.std.specs.Str.{bytes_eq}
 use Rattle.dfu_places.specs.declared.region.Region.{Region}
+use Rattle.dfu_places.specs.Regions.{region_end}
 use Rattle.dfu_plan.specs.declared.row.RowFault.{RowFault}
 use Rattle.dfu_plan.specs.declared.row.RowFault.TheVariants.{Order}
 use Rattle.dfu_plan.specs.declared.part.PartFault.{PartFault}
@@ -9,15 +10,11 @@ use Rattle.dfu_plan.specs.declared.part.PartFault.TheVariants.{BadLine, UnknownP
 use Rattle.dfu_plan.specs.PartRead.{PartRead, no_regions}
 use Rattle.dfu_plan.specs.RowRead.{RowRead}
 use Rattle.dfu_plan.specs.Rows.{◌>>=◌, row_in}
-use Rattle.dfu_plan.specs.Words.{lines_of}
-
--- Address behind a region.
-abbrev pub region_end : Region → ℕ
-region_end region = region.at + region.sector * region.count
+use Rattle.dfu_plan.specs.Words.{table_lines}
 
 -- A part with a region more, which begins at or behind the end of the one before it. The note is that of the first region.
-abbrev pub with_region : RowRead → PartRead → Result PartRead RowFault
-with_region row part =
+abbrev pub part_with_region : RowRead → PartRead → Result PartRead RowFault
+part_with_region row part =
     if nat_lt row.region.at part.end then Err Order
     else Ok (record {
       regions = part.regions ++ row.region ∷ [];
@@ -26,13 +23,13 @@ with_region row part =
     })
 
 -- A part with the region of a row, if the row names the part.
-unfoldable pub with_row : (name : List ℕ) → Option RowRead → PartRead → Result PartRead RowFault
-with_row name None part = Ok part
-with_row name (Some row) part = if bytes_eq row.name name then with_region row part else Ok part
+unfoldable pub part_with_row : (name : List ℕ) → Option RowRead → PartRead → Result PartRead RowFault
+part_with_row name None part = Ok part
+part_with_row name (Some row) part = if bytes_eq row.name name then part_with_region row part else Ok part
 
 -- A part with the region of a line, if the line names the part.
-abbrev pub with_line : (name line : List ℕ) → PartRead → Result PartRead RowFault
-with_line name line part = row_in line >>= λ row. with_row name row part
+abbrev pub part_with_line : (name line : List ℕ) → PartRead → Result PartRead RowFault
+part_with_line name line part = row_in line >>= λ row. part_with_row name row part
 
 -- What follows a line: its fault by its number, or the lines behind it.
 abbrev pub line_taken : ℕ → Result PartRead RowFault → (PartRead → Result PartRead PartFault) → Result PartRead PartFault
@@ -40,10 +37,10 @@ line_taken number (Err why) more = Err (BadLine number why)
 line_taken number (Ok part) more = more part
 
 -- A part with the regions of lines, the first of which has this number.
-unfoldable pub with_lines : (name : List ℕ) → (number : ℕ) → PartRead → List (List ℕ) → Result PartRead PartFault
-with_lines name number part [] = Ok part
-with_lines name number part (line ∷ lines) =
-    line_taken number (with_line name line part) (λ more. with_lines name (number + 1) more lines)
+unfoldable pub part_with_lines : (name : List ℕ) → (number : ℕ) → PartRead → List (List ℕ) → Result PartRead PartFault
+part_with_lines name number part [] = Ok part
+part_with_lines name number part (line ∷ lines) =
+    line_taken number (part_with_line name line part) (λ more. part_with_lines name (number + 1) more lines)
 
 -- A part is known if a line names it.
 abbrev pub known_part : Result PartRead PartFault → Result PartRead PartFault
@@ -52,7 +49,7 @@ known_part (Ok part) = if length part.regions == 0 then Err UnknownPart else Ok 
 
 -- The regions of a part in a table, or the fault of the first wrong line.
 abbrev pub part_in : (name table : List ℕ) → Result PartRead PartFault
-part_in name table = known_part (with_lines name 1 no_regions (lines_of table))
+part_in name table = known_part (part_with_lines name 1 no_regions (table_lines table))
 
 -- It is what the table states, unless an allocation was refused.
 abbrev pub IsPartResult : Result PartRead PartFault → Result PartRead PartFault → Type 0

@@ -15,6 +15,6 @@ piece_text (Number number) = decimal number
 piece_text (Hex number) = hexadecimal number
 
 -- Texts, one after the other.
-abbrev pub joined : List (List ℕ) → List ℕ
-joined [] = []
-joined (text ∷ texts) = text ++ joined texts
+abbrev pub texts_joined : List (List ℕ) → List ℕ
+texts_joined [] = []
+texts_joined (text ∷ texts) = text ++ texts_joined texts

@@ -7,7 +7,7 @@ use Rattle.dfu_places.specs.declared.region.Span.{Span}
 use Rattle.dfu_plan.specs.declared.text.Form.{Form}
 use Rattle.dfu_plan.specs.declared.text.Form.TheVariants.{Words, Objects, Arguments}
 use Rattle.dfu_plan.specs.declared.text.Plan.{Plan}
-use Rattle.dfu_plan.specs.Pieces.{hexadecimal, joined}
+use Rattle.dfu_plan.specs.Pieces.{hexadecimal, texts_joined}
 
 -- Number of areas: two, or three with a run area.
 abbrev pub areas_of : Option Span → ℕ
@@ -16,35 +16,35 @@ areas_of (Some span) = 3
 
 -- The line of the part, the bootloader and the largest image; in C what stands before the places.
 unfoldable pub head_text : Form → (areas : ℕ) → Plan → List ℕ
-head_text Words areas p = joined (codes "part " ∷ p.part.now ∷ codes " boot " ∷ decimal p.boot.len ∷ codes " areas " ∷ decimal areas
+head_text Words areas p = texts_joined (codes "part " ∷ p.part.now ∷ codes " boot " ∷ decimal p.boot.len ∷ codes " areas " ∷ decimal areas
     ∷ codes " image " ∷ decimal p.placement.first.data.len ∷ codes " sector " ∷ decimal p.placement.sector ∷ codes "\n" ∷ [])
-head_text Objects areas p = joined (codes "{\"part\":\"" ∷ p.part.now ∷ codes "\",\"boot\":" ∷ decimal p.boot.len ∷ codes ",\"areas\":"
-    ∷ decimal areas ∷ codes ",\"image\":" ∷ decimal p.placement.first.data.len ∷ codes ",\"sector\":" ∷ decimal p.placement.sector
+head_text Objects areas p = texts_joined (codes "{\"part\":\"" ∷ p.part.now ∷ codes "\",\"boot\":" ∷ decimal p.boot.len
+    ∷ codes ",\"areas\":" ∷ decimal areas ∷ codes ",\"image\":" ∷ decimal p.placement.first.data.len ∷ codes ",\"sector\":" ∷ decimal p.placement.sector
     ∷ codes "}\n" ∷ [])
-head_text Arguments areas p = joined (codes "\n/* dfu plan --part " ∷ p.part.now ∷ codes " --boot " ∷ decimal p.boot.len
+head_text Arguments areas p = texts_joined (codes "\n/* dfu plan --part " ∷ p.part.now ∷ codes " --boot " ∷ decimal p.boot.len
     ∷ codes " --areas " ∷ decimal areas ∷ codes " */\nDFU_PLACEMENT(places, " ∷ decimal p.placement.sector ∷ codes ", "
     ∷ decimal p.placement.first.data.len ∷ codes ", 256, /* virtual sector, data of a slot, any unit */\n    0x"
     ∷ hexadecimal p.boot.at ∷ codes ", " ∷ decimal p.boot.len ∷ codes ", /* bootloader */\n" ∷ [])
 
 -- The note of where the sectors are from, if there is one.
 unfoldable pub note_line : List ℕ → List ℕ
-note_line note = if length note == 0 then [] else joined (codes "sectors " ∷ note ∷ codes "\n" ∷ [])
+note_line note = if length note == 0 then [] else texts_joined (codes "sectors " ∷ note ∷ codes "\n" ∷ [])
 
 -- The line of a place: its name, where it lies on the part, and where in the virtual flash.
 unfoldable pub place_line : Form → (name : List ℕ) → Span → (place : ℕ) → List ℕ
-place_line Words name span place = joined (name ∷ codes " at " ∷ hexadecimal span.at ∷ codes " bytes " ∷ decimal span.len
+place_line Words name span place = texts_joined (name ∷ codes " at " ∷ hexadecimal span.at ∷ codes " bytes " ∷ decimal span.len
     ∷ codes " virtual " ∷ hexadecimal place ∷ codes "\n" ∷ [])
-place_line Objects name span place = joined (codes "{\"place\":\"" ∷ name ∷ codes "\",\"at\":\"" ∷ hexadecimal span.at
+place_line Objects name span place = texts_joined (codes "{\"place\":\"" ∷ name ∷ codes "\",\"at\":\"" ∷ hexadecimal span.at
     ∷ codes "\",\"bytes\":" ∷ decimal span.len ∷ codes ",\"virtual\":\"" ∷ hexadecimal place ∷ codes "\"}\n" ∷ [])
 place_line Arguments name span place =
-    joined (codes "    0x" ∷ hexadecimal span.at ∷ codes ", " ∷ decimal span.len ∷ codes ", /* " ∷ name ∷ codes " */\n" ∷ [])
+    texts_joined (codes "    0x" ∷ hexadecimal span.at ∷ codes ", " ∷ decimal span.len ∷ codes ", /* " ∷ name ∷ codes " */\n" ∷ [])
 
 -- The line of the data of a slot. In C their bytes stand before all places, and `end` stands behind their address.
 abbrev pub data_line : Form → (name end : List ℕ) → Span → (place : ℕ) → List ℕ
 data_line Words name end span place = place_line Words name span place
 data_line Objects name end span place = place_line Objects name span place
 data_line Arguments name end span place =
-    joined (codes "    0x" ∷ hexadecimal span.at ∷ end ∷ codes " /* " ∷ name ∷ codes " */\n" ∷ [])
+    texts_joined (codes "    0x" ∷ hexadecimal span.at ∷ end ∷ codes " /* " ∷ name ∷ codes " */\n" ∷ [])
 
 -- The lines of the first slot.
 abbrev pub first_lines : Form → SlotPlaces → (sector : ℕ) → List ℕ
@@ -65,10 +65,10 @@ places_text form p =
 
 -- The line of a run area.
 unfoldable pub run_line : Form → Span → List ℕ
-run_line Words span = joined (codes "run area at " ∷ hexadecimal span.at ∷ codes " bytes " ∷ decimal span.len ∷ codes "\n" ∷ [])
-run_line Objects span = joined (codes "{\"place\":\"run area\",\"at\":\"" ∷ hexadecimal span.at ∷ codes "\",\"bytes\":" ∷ decimal span.len
-    ∷ codes "}\n" ∷ [])
-run_line Arguments span = joined (codes "#define RUN_AREA 0x" ∷ hexadecimal span.at ∷ codes "u\n" ∷ [])
+run_line Words span = texts_joined (codes "run area at " ∷ hexadecimal span.at ∷ codes " bytes " ∷ decimal span.len ∷ codes "\n" ∷ [])
+run_line Objects span = texts_joined (codes "{\"place\":\"run area\",\"at\":\"" ∷ hexadecimal span.at ∷ codes "\",\"bytes\":"
+    ∷ decimal span.len ∷ codes "}\n" ∷ [])
+run_line Arguments span = texts_joined (codes "#define RUN_AREA 0x" ∷ hexadecimal span.at ∷ codes "u\n" ∷ [])
 
 -- The line of the run area, if there is one.
 abbrev pub run_text : Form → Option Span → List ℕ

@@ -25,8 +25,8 @@ abbrev pub is_printable : ℕ → Bool
 is_printable byte = (nat_le 32 byte && nat_le byte 126) || (byte == 9)
 
 -- All bytes of a line are printable ASCII or tabs.
-abbrev pub is_text : List ℕ → Bool
-is_text line = list_all is_printable line
+abbrev pub is_printable_line : List ℕ → Bool
+is_printable_line line = list_all is_printable line
 
 -- A byte may stand in the name of a part: a letter, a digit, or one of `-`, `_`, `.` and `+`.
 abbrev pub is_name_byte : ℕ → Bool
@@ -38,8 +38,8 @@ abbrev pub is_name : List ℕ → Bool
 is_name word = list_all is_name_byte word
 
 -- A line states nothing if it is empty or begins with `#`.
-abbrev pub is_comment : List ℕ → Bool
-is_comment text = (length text == 0) || (slice_index text 0 == 35)
+abbrev pub is_comment_line : List ℕ → Bool
+is_comment_line text = (length text == 0) || (slice_index text 0 == 35)
 
 -- The note behind the number of sectors; it is empty if nothing stands there.
 unfoldable pub note_at : List ℕ → Option (List ℕ)
@@ -81,6 +81,6 @@ row_at line =
 -- The row that a line states; none if the line is empty or begins with `#`.
 unfoldable pub row_in : List ℕ → Result (Option RowRead) RowFault
 row_in line =
-    if is_comment (behind_blanks line) then Ok None
-    else if not (is_text line) then Err Unprintable
+    if is_comment_line (behind_blanks line) then Ok None
+    else if not (is_printable_line line) then Err Unprintable
     else row_at line >>= λ row. Ok (Some row)

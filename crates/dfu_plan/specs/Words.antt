@@ -3,12 +3,12 @@ use Rattle.std.specs.Prelude.{ℕ, ◌+◌, ◌==◌, ◌||◌, Bool, not, List,
 use Rattle.std.specs.List.{position, position_or_len}
 
 -- A byte is a space or a tab.
-abbrev pub is_blank : ℕ → Bool
-is_blank byte = (byte == 32) || (byte == 9)
+abbrev pub is_space_or_tab : ℕ → Bool
+is_space_or_tab byte = (byte == 32) || (byte == 9)
 
 -- A byte belongs to a word if it is no blank.
 abbrev pub is_in_word : ℕ → Bool
-is_in_word byte = not (is_blank byte)
+is_in_word byte = not (is_space_or_tab byte)
 
 -- A byte is a line feed.
 abbrev pub is_feed : ℕ → Bool
@@ -25,7 +25,7 @@ behind_blanks text = (cut_at (position is_in_word text) text).1
 
 -- The first word, which is empty if there is none, and the text behind it.
 abbrev pub next_word : List ℕ → List ℕ × List ℕ
-next_word text = cut_at (position is_blank (behind_blanks text)) (behind_blanks text)
+next_word text = cut_at (position is_space_or_tab (behind_blanks text)) (behind_blanks text)
 
 -- The first line of a text, without its line feed.
 abbrev pub first_line : List ℕ → List ℕ
@@ -41,6 +41,6 @@ with_byte byte [] = (byte ∷ []) ∷ []
 with_byte byte (line ∷ lines) = (byte ∷ line) ∷ lines
 
 -- The lines of a text: a line feed ends each, but the last one may lack it.
-unfoldable pub lines_of : List ℕ → List (List ℕ)
-lines_of [] = []
-lines_of (byte ∷ bytes) = if byte == 10 then [] ∷ lines_of bytes else with_byte byte (lines_of bytes)
+unfoldable pub table_lines : List ℕ → List (List ℕ)
+table_lines [] = []
+table_lines (byte ∷ bytes) = if byte == 10 then [] ∷ table_lines bytes else with_byte byte (table_lines bytes)

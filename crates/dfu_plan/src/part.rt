@@ -1,7 +1,8 @@
 //! The regions of one part in a table of parts.
 
 ghost use Rattle.std.specs.Prelude.{◌≡◌, IfOk, Ok};
-ghost use Rattle.dfu_plan.specs.Parts.{IsPartResult, known_part, part_in, region_end, with_line, with_row};
+ghost use Rattle.dfu_places.specs.Regions.{region_end};
+ghost use Rattle.dfu_plan.specs.Parts.{IsPartResult, known_part, part_in, part_with_line, part_with_row};
 
 use crate::row::{Row, RowFault, row_in};
 use crate::words::next_line;
@@ -56,13 +57,13 @@ fn region_end(region: Region) -> u64
 }
 
 /// The part with the region of a row, if the row names the part.
-#[tactic(auto, using(std::proofs::lemmas::Bool::Decides::nat_tests), unfolding(crate::specs::Parts::with_row))]
-fn with_row(
+#[tactic(auto, using(std::proofs::lemmas::Bool::Decides::nat_tests), unfolding(crate::specs::Parts::part_with_row))]
+fn part_with_row(
     part: Part,
     name: &[u8],
     row: Option<Row<'_>>,
 ) -> Result<Result<Part, RowFault>, AllocError>
-    ensures { IfOk result (λ r. r ≡ with_row name.now row.entry part) }
+    ensures { IfOk result (λ r. r ≡ part_with_row name.now row.entry part) }
 {
     let Some(row) = row else {
         return Ok(Ok(part));
@@ -90,11 +91,15 @@ fn with_row(
 }
 
 /// The part with the region of a line, if the line names the part.
-fn with_line(part: Part, name: &[u8], line: &[u8]) -> Result<Result<Part, RowFault>, AllocError>
-    ensures { IfOk result (λ r. r ≡ with_line name.now line.now part) }
+fn part_with_line(
+    part: Part,
+    name: &[u8],
+    line: &[u8],
+) -> Result<Result<Part, RowFault>, AllocError>
+    ensures { IfOk result (λ r. r ≡ part_with_line name.now line.now part) }
 {
     match row_in(line) {
-        Ok(row) => with_row(part, name, row),
+        Ok(row) => part_with_row(part, name, row),
         Err(why) => Ok(Err(why)),
     }
 }
@@ -128,7 +133,7 @@ pub fn part_in(alloc: Global, table: &[u8], name: &[u8]) -> Result<Part, PartFau
     'lines: while rest.len() > 0 {
         let (line, behind) = next_line(rest);
         number += 1;
-        part = match with_line(part, name, line) {
+        part = match part_with_line(part, name, line) {
             Ok(Ok(part)) => part,
             Ok(Err(why)) => return Err(PartFault::BadLine { number, why }),
             Err(_) => return Err(PartFault::NoMemory),

@@ -1,10 +1,10 @@
 //! A line of a table of parts: the name of a part, and one of its regions.
 
 ghost use Rattle.std.specs.Prelude.{◌≡◌, None, Some, MatchOption};
-ghost use Rattle.dfu_plan.specs.Rows.{is_comment, is_name, is_name_byte, is_printable, is_text, note_at, positive, region_of, row_at, row_in};
+ghost use Rattle.dfu_plan.specs.Rows.{is_comment_line, is_name, is_name_byte, is_printable, is_printable_line, note_at, positive, region_of, row_at, row_in};
 
 use crate::sizes::size_in;
-use crate::words::{behind_blanks, is_blank, next_word};
+use crate::words::{behind_blanks, is_space_or_tab, next_word};
 use dfu_places::Region;
 use std::fmt;
 use std::marker::Model;
@@ -94,8 +94,8 @@ fn is_printable(byte: u8) -> bool
 }
 
 /// Returns whether all bytes of a line are printable ASCII or tabs.
-fn is_text(line: &[u8]) -> bool
-    ensures { result ≡ is_text line.now }
+fn is_printable_line(line: &[u8]) -> bool
+    ensures { result ≡ is_printable_line line.now }
 {
     line.iter().all(|byte| is_printable(*byte))
 }
@@ -115,8 +115,8 @@ fn is_name(word: &[u8]) -> bool
 }
 
 /// Returns whether a line without the blanks at its front states nothing: it is empty, or begins with `#`.
-fn is_comment(text: &[u8]) -> bool
-    ensures { result ≡ is_comment text.now }
+fn is_comment_line(text: &[u8]) -> bool
+    ensures { result ≡ is_comment_line text.now }
 {
     text.is_empty() || text[0] == b'#'
 }
@@ -195,10 +195,10 @@ fn row_at(line: &[u8]) -> Result<Row<'_>, RowFault>
 pub fn row_in(line: &[u8]) -> Result<Option<Row<'_>>, RowFault>
     ensures { result ≡ row_in line.now }
 {
-    if is_comment(behind_blanks(line)) {
+    if is_comment_line(behind_blanks(line)) {
         return Ok(None);
     }
-    if !is_text(line) {
+    if !is_printable_line(line) {
         return Err(RowFault::Unprintable);
     }
     match row_at(line) {

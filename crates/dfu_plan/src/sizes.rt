@@ -1,11 +1,11 @@
 //! Sizes and addresses in words: decimal digits, decimal digits and `K`, or `0x` and hexadecimal digits.
 
 ghost use Rattle.std.specs.Prelude.{◌≡◌, ◌≤◌, ◌<◌, ◌^◌, IfSome};
-ghost use Rattle.dfu_plan.specs.Sizes.{digit_value, number_in, number_next, size_in, thousands};
+ghost use Rattle.dfu_plan.specs.Sizes.{size_digit, size_number, size_number_next, size_in, thousands};
 
 /// The value of a digit, or 16.
-fn digit_value(byte: u8) -> u64
-    ensures value { result ≡ digit_value byte }
+fn size_digit(byte: u8) -> u64
+    ensures value { result ≡ size_digit byte }
     ensures small { result ≤ 16 }
 {
     match byte {
@@ -17,15 +17,15 @@ fn digit_value(byte: u8) -> u64
 }
 
 /// The number with one digit more; none if the byte is no digit in this base, or the number is over 4,294,967,295.
-#[tactic(auto, using(std::proofs::lemmas::Bool::Decides::nat_tests), unfolding(crate::specs::Sizes::number_next))]
-fn number_next(base: u64, number: Option<u32>, byte: u8) -> Option<u32>
+#[tactic(auto, using(std::proofs::lemmas::Bool::Decides::nat_tests), unfolding(crate::specs::Sizes::size_number_next))]
+fn size_number_next(base: u64, number: Option<u32>, byte: u8) -> Option<u32>
     requires base { base ≤ 16 }
-    ensures { result ≡ number_next base number byte }
+    ensures { result ≡ size_number_next base number byte }
 {
     let Some(number) = number else {
         return None;
     };
-    let digit = digit_value(byte);
+    let digit = size_digit(byte);
     let next = number as u64 * base + digit;
     if digit < base && next <= u32::MAX as u64 {
         return Some(next as u32);
@@ -34,17 +34,17 @@ fn number_next(base: u64, number: Option<u32>, byte: u8) -> Option<u32>
 }
 
 /// The number that all bytes say in this base: one digit at least.
-#[tactic(auto, using(std::proofs::lemmas::Bool::Decides::nat_tests), unfolding(crate::specs::Sizes::number_in))]
-fn number_in(base: u64, digits: &[u8]) -> Option<u32>
+#[tactic(auto, using(std::proofs::lemmas::Bool::Decides::nat_tests), unfolding(crate::specs::Sizes::size_number))]
+fn size_number(base: u64, digits: &[u8]) -> Option<u32>
     requires base { base ≤ 16 }
-    ensures { result ≡ number_in base digits.now }
+    ensures { result ≡ size_number base digits.now }
 {
     if digits.is_empty() {
         return None;
     }
     let mut number = Some(0);
     for byte in digits {
-        number = number_next(base, number, *byte);
+        number = size_number_next(base, number, *byte);
     }
     number
 }
@@ -68,11 +68,11 @@ pub fn size_in(word: &[u8]) -> Option<u32>
     let length = word.len();
     if length >= 2 && word[0] == b'0' && (word[1] == b'x' || word[1] == b'X') {
         let (_, digits) = word.split_at(2);
-        return number_in(16, digits);
+        return size_number(16, digits);
     }
     if length >= 1 && (word[length - 1] == b'k' || word[length - 1] == b'K') {
         let (digits, _) = word.split_at(length - 1);
-        return thousands(number_in(10, digits));
+        return thousands(size_number(10, digits));
     }
-    number_in(10, word)
+    size_number(10, word)
 }

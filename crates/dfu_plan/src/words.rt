@@ -3,21 +3,21 @@
 ghost use Rattle.std.specs.Prelude.{◌≡◌, ◌<◌, ◌≤◌, length, IfSome};
 ghost use Rattle.std.specs.Option.{ForSome};
 ghost use Rattle.std.specs.List.{position};
-ghost use Rattle.dfu_plan.specs.Words.{behind_blanks, cut_at, first_line, is_blank, is_feed, is_in_word, lines_behind, next_word};
+ghost use Rattle.dfu_plan.specs.Words.{behind_blanks, cut_at, first_line, is_space_or_tab, is_feed, is_in_word, lines_behind, next_word};
 
 /// Returns whether a byte is a space or a tab.
-pub(crate) fn is_blank(byte: u8) -> bool
-    ensures { result ≡ is_blank byte }
+pub(crate) fn is_space_or_tab(byte: u8) -> bool
+    ensures { result ≡ is_space_or_tab byte }
 {
     byte == b' ' || byte == b'\t'
 }
 
 /// Returns the place of the first blank.
 fn blank_in(text: &[u8]) -> Option<usize>
-    ensures value { result ≡ position is_blank text.now }
+    ensures value { result ≡ position is_space_or_tab text.now }
     ensures within { IfSome result (λ at. at < length text.now) }
 {
-    text.iter().position(|byte| is_blank(*byte))
+    text.iter().position(|byte| is_space_or_tab(*byte))
 }
 
 /// Returns the place of the first byte that is no blank.
@@ -25,7 +25,7 @@ fn word_byte_in(text: &[u8]) -> Option<usize>
     ensures value { result ≡ position is_in_word text.now }
     ensures within { IfSome result (λ at. at < length text.now) }
 {
-    text.iter().position(|byte| !is_blank(*byte))
+    text.iter().position(|byte| !is_space_or_tab(*byte))
 }
 
 /// Returns the place of the first line feed.
