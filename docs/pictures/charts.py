@@ -3,7 +3,6 @@
 All of it is what `dfu run --trace` prints; which image is active then is what `show` prints.
 """
 import os
-import re
 import subprocess
 
 from drawing import PROGRAM, ROOT, Picture
