@@ -3,7 +3,6 @@
 All of it is what `dfu run --trace` prints; which image is active then is what `show` prints.
 """
 import os
-import re
 import subprocess
 
 from drawing import PROGRAM, ROOT, Picture
@@ -87,17 +86,6 @@ def seen(name):
     return actions, [line.removeprefix("report ") for line in printed if line.startswith("report ")]
 
 
-def compare(actions):
-    """Stops where the clean run isn't what docs/PROFILE.md has."""
-    with open(os.path.join(ROOT, "docs", "PROFILE.md"), encoding="utf-8") as file:
-        text = file.read().split("### A clean run")[1].split("```")[1]
-    rows = re.findall(r"^ *(\d+) +(\S.*?)  +(\S.*?)(?: +-> (\S.*?))?  +(\S+)", text, re.MULTILINE)
-    for (number, phase, sent, answer, state), action in zip(rows, actions, strict=True):
-        told = action.told() if action.is_request() else ""
-        if (number, answer, state.rstrip(",")) != (action.number, told, action.state) or sent.split()[0] != action.asked().split()[0]:
-            raise SystemExit(f"docs/PROFILE.md and the trace differ in action {number}: {sent} and {action.asked()}")
-
-
 def transfer(picture, y, request, answer, fate):
     picture.words(WIRE_FROM + 8, y - 12, request)
     picture.line(WIRE_FROM, y - 7, WIRE_TO, y - 7, "arrow")
@@ -149,8 +137,6 @@ def draw(picture, number, action, is_new):
 def chart(name):
     title, notes = CHARTS[name]
     actions, reports = seen(name)
-    if name == "clean-run":
-        compare(actions)
     bottom = TOP + ROW * len(actions)
     picture = Picture(WIDTH, bottom + 47 + 22 * len(notes), f"{title}: {len(actions)} actions of the host")
     heads(picture, title, bottom)

@@ -14,7 +14,7 @@ fn traced(row: &str, wanted: &str) -> Outcome {
     Ok(())
 }
 
-/// A clean download: docs/PROFILE.md has its actions. The medium has two slots of 16 + 16 + 64 bytes. The second one
+/// A clean download: docs/PROFILE.md has its picture. The medium has two slots of 16 + 16 + 64 bytes. The second one
 /// is the spare slot: its gate is at 96, its header at 112, and its data begin at 128.
 const CLEAN: &str = "\
 # 1 Find; GETSTATUS 0 6; pass; OK 0 appIDLE; appIDLE; appIDLE; -; 0 ms
