@@ -108,6 +108,19 @@ where
     }
 }
 
+/// Writes the payload of `file` into a new file `to`, which can't be standard output.
+fn perform_extract<R: Files + Input + Print + AllocGlobal>(
+    rt: &R,
+    file: &str,
+    to: &str,
+    explain: bool,
+) -> Outcome {
+    if to == "-" {
+        return refused_word(rt, WordFault::Out, to);
+    }
+    extract_file(rt, file, to, explain)
+}
+
 /// Returns the word of an option, if it was given.
 fn given(word: &Option<String>) -> Option<&str> {
     match word {
@@ -137,12 +150,7 @@ where
             format,
             fill,
         } => perform_add(rt, file, to, &IdTexts::new(vid, pid, did), format, fill),
-        Subcommand::Extract { to, .. } if to.as_str() == "-" => refused_word(
-            rt,
-            WordFault::Out,
-            to,
-        ),
-        Subcommand::Extract { file, to } => extract_file(rt, file, to, explain),
+        Subcommand::Extract { file, to } => perform_extract(rt, file, to, explain),
         Subcommand::Change {
             file,
             vid,
@@ -168,16 +176,7 @@ where
             areas,
             parts,
             json,
-        } => perform_plan(
-            rt,
-            PlanWords {
-                part,
-                boot,
-                areas,
-                parts: given(parts),
-                json: *json,
-            },
-        ),
+        } => perform_plan(rt, PlanWords::new(part, boot, areas, given(parts), *json)),
     }
 }
 

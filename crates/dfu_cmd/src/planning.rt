@@ -1,5 +1,7 @@
 //! `dfu plan`: the placement of gates, headers and data on a part.
 
+ghost use Rattle.std.specs.Prelude.{◌≡◌, option_map};
+
 use crate::line_ends::LineEnds;
 use crate::nearest::{Known, known_in};
 use crate::numbering::areas_in;
@@ -31,6 +33,31 @@ pub(crate) struct PlanWords<'w> {
     pub parts: Option<&'w str>,
     /// Tells whether each line is to be an object.
     pub json: bool,
+}
+
+impl<'w> PlanWords<'w> {
+    /// Returns the words of a command line.
+    pub(crate) fn new(
+        part: &'w str,
+        boot: &'w str,
+        areas: &'w str,
+        parts: Option<&'w str>,
+        json: bool,
+    ) -> PlanWords<'w>
+        ensures part { result.part.now ≡ part.now }
+        ensures boot { result.boot.now ≡ boot.now }
+        ensures areas { result.areas.now ≡ areas.now }
+        ensures parts { option_map (λ p. p.now) result.parts ≡ option_map (λ p. p.now) parts.entry }
+        ensures json { result.json ≡ json }
+    {
+        PlanWords {
+            part,
+            boot,
+            areas,
+            parts,
+            json,
+        }
+    }
 }
 
 /// The output for the line of a refusal or a fault.
