@@ -22,6 +22,7 @@ mod nearest;
 mod numbering;
 mod passes;
 mod performing;
+mod plan_words;
 mod planning;
 mod prefixing;
 mod running;

@@ -3,56 +3,21 @@
 use crate::captures::{device_in, interface_in};
 use crate::changing::{perform_add, perform_set};
 use crate::foreign::foreign_reason;
-use crate::hexing::bare;
 use crate::identifiers::IdTexts;
 use crate::judging::{JudgeOptions, judge_files};
-use crate::planning::{PlanWords, perform_plan};
+use crate::plan_words::PlanWords;
+use crate::planning::perform_plan;
 use crate::scripts::{Ways, run_script};
-use crate::shown::{Remembering, show_reason};
+use crate::shown::perform_show;
 use crate::tips::advised;
 use crate::watching::read_file;
-use crate::words::{WordFault, refused_word, word_reason};
+use crate::words::{WordFault, refused_word};
 use dfu_args::{ArgsFault, ParsedArgs, Subcommand, parse_args};
-use dfu_fs::{JsonLines, Owned, check_files, extract_file};
-use dfu_output::{Exit, Outcome, fault_text, show_text};
+use dfu_fs::{Owned, check_files, extract_file};
+use dfu_output::{Exit, Outcome, fault_text};
 use dfu_suffix::SuffixFault;
 use std::io::{self, IsTerminal};
 use std::rt::Files;
-
-/// Returns true if bytes of `kind` can be shown.
-fn is_kind(kind: &str) -> bool {
-    matches!(
-        kind,
-        "functional" | "status" | "state" | "setup" | "configuration"
-    )
-}
-
-fn perform_show<R: Print + AllocGlobal>(
-    rt: &R,
-    kind: &str,
-    words: &[String],
-    json: bool,
-) -> Outcome {
-    let alloc = rt.alloc();
-    // Words that aren't understood have no object.
-    let lines = JsonLines::new(alloc, json && is_kind(kind), None, io::writer(rt));
-    let mut out = Remembering::new(lines);
-    let Ok(digits) = bare(alloc, words) else {
-        return Outcome {
-            exit: fault_text(SuffixFault::NoMemory, &mut out),
-            reason: None,
-        };
-    };
-    // A text from which ASCII characters are taken stays a text.
-    let hex = std::str::from_utf8(&digits).unwrap_or("?");
-    let exit = show_text(alloc, kind, hex, &mut out);
-    let reason = match exit {
-        Exit::BadWords => word_reason(alloc, WordFault::Kind, kind),
-        Exit::Refused => show_reason(alloc, kind, out.front()),
-        _ => None,
-    };
-    Outcome { exit, reason }
-}
 
 /// Judges a log or a capture in each of the files `names`, if the words can be used.
 fn perform_judge<R: Files + Input + Print + AllocGlobal>(

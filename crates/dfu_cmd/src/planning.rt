@@ -1,10 +1,9 @@
 //! `dfu plan`: the placement of gates, headers and data on a part.
 
-ghost use Rattle.std.specs.Prelude.{◌≡◌, option_map};
-
 use crate::line_ends::LineEnds;
 use crate::nearest::{Known, known_in};
 use crate::numbering::areas_in;
+use crate::plan_words::PlanWords;
 use crate::watching::Watched;
 use crate::words::{WordFault, refused_word};
 use dfu_fs::{JsonLines, error_reason, file_reason, gather_fault, open};
@@ -19,46 +18,6 @@ use std::rt::Files;
 
 /// The most bytes of a table of parts.
 const MAX_TABLE: usize = 1_048_576;
-
-/// Words of `dfu plan`.
-#[derive(Clone, Copy)]
-pub(crate) struct PlanWords<'w> {
-    /// Name of the part.
-    pub part: &'w str,
-    /// Size of the bootloader.
-    pub boot: &'w str,
-    /// Number of areas.
-    pub areas: &'w str,
-    /// File of parts; the built-in table without it.
-    pub parts: Option<&'w str>,
-    /// Tells whether each line is to be an object.
-    pub json: bool,
-}
-
-impl<'w> PlanWords<'w> {
-    /// Returns the words of a command line.
-    pub(crate) fn new(
-        part: &'w str,
-        boot: &'w str,
-        areas: &'w str,
-        parts: Option<&'w str>,
-        json: bool,
-    ) -> PlanWords<'w>
-        ensures part { result.part.now ≡ part.now }
-        ensures boot { result.boot.now ≡ boot.now }
-        ensures areas { result.areas.now ≡ areas.now }
-        ensures parts { option_map (λ p. p.now) result.parts ≡ option_map (λ p. p.now) parts.entry }
-        ensures json { result.json ≡ json }
-    {
-        PlanWords {
-            part,
-            boot,
-            areas,
-            parts,
-            json,
-        }
-    }
-}
 
 /// The output for the line of a refusal or a fault.
 fn output<'o, R: Print + AllocGlobal>(

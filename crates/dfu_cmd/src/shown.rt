@@ -1,8 +1,12 @@
-//! Reasons for which `dfu show` refuses bytes, by the line that it printed.
+//! `dfu show`, and the reasons for which it refuses bytes, by the line that it printed.
 
 ghost use Rattle.std.specs.Prelude.{◌≤◌, length, IfOk};
 
-use dfu_output::reason_line;
+use crate::hexing::bare;
+use crate::words::{WordFault, word_reason};
+use dfu_fs::JsonLines;
+use dfu_output::{Exit, Outcome, fault_text, reason_line, show_text};
+use dfu_suffix::SuffixFault;
 use std::alloc::Global;
 use std::io::{self, Write};
 
@@ -11,7 +15,7 @@ const REMEMBERED_BYTES: usize = 32;
 
 /// An output, and the first bytes that were written to it.
 #[derive(Drop)]
-pub(crate) struct Remembering<W> {
+struct Remembering<W> {
     out: W,
     kept: [u8; REMEMBERED_BYTES],
     count: usize,
@@ -19,7 +23,7 @@ pub(crate) struct Remembering<W> {
 
 impl<W> Remembering<W> {
     /// Returns an output before the first byte is written to `out`.
-    pub(crate) fn new(out: W) -> Remembering<W> {
+    fn new(out: W) -> Remembering<W> {
         Remembering {
             out,
             kept: [0; REMEMBERED_BYTES],
@@ -28,7 +32,7 @@ impl<W> Remembering<W> {
     }
 
     /// Returns the first bytes that were written, at most 32.
-    pub(crate) fn front(&self) -> &[u8] {
+    fn front(&self) -> &[u8] {
         self.kept.get(..self.count).unwrap_or(&[])
     }
 
@@ -85,11 +89,47 @@ fn why(line: &str) -> Option<&'static str> {
 
 /// Returns the line that says why bytes of `kind` are refused, if `line` is a refusal of `dfu show`. None if `line` is no such line, or if
 /// there is no memory.
-pub(crate) fn show_reason(alloc: Global, kind: &str, line: &[u8]) -> Option<String> {
+fn show_reason(alloc: Global, kind: &str, line: &[u8]) -> Option<String> {
     // Each line of a refusal is ASCII.
     let why = why(std::str::from_utf8(line).unwrap_or(""))?;
     match reason_line(alloc, "", kind, why) {
         Ok(line) => Some(line),
         Err(_) => None,
     }
+}
+
+/// Returns true if bytes of `kind` can be shown.
+fn is_kind(kind: &str) -> bool {
+    matches!(
+        kind,
+        "functional" | "status" | "state" | "setup" | "configuration"
+    )
+}
+
+/// Shows the bytes of `words` as `kind`, with the reason if they are refused.
+pub(crate) fn perform_show<R: Print + AllocGlobal>(
+    rt: &R,
+    kind: &str,
+    words: &[String],
+    json: bool,
+) -> Outcome {
+    let alloc = rt.alloc();
+    // Words that aren't understood have no object.
+    let lines = JsonLines::new(alloc, json && is_kind(kind), None, io::writer(rt));
+    let mut out = Remembering::new(lines);
+    let Ok(digits) = bare(alloc, words) else {
+        return Outcome {
+            exit: fault_text(SuffixFault::NoMemory, &mut out),
+            reason: None,
+        };
+    };
+    // A text from which ASCII characters are taken stays a text.
+    let hex = std::str::from_utf8(&digits).unwrap_or("?");
+    let exit = show_text(alloc, kind, hex, &mut out);
+    let reason = match exit {
+        Exit::BadWords => word_reason(alloc, WordFault::Kind, kind),
+        Exit::Refused => show_reason(alloc, kind, out.front()),
+        _ => None,
+    };
+    Outcome { exit, reason }
 }
