@@ -79,7 +79,10 @@ fn perform_extract<R: Files + Input + Print + AllocGlobal>(
     file: &str,
     to: &str,
     explain: bool,
-) -> Outcome {
+) -> Outcome
+where
+    R::File: Owned,
+{
     if to == "-" {
         return refused_word(rt, WordFault::Out, to);
     }
