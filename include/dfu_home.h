@@ -11,7 +11,8 @@
  *     struct dfu_place place;
  *
  *     the bootloader, at power-on:      if (dfu_home_settle(&dfu, &place) == 0)
- *                                           start what is at flash + place.at, which is flash + DFU_HOME_AT(unit, sector)
+ *                                           start what is at flash + place.at, which is flash + DFU_HOME_AT(unit, sector);
+ *                                           over dfu_places.h what is at the address of the first data
  *                                       else
  *                                           stay in the bootloader: the host may install another image
  *     a program in the first slot,      n = dfu_home_transfer(&dfu, setup);   // asks before each download

@@ -17,15 +17,20 @@
  *     static const struct dfu_places map = {&places, &part};
  *     static const struct dfu_driver driver = DFU_PLACES_DRIVER(&map);                      // for struct dfu_device
  *     static const struct dfu_config config = {.sector = 131072, ..};                       // the virtual sector
- *     struct dfu_device dfu = {.size = DFU_PLACES_SIZE(131072, 393216), .driver = &driver, ..};
+ *     struct dfu_device dfu = {.flash = (const uint8_t *)0x90000000, .size = DFU_PLACES_SIZE(131072, 393216), .driver = &driver, ..};
  *
  *     void read_part(const unsigned char *from, unsigned char *to, size_t count) {           // with -DDFU_READ=read_part
  *         dfu_places_read(&places, (uint32_t)(from - dfu.flash), to, count, part_read);
  *     }
  *
  * part_erase gets the address and the bytes of whole sectors of the part, of one size, and erases each of them. part_program gets bytes of
- * one thing. Images are linked for the first data, 0x08040000 here.
+ * one thing. part_read copies bytes from an address of the part.
  *
+ * - DFU_READ is needed on a part that is mapped too, because the virtual flash stands nowhere as a whole: dfu.flash is any address but 0
+ *   (dfu_device.h, RULES). Nobody may read dfu.flash[place.at]: an image begins at places.things[DFU_FIRST_DATA].at, or DFU_SECOND_DATA's.
+ * - In two areas images are linked for the first data, 0x08040000 here, and start there. A program's driver that protects the first slot
+ *   returns 1 if the virtual `at` is less than DFU_PLACES_SIZE(..) / 2, before it calls dfu_places_erase or dfu_places_program.
+ * - `dfu plan` prints the table with a unit of 256, for which gates and headers then have room; config.unit stays that of the part.
  * - The table is checked as it is compiled: things overlap neither each other nor the bootloader, data are whole virtual sectors, and gates
  *   and headers have room for a unit. Not checked is where the sectors of the part lie: each thing, and each virtual sector of data, must
  *   begin and end where a sector does. The crate dfu_places checks that too, and `dfu plan` makes such a table.

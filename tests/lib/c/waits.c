@@ -1,4 +1,4 @@
-/* Time that a host waits for a download, by the choice of busy_ms, and by each block's own time: the rows of the table of docs/PORTING.md,
+/* Time that a host waits for a download, by the choice of busy_ms, and by each block's own time: the numbers of docs/PORTING.md,
  * "How long a host waits". The device is the library's; the part's times are modelled, and the bus takes none. After each answer that says
  * dfuDNBUSY the host waits bwPollTimeout, and its next request gets NAK until the block is written. By each block's own time the host must
  * wait at most one and a half times as long as the part is busy; else the status is 1. */

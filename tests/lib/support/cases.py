@@ -1,4 +1,6 @@
 """Runs of `dfu` with inputs and words that were changed: for tests/fuzz/dfu."""
+import re
+
 from mutants import captures, crc_mended, image_of, mutant, read, suffixed, summed
 
 ODD = ("", "-", "--", "ffff", "0x1209", "12 9", "\udcff", "\u00e9", "g" * 5000, "--json", "--json=1", "--explain", "--vid", "--vid=1209",
@@ -9,6 +11,8 @@ BYTES = (b"09210bff0000081001", b"07210bff000008", b"000500000400", b"02", b"210
 LOGS = read("examples/captures/*.log")
 CAPTURES = captures()
 SCRIPTS = read("examples/*.script")
+TABLE = read("share/parts.txt")[0]
+PARTS = sorted({line.split()[0].decode() for line in TABLE.splitlines() if line and not line.startswith(b"#")})
 
 
 class Case:
@@ -92,6 +96,49 @@ def of_judge(dice):
     words = ["judge", "-" if is_piped else "in", *others, *some(dice, "--json"), *some(dice, "--dfuse")]
     words += dice.choice(((), (), ("--interface", dice.choice(("0", "1", "255"))), ("--device", dice.choice(("only", "1.2", "3.57")))))
     return Case(words, given(), other=given(), is_piped=is_piped)
+
+
+def table_of(dice):
+    """A table of a part whose sectors no part has: its regions mostly follow each other."""
+    at, lines = dice.choice((0, 0x08000000, 0xFFF00000)), []
+    for _ in range(dice.randrange(1, 6)):
+        sector, count = dice.choice((256, 1024, 4096, 16384, 65536, 131072, 262144, 3000)), dice.choice((1, 1, 2, 3, 4, 7, 16, 128))
+        lines.append(f"one 0x{at:x} {sector} {count} # drawn\n")
+        at += sector * count + dice.choice((0, 0, 0, 0, sector, -256))
+    return "".join(lines).encode()
+
+
+def of_plan(dice):
+    table = table_of(dice) if dice.random() < 0.5 else mutant(dice, TABLE, TABLE, True)
+    is_piped, has_table = dice.random() < 0.2, dice.random() < 0.7
+    part = "one" if has_table and table.startswith(b"one") and dice.random() < 0.9 else dice.choice(PARTS)
+    boot = dice.choice(("32k", "16k", "24k", "0x8000", "32768", "0", "1", "1m", str(dice.randrange(1 << 21)), str(1 << 32)))
+    words = ["plan", "--part", part, "--boot", boot, *some(dice, "--json"), *dice.choice(((), ("--areas", dice.choice("23314"))))]
+    return Case(words + (["--parts", "-" if is_piped else "in"] if has_table else []), table, is_piped=is_piped)
+
+
+def number_of(word):
+    return int(word, 16 if word[:2] in ("0x", "0X") else 10)
+
+
+def is_edge(place, regions):
+    """Whether a sector begins or ends at the place."""
+    return any(0 <= place - at <= sector * count and (place - at) % sector == 0 for at, sector, count in regions)
+
+
+def wrong_plan(case, said):
+    """What is wrong with the places of a plan that was printed, if something is."""
+    if case.words[0] != "plan" or not case.is_sound or "--json" in case.words:
+        return ""
+    spans = sorted((int(at, 16), int(size)) for at, size in re.findall(rb" at ([0-9a-f]{8}) bytes (\d+)", said))
+    if len(spans) != 6 + (b"run area at" in said) or any(at + size > after for (at, size), (after, _) in zip(spans, spans[1:])):
+        return f"{spans} are not the things, or overlap"
+    table = case.given if "--parts" in case.words else TABLE
+    rows = [line.split(b"#")[0].decode().split() for line in table.splitlines()]
+    regions = [[number_of(row[1]), number_of(row[2].rstrip("kK")) << 10 * (row[2][-1] in "kK"), number_of(row[3])]
+               for row in rows if row[:1] == [case.words[2]]]
+    wrong = [(at, size) for at, size in spans if not (is_edge(at, regions) and is_edge(at + size, regions))]
+    return f"{wrong} are no whole sectors" if wrong else ""
 
 
 def some(dice, word):
