@@ -4,10 +4,9 @@ ghost use Rattle.std.specs.Prelude.{◌≡◌};
 ghost use Rattle.dfuse_host.specs.Commands.{write_command, command_of, end_of_work, phase_after_erase, phase_after_write, phase_after_command, phase_to_clear, work_after_unsure_write, phase_if_unsure};
 
 use crate::image::image_end;
-use crate::phase::Phase;
+use crate::phase::{Phase, Standing};
 use crate::place::Place;
 use crate::plan::Plan;
-use crate::settling::stand;
 use crate::step::Step;
 use crate::work::Work;
 
@@ -38,7 +37,11 @@ fn writing(place: Place, at: u64) -> Command
 pub(crate) fn cleared(work: Work) -> Phase
     ensures { result ≡ phase_to_clear work }
 {
-    stand(work, Place::Lost, Step::Abort)
+    Phase::On(Standing {
+        work,
+        place: Place::Lost,
+        step: Step::Abort,
+    })
 }
 
 impl Plan<'_> {
