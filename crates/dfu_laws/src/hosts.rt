@@ -13,7 +13,7 @@ use dfu_host_core::laws::core_hosts_are_hosts;
 /// and dfu_core_state returns appIDLE. With any report, the active image is the one that it was at first, or the whole of a payload offered
 /// so far, at each step, also between two writes of a call. If dfu_host_next says Uploaded, the bytes that the session keeps are the active
 /// image. The live session is a host of dfu_host, and all that comes is what comes to a board in C with that host. Marks of a trial may be
-/// set and trials may end; of a payload on trial `stays` says what runs.
+/// set, trials may end, and copies of two areas may come; of a payload on trial `stays` says what runs.
 pub fn core_ends_install()
     ensures in_place { EndsReportMeansInPlace }
     ensures stays { EndsReportedTrialStays }

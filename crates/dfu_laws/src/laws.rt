@@ -97,7 +97,8 @@ pub fn boards_ask_few_times()
 /// with Uploaded are the active image. All steps of the board are runs of it, so the laws above hold of them. Meanwhile marks of a trial
 /// may be set and trials may end: the image that comes back then is one of the two that were in the slots at first, or was offered. If the
 /// payload is on trial once it is in place, each start runs it until its tries are spent, or the confirmed image if the mark of the start
-/// fails; then the confirmed one comes back.
+/// fails; then the confirmed one comes back. In two areas operations of the copy to the first slot may come between a restart and the begin
+/// of the device, and any of them may fail, lie or be cut off.
 pub fn boards_install()
     ensures in_place { ReportMeansPayloadInPlace }
     ensures stays { ReportedTrialStays }
@@ -172,8 +173,8 @@ pub fn core_boards_ask_few_times()
 /// Whatever comes to a board in C over a link with a host, from power on: if the host reports Installed or Verified, the payload with which
 /// its session began is the active image of the flash, and dfu_core_state returns appIDLE. With any report, the active image is the one
 /// that it was at first, or the whole of a payload offered so far, at each step, also between two writes of a call. The bytes that come
-/// with Uploaded are the active image. All steps of the board are runs of it, so the laws above hold of them. Marks and ends of trials may
-/// come as with a board; of a payload on trial `stays` says what runs.
+/// with Uploaded are the active image. All steps of the board are runs of it, so the laws above hold of them. Marks, ends of trials and
+/// copies of two areas may come as with a board; of a payload on trial `stays` says what runs.
 pub fn core_boards_install()
     ensures in_place { CoreReportMeansInPlace }
     ensures stays { CoreReportedTrialStays }
