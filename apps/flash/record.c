@@ -177,7 +177,7 @@ static void print_short(int status, const char *name, const char *words, const c
     json_text("words", words);
     json_text("reason", status == STATUS_FILE ? say_reason() : NULL);
     if (is_known())
-        printf(",\"vendor\":\"%04x\",\"product\":\"%04x\",\"release\":\"%04x\"", each.info->vendor, each.info->product, each.info->release);
+        json_ids(each.info);
     json_text("path", path_known());
     json_text("serial", is_known() && each.info->serial[0] != '\0' ? each.info->serial : NULL);
     end(path_known(), step);

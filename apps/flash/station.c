@@ -219,7 +219,7 @@ bool station_add(int status, const char *report, const char *words, const char *
     put_member(&line, "crc32", station.has_image ? crc : NULL, false);
     put_member(&line, "vendor", is_known ? ids[0] : NULL, false);
     put_member(&line, "product", is_known ? ids[1] : NULL, false);
-    put_member(&line, "release", is_known ? ids[2] : NULL, false);
+    put_member(&line, "release", is_known && !info->lacks_release ? ids[2] : NULL, false);
     put_member(&line, "serial", info != NULL && info->serial[0] != '\0' ? info->serial : NULL, false);
     put_member(&line, "path", path, false);
     put_member(&line, "port", station_port(path), false);
