@@ -58,7 +58,7 @@ static const struct {
     {IMAGE_FORMAT, "run `dfu add --format auto`, and flash what it makes"},
     {IMAGE_DAMAGED, BUILD},
     {IMAGE_ARCHIVE, "unpack it, and flash the file that is in it"},
-    {IMAGE_TEXT, "give the file that the build made"},
+    {IMAGE_TEXT, "flash the .bin, .hex, .elf or .dfu file of the build, a .hex or .elf by way of `dfu add --format auto`"},
     {IMAGE_NAMED, BUILD},
     {IMAGE_CUT, ANEW},
     {DFU_FILE_BAD_LENGTH, ANEW},

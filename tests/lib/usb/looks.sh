@@ -104,6 +104,8 @@ printf '\302\265 is UTF-8\n' > utf8.bin
 printf 'x' > letter
 for it in notes page.dfu utf8.bin letter; do
     refused "$it" "$of_text" 'dfu-flash: it is text and no image: give the file that the build made'
+    row 1 old "$of_text" '' "$it"
+    says 'next: flash the .bin, .hex, .elf or .dfu file of the build, a .hex or .elf by way of `dfu add --format auto`'
 done
 { printf 'PK\3\4'; head -c 100 /dev/zero; } > it.zip
 { printf '\37\213'; head -c 100 /dev/zero; } > it.dfu.gz
@@ -181,7 +183,7 @@ printf 'S107000041414141F4\nS9030000FC\n' > whole.srec
 cp it.ihex whole.ihex
 for format in ihex srec; do
     "$dfu" add --format auto "whole.$format" it.dfu > added
-    expect "$format: the address is printed" grep -q 'address 00000000' added
+    expect "$format: the address is printed" grep -q 'address 0x00000000' added
     row 0 inside 'verified: ' '' it.dfu
     row 0 - 'verified: ' 'USB_DEVICE=dfuse USB_IDS=1209:0001:0100' --address 0x08000000 it.dfu
     expect "$format: the image at the address" test "$(head -c 4 saved)" = AAAA
