@@ -23,6 +23,8 @@ bool words_refuse(const char *what, const char *word)
 /* --upload, --detach and --list each say what is to be done, in place of a download. */
 static bool is_job(struct words *words, enum job job)
 {
+    if (words->file != NULL && words->job == JOB_DOWNLOAD && job == JOB_DETACH)
+        advice_is("to flash FILE leave out -e or --detach: a download brings the device to DFU mode by itself");
     if ((words->file != NULL && job != JOB_DEMO) || (words->job != JOB_DOWNLOAD && words->job != job))
         return words_refuse(words->job == JOB_DETACH || job == JOB_DETACH ? "--detach is all that is done, with no --upload and no --list"
                                                                           : "one --upload, or --list, says what is to be done",
@@ -42,6 +44,10 @@ static bool is_upload(struct words *words, const char *out)
 static bool is_download(struct words *words, const char *file)
 {
     if (words->file != NULL || (words->job != JOB_DOWNLOAD && words->job != JOB_DEMO))
+    if (words->job == JOB_DETACH) {
+        dfu_util_pass('e');
+        words->job = JOB_DOWNLOAD;
+    }
         return words_refuse("one -D, --upload, --detach or --list says what is to be done", "");
     words->file = file;
     return true;

@@ -102,7 +102,7 @@ fate=
 
 for words in '--wait=0 new.dfu' '--wait=x new.dfu' '--wait= new.dfu' '--wait=1000001 new.dfu' '--wait 1000001 new.dfu' \
     '--timeout 0 new.dfu' \
-    '--timeout x new.dfu' '--timeout 1000001 new.dfu' '--timeout new.dfu' '--list --wait' '--list --timeout 1' '--list --verbose'; do
+    '--timeout x new.dfu' '--timeout 1000001 new.dfu' '--timeout new.dfu' '--list --wait' '--list --timeout 1' '--list --verbose=x'; do
     # shellcheck disable=SC2086
     row 2 - '' '' $words
 done
