@@ -134,6 +134,12 @@ const char *next_of_end(const char *name)
     return NULL;
 }
 
+const char *next_of_session(const char *name, bool is_cut)
+{
+    return is_cut ? "make room, or name another place for the log: it lacks lines, and the device has what the report says"
+                  : next_of_end(name);
+}
+
 const char *next_of_refusal(int32_t refusal)
 {
     for (size_t at = 0; at < COUNT(refusals); at++)

@@ -161,7 +161,7 @@ bool record_print(const struct session *session, const struct verdict *verdict, 
     station_code(code);
     is_added = station_add(record_status(verdict->status), verdict->name, verdict->words, session->wire.device->path,
                            &session->wire.device->info, each_seconds());
-    step = next_of_end(verdict->name);
+    step = next_of_session(verdict->name, record_status(verdict->status) != verdict->status);
     if (is_json) {
         print_record(session, verdict, step);
         return is_printed(verdict->name, code, verdict->words) && is_added;
