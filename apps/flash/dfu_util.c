@@ -31,6 +31,7 @@ static struct {
     {'Z', "-Z of dfu-util isn't needed: an upload ends by itself", false},
     {'c', "-c of dfu-util isn't needed: a device is used in the configuration that it is in", false},
     {'E', "-E of dfu-util isn't needed: a device that left is asked for until it is back, 10 seconds or those of --wait", false},
+    {'e', "-e of dfu-util isn't needed with -D: a download brings the device to DFU mode by itself", false},
 };
 /* clang-format on */
 
@@ -76,16 +77,19 @@ static bool is_number(const char *value)
     return value[base] != '\0' && value[base + strspn(value + base, base > 0 ? "0123456789abcdefABCDEF" : "0123456789")] == '\0';
 }
 
-/* Notes an option that isn't needed. Returns true if the option is none of these. */
+void dfu_util_pass(int option)
+{
+    for (size_t at = 0; at < COUNT(notes); at++)
+        notes[at].was_given = notes[at].was_given || notes[at].option == option;
+}
+
+/* Notes an option with a number that isn't needed. Returns true if the option is none of these. */
 static bool is_passed(int option, const char *value)
 {
-    for (size_t at = 0; at < COUNT(notes); at++) {
-        if (notes[at].option != option)
-            continue;
-        notes[at].was_given = true;
-        return is_number(value) || words_refuse("-Z, -c and -E of dfu-util take a number", value);
-    }
-    return true;
+    if (option != 'Z' && option != 'c' && option != 'E')
+        return true;
+    dfu_util_pass(option);
+    return is_number(value) || words_refuse("-Z, -c and -E of dfu-util take a number", value);
 }
 
 static bool refuse_number(void)

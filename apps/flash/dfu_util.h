@@ -18,6 +18,9 @@ char *dfu_util_short(char *word);
    prints what to write in its place. An option that dfu-util doesn't have counts as different. */
 bool dfu_util_is_same(int option, const char *value);
 
+/* Notes an option that isn't needed together with the others. */
+void dfu_util_pass(int option);
+
 /* Says which options were given that aren't needed here. */
 void dfu_util_notes(void);
 

@@ -16,6 +16,7 @@
 struct found {
     libusb_device *device;             /* a reference that found_drop gives back */
     uint16_t vendor, product, release; /* idVendor, idProduct, bcdDevice */
+    bool lacks_release;                /* bcdDevice isn't known: only the identifiers that were asked for are */
     char path[PATH_ROOM];              /* bus and ports, as 1-2.3 */
     char serial[TEXT_ROOM];            /* empty if there is none, or if it may not be read */
     uint8_t interface, alternate;

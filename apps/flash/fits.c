@@ -111,14 +111,14 @@ static bool refuse_for_demo(const struct words *words)
 bool words_fit(const struct words *words)
 {
     bool has_session = words->has_limits || words->dry_run || words->transfer != 0;
-    bool has_trace = words->verbose || words->log != NULL;
+    bool has_log = words->log != NULL;
     if (words->force && words->job != JOB_UPLOAD)
         return words_refuse("--force goes with --upload alone", "");
     if (!words->verify && words->job != JOB_DOWNLOAD)
         return words_refuse("--no-verify goes with a download alone", "");
     if (words->raw && words->job != JOB_DOWNLOAD)
         return words_refuse("--raw goes with a FILE that is downloaded", "");
-    if (words->job == JOB_LIST && (has_session || words->quiet || has_trace || words->wait || words->timeout != 0))
+    if (words->job == JOB_LIST && (has_session || words->quiet || has_log || words->wait || words->timeout != 0))
         return words_refuse("--list goes with what chooses devices, and with --json, alone", "");
     if (words->job == JOB_DEMO && not_for_demo(words) != NULL)
         return refuse_for_demo(words);

@@ -73,6 +73,14 @@ void json_hex(const char *name, uint32_t number, int digits)
     printf(",\"%s\":\"%0*" PRIx32 "\"", name, digits, number);
 }
 
+void json_ids(const struct found *found)
+{
+    json_hex("vendor", found->vendor, 4);
+    json_hex("product", found->product, 4);
+    if (!found->lacks_release)
+        json_hex("release", found->release, 4);
+}
+
 void json_address(uint32_t address)
 {
     json_hex("address", address, 8);

@@ -16,6 +16,9 @@ void json_truth(const char *name, bool value);
 /* A number as so many hexadecimal digits, in quotes. */
 void json_hex(const char *name, uint32_t number, int digits);
 
+/* The identifiers of a device, and its release if that is known. */
+void json_ids(const struct found *found);
+
 /* The fields of a setting: interface, alternate setting and name. */
 void json_setting(const struct found *found);
 

@@ -58,7 +58,7 @@ static const struct {
     {IMAGE_FORMAT, "run `dfu add --format auto`, and flash what it makes"},
     {IMAGE_DAMAGED, BUILD},
     {IMAGE_ARCHIVE, "unpack it, and flash the file that is in it"},
-    {IMAGE_TEXT, "give the file that the build made"},
+    {IMAGE_TEXT, "flash the .bin, .hex, .elf or .dfu file of the build, a .hex or .elf by way of `dfu add --format auto`"},
     {IMAGE_NAMED, BUILD},
     {IMAGE_CUT, ANEW},
     {DFU_FILE_BAD_LENGTH, ANEW},
@@ -132,6 +132,12 @@ const char *next_of_end(const char *name)
         if (strcmp(ends[at].name, name) == 0)
             return advice_or(ends[at].step);
     return NULL;
+}
+
+const char *next_of_session(const char *name, bool is_cut)
+{
+    return is_cut ? "make room, or name another place for the log: it lacks lines, and the device has what the report says"
+                  : next_of_end(name);
 }
 
 const char *next_of_refusal(int32_t refusal)

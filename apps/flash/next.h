@@ -12,6 +12,9 @@
 const char *next_of_end(const char *name);
 const char *next_of_refusal(int32_t refusal);
 
+/* The step of a session's end; `is_cut`: it went well, but its log was not written whole. */
+const char *next_of_session(const char *name, bool is_cut);
+
 /* Prints the line, unless there is no step or --quiet was given. */
 void next_say(const char *step);
 

@@ -49,6 +49,7 @@ static const struct {
     {"vid", "did you mean --device?"},
     {"pid", "did you mean --device?"},
     {"port", "did you mean --path?"},
+    {"names", "did you mean --ports?"},
     {"serials", "did you mean --stamp?"},
     {"keys", "did you mean --stamp?"},
 };

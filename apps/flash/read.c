@@ -36,6 +36,8 @@ bool file_read(const char *name, uint8_t **bytes, size_t *length)
         say_failed(file == stdin ? "standard input" : name, " can't be read", strerror(error));
         if (error == ENOENT)
             advice_is("check its name, and which folder you are in, and run it again");
+        if (error == EISDIR)
+            advice_is("name a file that is in this folder, and run it again");
         free(*bytes);
         *bytes = NULL;
     }

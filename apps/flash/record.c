@@ -161,7 +161,7 @@ bool record_print(const struct session *session, const struct verdict *verdict, 
     station_code(code);
     is_added = station_add(record_status(verdict->status), verdict->name, verdict->words, session->wire.device->path,
                            &session->wire.device->info, each_seconds());
-    step = next_of_end(verdict->name);
+    step = next_of_session(verdict->name, record_status(verdict->status) != verdict->status);
     if (is_json) {
         print_record(session, verdict, step);
         return is_printed(verdict->name, code, verdict->words) && is_added;
@@ -177,7 +177,7 @@ static void print_short(int status, const char *name, const char *words, const c
     json_text("words", words);
     json_text("reason", status == STATUS_FILE ? say_reason() : NULL);
     if (is_known())
-        printf(",\"vendor\":\"%04x\",\"product\":\"%04x\",\"release\":\"%04x\"", each.info->vendor, each.info->product, each.info->release);
+        json_ids(each.info);
     json_text("path", path_known());
     json_text("serial", is_known() && each.info->serial[0] != '\0' ? each.info->serial : NULL);
     end(path_known(), step);

@@ -49,6 +49,12 @@ bool say_failed(const char *name, const char *what, const char *why)
     return false;
 }
 
+bool say_there(const char *name)
+{
+    advice_is("name another file, or add --force to replace this one, and run it again");
+    return say_failed(name, " can't be made", "it is there already; --force replaces a file");
+}
+
 const char *say_reason(void)
 {
     return reason[0] != '\0' ? reason : NULL;

@@ -21,6 +21,9 @@ void say_text(FILE *out, const char *before, const char *text, const char *after
 /* Prints a line about a file that failed: its name, what can't be done with it, and why. Returns false. */
 bool say_failed(const char *name, const char *what, const char *why);
 
+/* The same of a file that an upload would replace, with the next step. Returns false. */
+bool say_there(const char *name);
+
 /* The last of these, for a record; NULL if there was none. */
 const char *say_reason(void);
 

@@ -5,12 +5,14 @@
 #include "advice.h"
 #include "append.h"
 #include "json.h"
+#include "next.h"
 #include "ports_file.h"
 #include "say.h"
 #include "stamp.h"
 #include "status.h"
 #include "../common/text.h"
 
+#include <errno.h>
 #include <inttypes.h>
 #include <stdio.h>
 #include <string.h>
@@ -28,7 +30,7 @@ static const char json_front[] = "{\"time\":\"";
 static struct {
     int file;
     bool is_open, is_csv, has_image, has_failed;
-    const char *image, *code;
+    const char *name, *image, *code;
     uint32_t crc, tries;
 } station;
 
@@ -102,6 +104,17 @@ void station_time(char text[32])
         text[0] = '\0';
 }
 
+/* Says once that the report lacks a line, and the next step. Returns false. */
+static bool say_unwritten(bool is_full, const char *step)
+{
+    if (!station.has_failed)
+        say_failed(station.name, " can't be written", is_full || errno == 0 ? "there is no room for the whole line" : strerror(errno));
+    if (!station.has_failed)
+        next_say(step);
+    station.has_failed = true;
+    return false;
+}
+
 /* Says why lines can't be added to a file that begins so; NULL if they can. */
 static const char *why_not(const char *front)
 {
@@ -123,6 +136,7 @@ static bool open_report(const char *name)
     char front[sizeof stamp_header];
     const char *why, *end = strrchr(name, '.');
     station.is_csv = end != NULL && (strcmp(end, ".csv") == 0 || strcmp(end, ".CSV") == 0);
+    station.name = name;
     station.file = append_open(name, front, sizeof front, &why);
     if (station.file >= 0 && why_not(front) != NULL) {
         station.file = -1;
@@ -131,7 +145,9 @@ static bool open_report(const char *name)
     if (station.file < 0)
         return say_failed(name, " can't be the report", why);
     station.is_open = true;
-    return front[0] != '\0' || !station.is_csv || append_line(station.file, header, strlen(header));
+    errno = 0;
+    return front[0] != '\0' || !station.is_csv || append_line(station.file, header, strlen(header))
+           || say_unwritten(false, "make room, or name another file by --report, and run it again");
 }
 
 bool station_begin(const struct words *words)
@@ -219,7 +235,7 @@ bool station_add(int status, const char *report, const char *words, const char *
     put_member(&line, "crc32", station.has_image ? crc : NULL, false);
     put_member(&line, "vendor", is_known ? ids[0] : NULL, false);
     put_member(&line, "product", is_known ? ids[1] : NULL, false);
-    put_member(&line, "release", is_known ? ids[2] : NULL, false);
+    put_member(&line, "release", is_known && !info->lacks_release ? ids[2] : NULL, false);
     put_member(&line, "serial", info != NULL && info->serial[0] != '\0' ? info->serial : NULL, false);
     put_member(&line, "path", path, false);
     put_member(&line, "port", station_port(path), false);
@@ -228,10 +244,7 @@ bool station_add(int status, const char *report, const char *words, const char *
     if (header == stamp_header)
         put_member(&line, "stamp", stamp_taken(), false);
     put(&line, station.is_csv ? "\n" : "}\n", station.is_csv ? 1 : 2);
-    if (!line.is_full && append_line(station.file, line.text, line.length))
-        return true;
-    if (!station.has_failed)
-        fputs("dfu-flash: the report can't be written\n", stderr);
-    station.has_failed = true;
-    return false;
+    errno = 0;
+    return (!line.is_full && append_line(station.file, line.text, line.length))
+           || say_unwritten(line.is_full, "make room, or name another file by --report: what is missing in it was printed");
 }

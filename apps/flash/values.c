@@ -44,6 +44,12 @@ static bool is_pair(const char *text, uint16_t *vendor, uint16_t *product)
     return is_identifier(text, vendor) && text[4] == ':' && is_identifier(text + 5, product);
 }
 
+bool value_is_ids(const char *text)
+{
+    uint16_t vendor, product;
+    return strlen(text) == 9 && is_pair(text, &vendor, &product);
+}
+
 /* One pair; or two with a comma between them, of run-time mode and of DFU mode; or as dfu-util has them. */
 bool value_device(const char *text, struct words *words)
 {

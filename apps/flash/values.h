@@ -26,6 +26,9 @@ bool value_stamp_at(const char *text, struct words *words);
 bool value_is_hexadecimal(const char *text, uint32_t *number, const char **rest);
 bool value_is_length(const char *text, uint32_t *length, const char **rest);
 
+/* Returns whether the text is VID:PID, four hexadecimal digits each. */
+bool value_is_ids(const char *text);
+
 /* --verbose, or --verbose=FILE: NULL if there is none. */
 bool value_verbose(const char *text, struct words *words);
 

@@ -23,6 +23,8 @@ bool words_refuse(const char *what, const char *word)
 /* --upload, --detach and --list each say what is to be done, in place of a download. */
 static bool is_job(struct words *words, enum job job)
 {
+    if (words->file != NULL && words->job == JOB_DOWNLOAD && job == JOB_DETACH)
+        advice_is("to flash FILE leave out -e or --detach: a download brings the device to DFU mode by itself");
     if ((words->file != NULL && job != JOB_DEMO) || (words->job != JOB_DOWNLOAD && words->job != job))
         return words_refuse(words->job == JOB_DETACH || job == JOB_DETACH ? "--detach is all that is done, with no --upload and no --list"
                                                                           : "one --upload, or --list, says what is to be done",
@@ -38,9 +40,14 @@ static bool is_upload(struct words *words, const char *out)
     return is_taken;
 }
 
-/* -D FILE is FILE. */
+/* -D FILE is FILE. Behind -e it is a download too, as in dfu-util, where the last of such options counts: a download brings the device to
+   DFU mode by itself. */
 static bool is_download(struct words *words, const char *file)
 {
+    if (words->job == JOB_DETACH) {
+        dfu_util_pass('e');
+        words->job = JOB_DOWNLOAD;
+    }
     if (words->file != NULL || (words->job != JOB_DOWNLOAD && words->job != JOB_DEMO))
         return words_refuse("one -D, --upload, --detach or --list says what is to be done", "");
     words->file = file;
@@ -136,14 +143,19 @@ struct plain {
 /* Refuses a second file, or a word behind what takes none. */
 static bool is_too_many(const struct words *words, const char *word)
 {
+    char step[80];
     if (words->file == NULL || words->job == JOB_UPLOAD) {
         advice_is("leave it out");
         return words_refuse("a word too many", word);
     }
+    if (value_is_ids(words->file) || value_is_ids(word)) {
+        snprintf(step, sizeof step, "name one FILE, and the device by --device %s", value_is_ids(word) ? word : words->file);
+        advice_is(step);
+    }
     fputs("dfu-flash: two files were given (", stderr);
     say_text(stderr, "", words->file, ", ");
     say_text(stderr, "", word, "), and dfu-flash takes one; a * may have stood for several\nSee dfu-flash --help.\n");
-    next_say("name one FILE");
+    next_say(advice_or("name one FILE"));
     return false;
 }
 

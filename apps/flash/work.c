@@ -84,7 +84,7 @@ int work_print(const struct session *session, const struct words *words, const s
     if (verdict->code != 0 && !words->json && !words->quiet)
         fprintf(stderr, "dfu-flash: %s: %s\n", code_name(verdict->code), code_words(verdict->code, session->is_upload));
     if (!words->json)
-        next_say(next_of_end(verdict->name));
+        next_say(next_of_session(verdict->name, record_status(verdict->status) != verdict->status));
     return is_out ? record_status(verdict->status) : STATUS_FILE;
 }
 

@@ -86,6 +86,7 @@ static void print_lost(const struct crew *crew, const struct worker *worker, int
     static struct log none;
     unread.vendor = crew->vendor;
     unread.product = crew->product;
+    unread.lacks_release = true;
     record_each(worker->bay->path, &unread, &none);
     record_since(worker->began_ms);
     record_short(status, status == STATUS_GONE ? "silent" : status == STATUS_ABORTED ? "aborted" : "broken", why, crew->is_json);

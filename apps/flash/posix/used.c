@@ -2,6 +2,7 @@
 /* The lock is the open file's: processes that were forked have it too, and it is gone once the last of them has ended, however it did. */
 #define _DEFAULT_SOURCE
 #include "../used.h"
+#include "../advice.h"
 
 #include <errno.h>
 #include <fcntl.h>
@@ -80,9 +81,11 @@ static bool is_in_place(int file, const char *name)
 
 static bool take(int file, const char *name, const char **why)
 {
-    if (flock(file, LOCK_EX | LOCK_NB) != 0)
+    if (flock(file, LOCK_EX | LOCK_NB) != 0) {
         *why = errno == EWOULDBLOCK ? "another dfu-flash is at work with it" : strerror(errno);
-    else if (!is_in_place(file, name))
+        if (errno == EWOULDBLOCK)
+            advice_is("give each station a list of its own, or run it again once the other one has ended");
+    } else if (!is_in_place(file, name))
         *why = "it was replaced just now: run it again";
     else
         return true;

@@ -31,7 +31,7 @@ static int look(const char *name, bool is_forced, struct stat *there)
     if (!is_there)
         fail(name, strerror(errno));
     else if (!is_forced)
-        fail(name, "it is there already; --force replaces a file");
+        say_there(name);
     else if (!S_ISREG(there->st_mode))
         fail(name, "what is there is no regular file");
     else if (faccessat(AT_FDCWD, name, W_OK, AT_EACCESS) != 0)

@@ -61,7 +61,7 @@ static int look(const char *name, const wchar_t *wide, bool is_forced)
     if (error != ERROR_SUCCESS)
         fail_by_windows(name);
     else if (!is_forced)
-        fail(name, "it is there already; --force replaces a file");
+        say_there(name);
     else if (!is_file)
         fail(name, "what is there is no regular file");
     else if (!may_replace(wide))

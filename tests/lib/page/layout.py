@@ -72,12 +72,23 @@ return Array.from(document.querySelectorAll('button, .button, select, input, nav
   .map(([name, at]) => `${name}: ${at.width} by ${at.height}`)"""
 
 
+# How many pixels the page scrolls sideways, with text of twice the size that the browser has by itself (WCAG 1.4.4 and 1.4.10).
+SIDEWAYS = """
+const root = document.documentElement
+root.style.fontSize = '200%'
+const text = parseFloat(getComputedStyle(document.body).fontSize), wide = root.scrollWidth - innerWidth
+root.style.fontSize = ''
+return [text, wide]"""
+
+
 def fits(browser, view):
-    """From a phone to a desk nothing is cut off, and nothing is too small for a finger."""
+    """From a phone to a desk nothing is cut off, nothing is too small for a finger, and text may be twice as large."""
     for width in (320, 400, 768, 961, 1280):
         browser.size(width, 760)
         check(f'{view}, {width} pixels wide: what is too small', browser.run(SMALL), [])
         check(f'{view}, {width} pixels wide: what is cut off', browser.run(CUT_OFF), [])
+        if width >= 400:
+            check(f'{view}, {width} pixels wide: text of 200 %', browser.run(SIDEWAYS), [32, 0])
         if width == 400:
             shot(browser, f'{view}-narrow')
     browser.size(1100, 1400)

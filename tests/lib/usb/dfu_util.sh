@@ -19,6 +19,19 @@ expect 'quiet' test ! -s err
 row 0 new 'verified: ' '' -v -D new.dfu
 expect '-v is --verbose' grep -q '^begin ' err
 row 0 new 'verified: ' '' -v -v -D new.dfu
+# A list has no transfers, so -v adds nothing to it; and -e adds nothing to a download.
+row 0 - '1209:0001 path 1-1 serial F1 ' '' -l -v
+expect '-l -v lists' test ! -s err
+row 0 - '1209:0001 path 1-1 serial F1 ' '' -v --list -v
+row 2 - '' '' --list --verbose=trace
+row 0 new 'verified: ' USB_START=app -e -D new.dfu
+says 'dfu-flash: -e of dfu-util isn'\''t needed with -D: a download brings the device to DFU mode by itself'
+row 0 new 'verified: ' '' --detach --download new.dfu --quiet
+expect 'quiet' test ! -s err
+row 1 old 'BadCrc: ' USB_START=app -e -D damaged.dfu
+expect '-e -D of a damaged file: nothing is sent' is_silent
+row 2 - '' '' -D new.dfu -e
+says 'next: to flash FILE leave out -e or --detach: a download brings the device to DFU mode by itself'
 row 2 - '' '' --devnum 5 -D new.dfu
 says '--path PATH'
 row 2 - '' '' --devnum=5 -D new.dfu

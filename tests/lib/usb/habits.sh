@@ -13,7 +13,7 @@ expect 'an upload' cmp old habit
 row 0 old 'detached: ' USB_START=app -e
 row 0 - '1209:0001 path 1-1 serial F1' '' -l
 for words in '-D new.dfu new.dfu' '-D new.dfu -D new.dfu' '-D new.dfu -U never' '-U never -D new.dfu' '-l -D new.dfu' '-D new.dfu -l' \
-    '-e -D new.dfu' '-D new.dfu -e' '-D' '-t 4097 -D new.dfu' '-x new.dfu'; do
+    '-e -D' '-D new.dfu -e' '-D' '-t 4097 -D new.dfu' '-x new.dfu'; do
     # shellcheck disable=SC2086
     row 2 - '' '' $words
 done

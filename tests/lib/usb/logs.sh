@@ -75,8 +75,10 @@ fate=
 # A log that was not written whole: the status and the record say so, and a session that failed keeps its own status.
 row 3 new 'verified: ' '' --quiet --verbose=/dev/full new.dfu
 says '/dev/full was not written whole: '
+row 3 new 'verified: ' '' --verbose=/dev/full new.dfu
+says 'next: make room, or name another place for the log: it lacks lines, and the device has what the report says'
 row 3 new '{"status":3,"report":"verified",' '' --json --report cut.csv --verbose=/dev/full new.dfu
-expect 'a record says it' grep -q ',"log_whole":false}$' out
+expect 'a record says it' grep -q ',"next":"make room, .*,"log_whole":false}$' out
 expect 'so does the report' grep -q ',3,"verified",' cut.csv
 row 3 new 'unconfirmed: ' USB_ATTRIBUTES=01 --verbose=/dev/full new.dfu
 row 6 old '{"status":6,"report":"refused",' USB_CAPACITY=13 --json --verbose=/dev/full new.dfu

@@ -104,6 +104,8 @@ printf '\302\265 is UTF-8\n' > utf8.bin
 printf 'x' > letter
 for it in notes page.dfu utf8.bin letter; do
     refused "$it" "$of_text" 'dfu-flash: it is text and no image: give the file that the build made'
+    row 1 old "$of_text" '' "$it"
+    says 'next: flash the .bin, .hex, .elf or .dfu file of the build, a .hex or .elf by way of `dfu add --format auto`'
 done
 { printf 'PK\3\4'; head -c 100 /dev/zero; } > it.zip
 { printf '\37\213'; head -c 100 /dev/zero; } > it.dfu.gz

@@ -47,7 +47,9 @@ steps 5 USB_DENIED=12 \
     'give it a driver that libusb can use, on Windows WinUSB, as by Zadig (see WINDOWS in man dfu-flash), and run it again' new.dfu
 steps 5 USB_CLAIMED=6 'end the program that has it, or take the driver away from it, and run it again' new.dfu
 steps 3 '' 'check its name, and which folder you are in, and run it again' nowhere.dfu
-steps 3 '' 'see to what standard error names, and run it again' .
+steps 3 '' 'name a file that is in this folder, and run it again' .
+steps 3 '' 'see to what standard error names, and run it again' --report /dev/null new.dfu
+steps 3 '' 'name another file, or add --force to replace this one, and run it again' --upload new
 for reset in '' --no-verify; do
     # shellcheck disable=SC2086
     flash USB_ATTRIBUTES=07 $reset new.dfu

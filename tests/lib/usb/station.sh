@@ -40,6 +40,23 @@ fi
 printf '{"time":"broken off' > torn.json
 row 0 new 'verified: ' '' --report torn.json new.dfu
 expect 'a line that was broken off is ended' test "$(wc -l < torn.json)-$(tail -n 1 torn.json | cut -c 1-9)" = '2-{"time":"'
+# One for which there is no room is named, with the next step; what becomes of the board is said all the same.
+cp report.csv no-room.csv
+{
+    (
+        trap '' XFSZ
+        ulimit -f 1
+        code=0
+        env LD_LIBRARY_PATH="$work" USB_IMAGE="$work/old" ./dfu-flash --quiet --report no-room.csv new.dfu 2>&1 || code=$?
+        env LD_LIBRARY_PATH="$work" USB_IMAGE="$work/old" ./dfu-flash --report no-room.csv new.dfu 2>&1 || :
+        echo "$code" >&3
+    ) | cat > out
+} 3> status
+expect "no room for the report: $(cat status)" test "$(cat status)-$(cmp report.csv no-room.csv)" = 3-
+expect "no room for the report: $(cat out)" grep -q "^dfu-flash: no-room.csv can't be written: " out
+expect 'no room for the report: the board' test "$(grep -c '^verified: ' out)" -eq 2
+expect 'no room for the report: the next step' test \
+    "$(grep '^next: ' out)" = 'next: make room, or name another file by --report: what is missing in it was printed'
 # With --stamp a report in CSV has a column more, so that each kind is a file of its own.
 printf 'A\n' > columns
 row 3 - '' '' --stamp columns --stamp-at 16:8 --report report.csv new.dfu

@@ -13,12 +13,12 @@ all --json --ports ports --report all.csv new.dfu
 expect "the highest status: $code" test "$code" -eq 14
 expect 'a line for each, one for all, and the header' test "$(wc -l < all.csv)" -eq 12
 expect 'each line is whole' test "$(grep -c "^\"$time\",[0-9]*,\"[a-z-]*\",\".*,[0-9.]*,1*\$" all.csv)" -eq 11
-expect 'one that was killed has its identifiers' grep -q ',14,"broken",.*,"1209","0001",.*,"1-10",,' all.csv
+expect 'one that was killed has its identifiers, and no release' grep -q ',14,"broken",.*,"1209","0001",,,"1-10",,' all.csv
 expect 'so has one without access' grep -q ',5,"no-access",.*,"1209","0001","0100",,"1-9",,' all.csv
 expect 'the name of its port' grep -q ',"F3","1-3","bay 3",' all.csv
 expect 'a summary' grep -q ',14,"summary","8 flashed, 2 not","new.dfu",' all.csv
 expect 'a record of all' grep -q '^{"status":14,"report":"summary","words":"8 flashed, 2 not","flashed":8,"failed":2,' out
-expect 'broken has its device' grep -q '^{"status":14,"report":"broken",.*"vendor":"1209","product":"0001"' out
+expect 'broken has its device, and no release' grep -q '^{"status":14,"report":"broken",.*"vendor":"1209","product":"0001","path":' out
 if command -v python3 > /dev/null; then
     expect 'records' python3 -c 'import json
 r = [json.loads(line) for line in open("out")]

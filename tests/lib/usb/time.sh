@@ -4,9 +4,17 @@ last_request() {
     grep '^[0-9]' log | tail -n 1 | cut -d ' ' -f 2
 }
 
+# at_once SIGNAL TEXT SETTINGS WORDS..: as `stopped`; on a machine that is too slow for the four seconds it is tried again.
+at_once() {
+    for _ in 1 2 3 4 5; do
+        stopped "$@"
+        [ "$took" -gt 4 ] || break
+    done
+}
+
 # A wait that the device asks for ends at once, and ABORT is sent; one of over 10 seconds is said.
 for signal in INT TERM; do
-    stopped $signal 'asks for a wait' USB_BUSY=16777215 new.dfu
+    at_once $signal 'asks for a wait' USB_BUSY=16777215 new.dfu
     expect "$signal in a wait" test "$code" -eq 11
     expect "$signal in a wait: at once" test "$took" -le 4
     expect "$signal in a wait: ABORT" test "$(last_request)" = ABORT
@@ -25,7 +33,7 @@ row 0 new 'verified: ' USB_BUSY=200 new.dfu
 expect 'a short wait is not said' test "$(grep -c 'a wait of' err)" -eq 0
 # A wait for a device that left ends at once, too.
 fate='leave 3'
-stopped INT 'no device' USB_AWAY=100000 new.dfu
+at_once INT 'no device' USB_AWAY=100000 new.dfu
 expect 'a signal while it is away' test "$code-$(tail -n 1 out | cut -d : -f 1)" = 11-aborted
 expect 'a signal while it is away: at once' test "$took" -le 4
 fate=
@@ -89,20 +97,20 @@ row 12 old '' 'USB_DEVICES=2' --wait new.dfu
 row 0 new 'verified: ' 'USB_DEVICES=2 USB_ABSENT=3' --wait --serial F1 new.dfu
 row 4 old '' 'USB_ABSENT=100000 USB_DEVICES=2' --wait=1 --serial F1 new.dfu
 for words in --wait --wait=30; do
-    stopped INT 'waiting for the device' USB_ABSENT=100000 $words new.dfu
+    at_once INT 'waiting for the device' USB_ABSENT=100000 $words new.dfu
     expect "$words: a signal" test "$code" -eq 130
     expect "$words: nothing is sent" is_silent
     expect "$words: at once" test "$took" -le 4
 done
-# It also waits longer for a device that left.
+# It also waits longer for a device that left. (Without --wait it looks at most 200 times in its 10 seconds; a slow machine has 50 for 215.)
 fate='leave 3'
-row 0 new 'installed: ' USB_AWAY=215 --wait=30 --no-verify new.dfu
-says 'dfu-flash: the device is away; it is waited for up to 30 s'
+row 0 new 'installed: ' USB_AWAY=215 --wait=50 --no-verify new.dfu
+says 'dfu-flash: the device is away; it is waited for up to 50 s'
 fate=
 
 for words in '--wait=0 new.dfu' '--wait=x new.dfu' '--wait= new.dfu' '--wait=1000001 new.dfu' '--wait 1000001 new.dfu' \
     '--timeout 0 new.dfu' \
-    '--timeout x new.dfu' '--timeout 1000001 new.dfu' '--timeout new.dfu' '--list --wait' '--list --timeout 1' '--list --verbose'; do
+    '--timeout x new.dfu' '--timeout 1000001 new.dfu' '--timeout new.dfu' '--list --wait' '--list --timeout 1' '--list --verbose=x'; do
     # shellcheck disable=SC2086
     row 2 - '' '' $words
 done
