@@ -1,6 +1,6 @@
 /* Runs updates on trial on parts with unequal or large sectors, with a run area, by the library in C over the translation of dfu_places.h.
  * The power is lost in each operation of the device, of the marks and ends of trials, and of the copy to the run area, and in each of these
- * lives in later ones again. What runs is the old or the new image, whole in the run area; at the end one of them is active, whole at the
+ * lives in later ones again. The old or the new image runs, whole in the run area; at the end one of them is active, whole at the
  * address of its data. An image that confirms itself stays; one that never does starts at most TRIES times, and the old one comes back.
  * model.c holds each operation on the slots against the rules of a placement; the slot of the confirmed image may not be touched, but for
  * marks.
@@ -62,7 +62,7 @@ static int no_erase(void *own, uint32_t at, uint32_t length) {
 static const struct dfu_driver marks_part = {NULL, no_erase, mark_program};
 static struct dfu_places places = {NULL, &model}, marks = {NULL, &marks_part};
 
-/* What the library sees follows what the part holds. */
+/* The library's view follows what the part holds. */
 static void see(uint32_t at, uint32_t length) {
     dfu_places_read(places.placement, at, view + at, length, model_read);
 }

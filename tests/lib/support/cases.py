@@ -122,12 +122,12 @@ def number_of(word):
 
 
 def is_edge(place, regions):
-    """Whether a sector begins or ends at the place."""
+    """True if a sector begins or ends at the place."""
     return any(0 <= place - at <= sector * count and (place - at) % sector == 0 for at, sector, count in regions)
 
 
 def wrong_plan(case, said):
-    """What is wrong with the places of a plan that was printed, if something is."""
+    """The fault of the places of a plan that was printed, or an empty text."""
     if case.words[0] != "plan" or not case.is_sound or "--json" in case.words:
         return ""
     spans = sorted((int(at, 16), int(size)) for at, size in re.findall(rb" at ([0-9a-f]{8}) bytes (\d+)", said))
