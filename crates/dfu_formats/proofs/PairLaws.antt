@@ -9,6 +9,10 @@ abbrev pub bytes_before_spelled : List ℕ → Option (List ℕ) → Option (Lis
 bytes_before_spelled front None = None
 bytes_before_spelled front (Some bytes) = Some (front ++ bytes)
 
+pub nothing_before_spelled : (spelled : Option (List ℕ)) → bytes_before_spelled [] spelled ≡ spelled
+nothing_before_spelled None = refl
+nothing_before_spelled (Some bytes) = refl
+
 no_digits_spell_no_bytes : bytes_of_pairs [] ≡ Some []
 unfolding bytes_of_pairs
 no_digits_spell_no_bytes = refl

@@ -1,11 +1,12 @@
 -- Texts that the lines of a script print, and the start of its device.
-use Rattle.std.proofs.Common.{◌≡◌, ℕ, zero, suc, List, [], ◌∷◌, ◌++◌, map, append_assoc, Option, Some, None, refl, sym, ap, ◌∙◌, subst}
+use Rattle.std.proofs.Common.{◌≡◌, ℕ, zero, suc, List, [], ◌∷◌, ◌++◌, map, append_assoc, Option, Some, None, Ok, refl, sym, ap, ◌∙◌, subst}
 use Rattle.std.specs.Prelude.{replicate}
 use Rattle.std.proofs.lemmas.Option.{same_Some}
 use Rattle.dfu_host.specs.declared.report.Report.{Report}
 use Rattle.dfu_host.specs.declared.limits.Limits.{Limits}
 use Rattle.dfu_sim.specs.Happening.{Happening, Offers, Uploads, Goes}
 use Rattle.dfu_sim.specs.LinkView.{LinkView}
+use Rattle.dfu_link.specs.Texts.{outcome_line}
 use Rattle.dfu_link.specs.LineContent.{ConfigLine, SetsDeviceIds, SetsImage, EventLine, Go, LineContent, Blank, SetsConfig, SetsLimits, Does, GoesOn, Show, ExpectsText}
 use Rattle.dfu_link.specs.Lines.{line_of}
 use Rattle.dfu_link.specs.ScriptRun.{Settings, settings_with as set_by, checked_event, events_of_line, SettingsPrepared, settings_after_line, nothing, line_prepares_next, HasToStart, IsActingLine}
@@ -39,6 +40,11 @@ pub sessions_of_line_events : (limits : Limits) (events : EventLine) → map ses
     ≡ sessions_of_event_line events
 sessions_of_line_events limits (Go f harm times) = sessions_of_repeated_event times (Goes f harm)
 sessions_of_line_events limits events = refl
+
+-- The text of a report is the line of an answer with that report.
+pub same_text : (report : Option Report) (image : List ℕ) → report_text report image ≡ outcome_line (Ok report) image
+same_text None image = refl
+same_text (Some report) image = refl
 
 -- If events printed a text, and the headline holds after one more event, the text with that event's line is printed too.
 pub one_more_event_prints : {factory : List ℕ} {past : List SessionBeginning} {b : LinkView} {events : List (Option SessionBeginning)}

@@ -64,6 +64,10 @@ module _ (sector : ℕ) (held block header : List ℕ) where
       ∙ sym (append_assoc (op_writes sector held block header p) (ops_writes sector held block header (take n os)) _)
 
 module _ {m : MediumState} {held block header : List ℕ} {os : List Op} where
+  -- At first no operation is carried out.
+  pub no_op_carried_yet : MayCarryAll m held block header os → FirstOpsCarried m m held block header os 0
+  no_op_carried_yet may = record { done = refl; may = may }
+
   module _ {mid : MediumState} {n : ℕ} (so : FirstOpsCarried m mid held block header os n) where
     grain_after_ops : mid.grain ≡ m.grain
     grain_after_ops = writes_keep_grain (ops_writes m.grain.sector held block header (take n os)) m mid so.done

@@ -1,5 +1,5 @@
 -- A medium with an active image is not refused.
-use Rattle.std.proofs.Common.{⊎_elim, ℕ, length, sym, ◌∙◌, subst}
+use Rattle.std.proofs.Common.{⊎_elim, ℕ, length, Result, Ok, Err, OnErr, IfErr, sym, ◌∙◌, subst}
 use Rattle.dfu_slots.specs.Medium.{MediumState}
 use Rattle.dfu_slots.specs.Layout.{HasHeader}
 use Rattle.dfu_slots.specs.Image.{SlotCounts, gate_of, slot_of, HasImage}
@@ -24,3 +24,10 @@ faulty_medium_has_no_image BadHeader m (sized, bad) has =
     let same = (places_of_active_image (gate_of m) m.bytes a.at a.spare has.image (active_image_at_its_place a)).0
     ∙ sym (places_of_newest_slot (gate_of m) m.bytes bad.newest.at bad.newest.other bad.newest.places bad.newest.newest).0 in
     bad.none (length has.image) (subst (λ (q : ℕ). HasHeader (slot_of m q) (length has.image)) same a.header_is)
+
+-- If `open` returns an error for a medium, the medium has no active image.
+pub refused_medium_has_no_image : {T M : Type 0} (m : MediumState) (result : Result T (OpenFault × M))
+    → IfErr result (λ e. FirstOpenFault e.0 m)
+    → OnErr result (¬ HasImage m)
+refused_medium_has_no_image m (Ok x) h = tt
+refused_medium_has_no_image m (Err e) h = faulty_medium_has_no_image e.0 m h
