@@ -4784,13 +4784,13 @@ static void dfuse_host_session_Session_restarted_once(unsigned char *a0, unsigne
 
 /* dfuse_host::plan::Plan::unsure: crates/dfuse_host/src/command.rt */
 static void dfuse_host_plan_Plan_unsure(unsigned char *a0, unsigned char *a1, unsigned char *a2, uint8_t a3) {
-    uint8_t r2, r11_1014_0_in;
+    uint8_t r2, r11_1017_0_in;
     uint64_t v0, v1, r11_13_0, r11_15_0;
     r2 = *a2;
     v0 = load64(a2 + 8);
     v1 = load64(a2 + 16);
     if (a3 != 2) {
-        r11_1014_0_in = r2;
+        r11_1017_0_in = r2;
         r11_13_0 = v0;
         r11_15_0 = v1;
     }
@@ -4798,7 +4798,7 @@ static void dfuse_host_plan_Plan_unsure(unsigned char *a0, unsigned char *a1, un
         switch (r2) {
         case 2: {
             uint64_t r24 = dfuse_host_plan_Plan_page_start(a1, v0);
-            r11_1014_0_in = 1;
+            r11_1017_0_in = 1;
             r11_13_0 = r24;
             r11_15_0 = v1;
             break;
@@ -4809,7 +4809,7 @@ static void dfuse_host_plan_Plan_unsure(unsigned char *a0, unsigned char *a1, un
             size_t r17_0_0_copyload = load_size(a1 + 8);
             size_t r17_3_0_copyload = load_size(a1 + 16);
             uint64_t r39 = dfuse_host_image_image_end((unsigned char *)(uintptr_t)r17_0_0_copyload, r17_3_0_copyload);
-            r11_1014_0_in = 1;
+            r11_1017_0_in = 1;
             r11_13_0 = r32;
             r11_15_0 = umin64(r39, r34);
             break;
@@ -4819,7 +4819,7 @@ static void dfuse_host_plan_Plan_unsure(unsigned char *a0, unsigned char *a1, un
         case 3:
         case 5:
         case 6:
-            r11_1014_0_in = r2;
+            r11_1017_0_in = r2;
             r11_13_0 = v0;
             r11_15_0 = v1;
             break;
@@ -4829,7 +4829,7 @@ static void dfuse_host_plan_Plan_unsure(unsigned char *a0, unsigned char *a1, un
     *a0 = 0;
     a0[1] = 0;
     a0[2] = 0;
-    store_size(a0 + 8, (size_t)r11_1014_0_in);
+    store_size(a0 + 8, (size_t)r11_1017_0_in);
     store64(a0 + 16, r11_13_0);
     store64(a0 + 24, r11_15_0);
     memset(a0 + 32, 0, 24);
@@ -7189,17 +7189,17 @@ int32_t dfuse_take(struct dfuse_session *session, const uint8_t *map, size_t map
     _Alignas(8) unsigned char r12_4[56];
     unsigned char *const r1_4 = r12_4;
     unsigned char *r22, *r31, *r23, *r23_2;
-    size_t r3_16_0_0, r3_16_8_0, r18, r9_21_8_copyload25, r9_1321_8_copyload22, r17_83_8_copyload241, r17_46230_8_copyload232, r17_83_8_copyload242, r17_46230_8_copyload233, r17_46230_0, r17_83_0;
+    size_t r3_16_0_0, r3_16_8_0, r18, r9_21_8_copyload25, r9_1321_8_copyload22, r17_83_8_copyload239, r17_46228_8_copyload230, r17_83_8_copyload240, r17_46228_8_copyload231, r17_46228_0, r17_83_0;
     uint8_t r3_9_0_0, r5_0_0_copyload, r5_10_0_copyload, r5_14_0_copyload, r5_5_3_0, r5_5_7_0, r5_0_0, r13_10_3_0, r13_10_9_0, r13_0_0, r13_6_0, r17_10_3_0;
     uint8_t r17_10_7_0, r17_0_0, r17_8_0, v6, v7, v8, r9_0_0, r9_5_0, r9_9_0, r9_1319_0_in, v12, v13;
     uint8_t v14, v15, v16, v17, v26, v27, v28, v29, v30, v31, v32, v33;
     uint8_t v34, v39, v40, v41, v42, v43, v44, r12_23_0_in, r12_0_0, r12_108_0_in, r12_17_0_in, r17_0_0_2;
     uint8_t r17_16_0, r17_31_0;
-    uint64_t r5_6_0_copyload, r5_8_0_copyload, r5_13_0_copyload, r9_23_8_copyload26, r9_19_8_copyload24, r9_17_8_copyload23, r9_17_0, r9_20_0, r33, r17_94_8_copyload244, r17_72_8_copyload238, r17_61_8_copyload235;
-    uint64_t r14_4, r11_5_0, r11_9_0, r17_94_8_copyload245, r17_72_8_copyload239, r17_61_8_copyload236, r12_26_0, r12_13_0, r12_15_0, r12_19_0, r17_61_0, r17_72_0;
+    uint64_t r5_6_0_copyload, r5_8_0_copyload, r5_13_0_copyload, r9_23_8_copyload26, r9_19_8_copyload24, r9_17_8_copyload23, r9_17_0, r9_20_0, r33, r17_94_8_copyload242, r17_72_8_copyload236, r17_61_8_copyload233;
+    uint64_t r14_4, r11_5_0, r11_9_0, r17_94_8_copyload243, r17_72_8_copyload237, r17_61_8_copyload234, r12_26_0, r12_13_0, r12_15_0, r12_19_0, r17_61_0, r17_72_0;
     uint64_t r17_94_0;
-    uint32_t r5_18_0_copyload, r5_5_6_0, r13_10_8_0, r17_10_6_0, r9_27_8_copyload28, r9_25_8_copyload27, r9_28_0, r9_31_0, sink, r17_111_8_copyload250, r17_101_8_copyload247, r17_111_8_copyload251;
-    uint32_t r17_101_8_copyload248, r12_29_0, r12_21_0, r17_101_0, r17_111_0, common_ret_op;
+    uint32_t r5_18_0_copyload, r5_5_6_0, r13_10_8_0, r17_10_6_0, r9_27_8_copyload28, r9_25_8_copyload27, r9_28_0, r9_31_0, sink, r17_111_8_copyload248, r17_101_8_copyload245, r17_111_8_copyload249;
+    uint32_t r17_101_8_copyload246, r12_29_0, r12_21_0, r17_101_0, r17_111_0, common_ret_op;
     uint8_t common_ret_op_2;
     uint16_t r8_3_0_copyload, r8_5_0_copyload, r8_3_0_copyload8;
     r22 = (unsigned char *)((uintptr_t)a6 + (uintptr_t)(size_t)((a6 == NULL) ? 4096 : 0));
@@ -7445,7 +7445,7 @@ int32_t dfuse_take(struct dfuse_session *session, const uint8_t *map, size_t map
                         r17_0_0_2 = 0;
                         r17_16_0 = 0;
                         r17_31_0 = 0;
-                        r17_46230_0 = r18;
+                        r17_46228_0 = r18;
                         r17_61_0 = r5_6_0_copyload;
                         r17_72_0 = r5_8_0_copyload;
                         r17_83_0 = 0;
@@ -7461,7 +7461,7 @@ int32_t dfuse_take(struct dfuse_session *session, const uint8_t *map, size_t map
                         r17_0_0_2 = 0;
                         r17_16_0 = 0;
                         r17_31_0 = 0;
-                        r17_46230_0 = r18;
+                        r17_46228_0 = r18;
                         r17_61_0 = r5_6_0_copyload;
                         r17_72_0 = r5_8_0_copyload;
                         r17_83_0 = 0;
@@ -7495,8 +7495,8 @@ int32_t dfuse_take(struct dfuse_session *session, const uint8_t *map, size_t map
                         case 2: {
                             dfuse_host_plan_Plan_settle(r9_3, r31, r1_2, 0, 0);
                             uint8_t pre = *r9_3;
-                            uint8_t pre6 = r9_3[1];
-                            uint8_t pre7 = r9_3[2];
+                            uint8_t pre9 = r9_3[1];
+                            uint8_t pre10 = r9_3[2];
                             size_t r9_1321_8_copyload22_pre = load_size(r9_3 + 8);
                             uint64_t r9_17_8_copyload23_pre = load64(r9_3 + 16);
                             uint64_t r9_19_8_copyload24_pre = load64(r9_3 + 24);
@@ -7511,8 +7511,8 @@ int32_t dfuse_take(struct dfuse_session *session, const uint8_t *map, size_t map
                             r9_19_8_copyload24 = r9_19_8_copyload24_pre;
                             r9_17_8_copyload23 = r9_17_8_copyload23_pre;
                             r9_1321_8_copyload22 = r9_1321_8_copyload22_pre;
-                            v6 = pre7;
-                            v7 = pre6;
+                            v6 = pre10;
+                            v7 = pre9;
                             v8 = pre;
                             break;
                         }
@@ -7551,7 +7551,7 @@ int32_t dfuse_take(struct dfuse_session *session, const uint8_t *map, size_t map
                         r17_0_0_2 = v8;
                         r17_16_0 = v7;
                         r17_31_0 = v6;
-                        r17_46230_0 = r9_1321_8_copyload22;
+                        r17_46228_0 = r9_1321_8_copyload22;
                         r17_61_0 = r9_17_8_copyload23;
                         r17_72_0 = r9_19_8_copyload24;
                         r17_83_0 = r9_21_8_copyload25;
@@ -7563,7 +7563,7 @@ int32_t dfuse_take(struct dfuse_session *session, const uint8_t *map, size_t map
                         r17_0_0_2 = 0;
                         r17_16_0 = 0;
                         r17_31_0 = 0;
-                        r17_46230_0 = r18;
+                        r17_46228_0 = r18;
                         r17_61_0 = r5_6_0_copyload;
                         r17_72_0 = r5_8_0_copyload;
                         r17_83_0 = 0;
@@ -7579,7 +7579,7 @@ int32_t dfuse_take(struct dfuse_session *session, const uint8_t *map, size_t map
                         r17_0_0_2 = 0;
                         r17_16_0 = 0;
                         r17_31_0 = 0;
-                        r17_46230_0 = r18;
+                        r17_46228_0 = r18;
                         r17_61_0 = r5_6_0_copyload;
                         r17_72_0 = r5_8_0_copyload;
                         r17_83_0 = 0;
@@ -7738,7 +7738,7 @@ dfuse_host_clearing_on_ask_status_exit:
                     r17_0_0_2 = r9_0_0;
                     r17_16_0 = r9_5_0;
                     r17_31_0 = r9_9_0;
-                    r17_46230_0 = (size_t)r9_1319_0_in;
+                    r17_46228_0 = (size_t)r9_1319_0_in;
                     r17_61_0 = r9_17_0;
                     r17_72_0 = r9_20_0;
                     r17_83_0 = 0;
@@ -7751,7 +7751,7 @@ dfuse_host_clearing_on_ask_status_exit:
                     r17_0_0_2 = 0;
                     r17_16_0 = 0;
                     r17_31_0 = 0;
-                    r17_46230_0 = r18;
+                    r17_46228_0 = r18;
                     r17_61_0 = r5_6_0_copyload;
                     r17_72_0 = r5_8_0_copyload;
                     r17_83_0 = 0;
@@ -7764,7 +7764,7 @@ dfuse_host_clearing_on_ask_status_exit:
                     r17_0_0_2 = 0;
                     r17_16_0 = 0;
                     r17_31_0 = 0;
-                    r17_46230_0 = r18;
+                    r17_46228_0 = r18;
                     r17_61_0 = r5_6_0_copyload;
                     r17_72_0 = r5_8_0_copyload;
                     r17_83_0 = 0;
@@ -7776,7 +7776,7 @@ dfuse_host_clearing_on_ask_status_exit:
                     r17_0_0_2 = 0;
                     r17_16_0 = 0;
                     r17_31_0 = 0;
-                    r17_46230_0 = r18;
+                    r17_46228_0 = r18;
                     r17_61_0 = r5_6_0_copyload;
                     r17_72_0 = r5_8_0_copyload;
                     r17_83_0 = (size_t)r5_10_0_copyload;
@@ -7821,10 +7821,10 @@ dfuse_host_clearing_on_ask_status_exit:
                         case 9: {
                             dfuse_host_plan_Plan_unsure_of(r12_3, r31, r1_4, r5_10_0_copyload, r5_13_0_copyload);
                             uint8_t pre_2 = *r12_3;
-                            uint8_t pre26 = r12_3[1];
-                            uint8_t pre27 = r12_3[2];
-                            v12 = pre27;
-                            v13 = pre26;
+                            uint8_t pre29 = r12_3[1];
+                            uint8_t pre30 = r12_3[2];
+                            v12 = pre30;
+                            v13 = pre29;
                             v14 = pre_2;
                             goto dfuse_host_plan_Plan_probed_exit;
                         }
@@ -7848,10 +7848,10 @@ dfuse_host_plan_Plan_probed_exit:
                     case 4: {
                         dfuse_host_plan_Plan_unsure_of(r12_2, r31, r1_3, r5_10_0_copyload, r5_13_0_copyload);
                         uint8_t pre_3 = *r12_2;
-                        uint8_t pre10 = r12_2[1];
+                        uint8_t pre10_2 = r12_2[1];
                         uint8_t pre11 = r12_2[2];
                         v15 = pre11;
-                        v16 = pre10;
+                        v16 = pre10_2;
                         v17 = pre_3;
                         break;
                     }
@@ -7872,23 +7872,23 @@ dfuse_host_plan_Plan_probed_exit:
                         break;
                     default: never();
                     }
-                    size_t r17_46230_8_copyload231 = load_size(r12_2 + 8);
-                    uint64_t r17_61_8_copyload234 = load64(r12_2 + 16);
-                    uint64_t r17_72_8_copyload237 = load64(r12_2 + 24);
-                    size_t r17_83_8_copyload240 = load_size(r12_2 + 32);
-                    uint64_t r17_94_8_copyload243 = load64(r12_2 + 40);
-                    uint32_t r17_101_8_copyload246 = load32(r12_2 + 48);
-                    uint32_t r17_111_8_copyload249 = load32(r12_2 + 52);
+                    size_t r17_46228_8_copyload229 = load_size(r12_2 + 8);
+                    uint64_t r17_61_8_copyload232 = load64(r12_2 + 16);
+                    uint64_t r17_72_8_copyload235 = load64(r12_2 + 24);
+                    size_t r17_83_8_copyload238 = load_size(r12_2 + 32);
+                    uint64_t r17_94_8_copyload241 = load64(r12_2 + 40);
+                    uint32_t r17_101_8_copyload244 = load32(r12_2 + 48);
+                    uint32_t r17_111_8_copyload247 = load32(r12_2 + 52);
                     r17_0_0_2 = v17;
                     r17_16_0 = v16;
                     r17_31_0 = v15;
-                    r17_46230_0 = r17_46230_8_copyload231;
-                    r17_61_0 = r17_61_8_copyload234;
-                    r17_72_0 = r17_72_8_copyload237;
-                    r17_83_0 = r17_83_8_copyload240;
-                    r17_94_0 = r17_94_8_copyload243;
-                    r17_101_0 = r17_101_8_copyload246;
-                    r17_111_0 = r17_111_8_copyload249;
+                    r17_46228_0 = r17_46228_8_copyload229;
+                    r17_61_0 = r17_61_8_copyload232;
+                    r17_72_0 = r17_72_8_copyload235;
+                    r17_83_0 = r17_83_8_copyload238;
+                    r17_94_0 = r17_94_8_copyload241;
+                    r17_101_0 = r17_101_8_copyload244;
+                    r17_111_0 = r17_111_8_copyload247;
                     break;
                 }
                 case 7:
@@ -8028,10 +8028,10 @@ dfuse_host_plan_Plan_probed_exit:
                         case 9: {
                             dfuse_host_plan_Plan_unsure_of(r12_4, r31, r1_5, r5_10_0_copyload, r5_13_0_copyload);
                             uint8_t pre_6 = *r12_4;
-                            uint8_t pre30 = r12_4[1];
+                            uint8_t pre30_2 = r12_4[1];
                             uint8_t pre31 = r12_4[2];
                             v32 = pre31;
-                            v33 = pre30;
+                            v33 = pre30_2;
                             v34 = pre_6;
                             break;
                         }
@@ -8047,7 +8047,7 @@ dfuse_host_plan_Plan_probed_exit:
                         r17_0_0_2 = v34;
                         r17_16_0 = v33;
                         r17_31_0 = v32;
-                        r17_46230_0 = r12_1327_8_copyload28;
+                        r17_46228_0 = r12_1327_8_copyload28;
                         r17_61_0 = r12_17_8_copyload29;
                         r17_72_0 = r12_19_8_copyload30;
                         r17_83_0 = r12_21_8_copyload31;
@@ -8060,7 +8060,7 @@ dfuse_host_plan_Plan_probed_exit:
                         r17_0_0_2 = 0;
                         r17_16_0 = 0;
                         r17_31_0 = 0;
-                        r17_46230_0 = r18;
+                        r17_46228_0 = r18;
                         r17_61_0 = r5_6_0_copyload;
                         r17_72_0 = r5_8_0_copyload;
                         r17_83_0 = (size_t)r5_10_0_copyload;
@@ -8076,7 +8076,7 @@ dfuse_host_plan_Plan_probed_exit:
                         r17_0_0_2 = 0;
                         r17_16_0 = 0;
                         r17_31_0 = 0;
-                        r17_46230_0 = r18;
+                        r17_46228_0 = r18;
                         r17_61_0 = r5_6_0_copyload;
                         r17_72_0 = r5_8_0_copyload;
                         r17_83_0 = (size_t)r5_10_0_copyload;
@@ -8091,7 +8091,7 @@ dfuse_host_plan_Plan_probed_exit:
                     r17_0_0_2 = 0;
                     r17_16_0 = 0;
                     r17_31_0 = 0;
-                    r17_46230_0 = r18;
+                    r17_46228_0 = r18;
                     r17_61_0 = r5_6_0_copyload;
                     r17_72_0 = r5_8_0_copyload;
                     r17_83_0 = (size_t)r5_10_0_copyload;
@@ -8108,35 +8108,35 @@ dfuse_host_plan_Plan_probed_exit:
                     case 0: {
                         dfuse_host_plan_Plan_settle(r14_3, r31, r1_8, (uint8_t)((r5_14_0_copyload == 9) ? (uint8_t)((r5_10_0_copyload == 1) ? 2 : r5_10_0_copyload) : (uint8_t)((r5_10_0_copyload == 2) ? 1 : r5_10_0_copyload)), r5_13_0_copyload);
                         uint8_t pre_7 = *r14_3;
-                        uint8_t pre10_2 = r14_3[1];
-                        uint8_t pre11_2 = r14_3[2];
-                        size_t r17_46230_8_copyload232_pre = load_size(r14_3 + 8);
-                        uint64_t r17_61_8_copyload235_pre = load64(r14_3 + 16);
-                        uint64_t r17_72_8_copyload238_pre = load64(r14_3 + 24);
-                        size_t r17_83_8_copyload241_pre = load_size(r14_3 + 32);
-                        uint64_t r17_94_8_copyload244_pre = load64(r14_3 + 40);
-                        uint32_t r17_101_8_copyload247_pre = load32(r14_3 + 48);
-                        uint32_t r17_111_8_copyload250_pre = load32(r14_3 + 52);
-                        r17_111_8_copyload250 = r17_111_8_copyload250_pre;
-                        r17_101_8_copyload247 = r17_101_8_copyload247_pre;
-                        r17_94_8_copyload244 = r17_94_8_copyload244_pre;
-                        r17_83_8_copyload241 = r17_83_8_copyload241_pre;
-                        r17_72_8_copyload238 = r17_72_8_copyload238_pre;
-                        r17_61_8_copyload235 = r17_61_8_copyload235_pre;
-                        r17_46230_8_copyload232 = r17_46230_8_copyload232_pre;
-                        v39 = pre11_2;
-                        v40 = pre10_2;
+                        uint8_t pre13 = r14_3[1];
+                        uint8_t pre14 = r14_3[2];
+                        size_t r17_46228_8_copyload230_pre = load_size(r14_3 + 8);
+                        uint64_t r17_61_8_copyload233_pre = load64(r14_3 + 16);
+                        uint64_t r17_72_8_copyload236_pre = load64(r14_3 + 24);
+                        size_t r17_83_8_copyload239_pre = load_size(r14_3 + 32);
+                        uint64_t r17_94_8_copyload242_pre = load64(r14_3 + 40);
+                        uint32_t r17_101_8_copyload245_pre = load32(r14_3 + 48);
+                        uint32_t r17_111_8_copyload248_pre = load32(r14_3 + 52);
+                        r17_111_8_copyload248 = r17_111_8_copyload248_pre;
+                        r17_101_8_copyload245 = r17_101_8_copyload245_pre;
+                        r17_94_8_copyload242 = r17_94_8_copyload242_pre;
+                        r17_83_8_copyload239 = r17_83_8_copyload239_pre;
+                        r17_72_8_copyload236 = r17_72_8_copyload236_pre;
+                        r17_61_8_copyload233 = r17_61_8_copyload233_pre;
+                        r17_46228_8_copyload230 = r17_46228_8_copyload230_pre;
+                        v39 = pre14;
+                        v40 = pre13;
                         v41 = pre_7;
                         break;
                     }
                     case 4:
-                        r17_111_8_copyload250 = 0;
-                        r17_101_8_copyload247 = 0;
-                        r17_94_8_copyload244 = 0;
-                        r17_83_8_copyload241 = 0;
-                        r17_72_8_copyload238 = r5_8_0_copyload;
-                        r17_61_8_copyload235 = r5_6_0_copyload;
-                        r17_46230_8_copyload232 = r18;
+                        r17_111_8_copyload248 = 0;
+                        r17_101_8_copyload245 = 0;
+                        r17_94_8_copyload242 = 0;
+                        r17_83_8_copyload239 = 0;
+                        r17_72_8_copyload236 = r5_8_0_copyload;
+                        r17_61_8_copyload233 = r5_6_0_copyload;
+                        r17_46228_8_copyload230 = r18;
                         v39 = 0;
                         v40 = 0;
                         v41 = 0;
@@ -8146,13 +8146,13 @@ dfuse_host_plan_Plan_probed_exit:
                     case 3:
                     case 5:
                     case 6:
-                        r17_111_8_copyload250 = r5_18_0_copyload;
-                        r17_101_8_copyload247 = (uint32_t)r5_14_0_copyload;
-                        r17_94_8_copyload244 = r5_13_0_copyload;
-                        r17_83_8_copyload241 = (size_t)r5_10_0_copyload;
-                        r17_72_8_copyload238 = r5_8_0_copyload;
-                        r17_61_8_copyload235 = r5_6_0_copyload;
-                        r17_46230_8_copyload232 = r18;
+                        r17_111_8_copyload248 = r5_18_0_copyload;
+                        r17_101_8_copyload245 = (uint32_t)r5_14_0_copyload;
+                        r17_94_8_copyload242 = r5_13_0_copyload;
+                        r17_83_8_copyload239 = (size_t)r5_10_0_copyload;
+                        r17_72_8_copyload236 = r5_8_0_copyload;
+                        r17_61_8_copyload233 = r5_6_0_copyload;
+                        r17_46228_8_copyload230 = r18;
                         v39 = 0;
                         v40 = 0;
                         v41 = 0;
@@ -8162,25 +8162,25 @@ dfuse_host_plan_Plan_probed_exit:
                     r17_0_0_2 = v41;
                     r17_16_0 = v40;
                     r17_31_0 = v39;
-                    r17_46230_0 = r17_46230_8_copyload232;
-                    r17_61_0 = r17_61_8_copyload235;
-                    r17_72_0 = r17_72_8_copyload238;
-                    r17_83_0 = r17_83_8_copyload241;
-                    r17_94_0 = r17_94_8_copyload244;
-                    r17_101_0 = r17_101_8_copyload247;
-                    r17_111_0 = r17_111_8_copyload250;
+                    r17_46228_0 = r17_46228_8_copyload230;
+                    r17_61_0 = r17_61_8_copyload233;
+                    r17_72_0 = r17_72_8_copyload236;
+                    r17_83_0 = r17_83_8_copyload239;
+                    r17_94_0 = r17_94_8_copyload242;
+                    r17_101_0 = r17_101_8_copyload245;
+                    r17_111_0 = r17_111_8_copyload248;
                     break;
                 case 11:
                     switch (r17_0_0) {
                     case 3:
                         if (!(r17_8_0 & 1)) {
-                            r17_111_8_copyload251 = 0;
-                            r17_101_8_copyload248 = 0;
-                            r17_94_8_copyload245 = 0;
-                            r17_83_8_copyload242 = 0;
-                            r17_72_8_copyload239 = 0;
-                            r17_61_8_copyload236 = 0;
-                            r17_46230_8_copyload233 = 0;
+                            r17_111_8_copyload249 = 0;
+                            r17_101_8_copyload246 = 0;
+                            r17_94_8_copyload243 = 0;
+                            r17_83_8_copyload240 = 0;
+                            r17_72_8_copyload237 = 0;
+                            r17_61_8_copyload234 = 0;
+                            r17_46228_8_copyload231 = 0;
                             v42 = 0;
                             v43 = 1;
                             v44 = 1;
@@ -8217,35 +8217,35 @@ dfuse_host_plan_Plan_probed_exit:
                             store64(r13 + 16, r11_9_0);
                             dfuse_host_plan_Plan_settle(r11_2, r31, r13, r5_10_0_copyload, r5_13_0_copyload);
                             uint8_t pre_8 = *r11_2;
-                            uint8_t pre20 = r11_2[1];
-                            uint8_t pre21 = r11_2[2];
-                            size_t r17_46230_8_copyload233_pre = load_size(r11_2 + 8);
-                            uint64_t r17_61_8_copyload236_pre = load64(r11_2 + 16);
-                            uint64_t r17_72_8_copyload239_pre = load64(r11_2 + 24);
-                            size_t r17_83_8_copyload242_pre = load_size(r11_2 + 32);
-                            uint64_t r17_94_8_copyload245_pre = load64(r11_2 + 40);
-                            uint32_t r17_101_8_copyload248_pre = load32(r11_2 + 48);
-                            uint32_t r17_111_8_copyload251_pre = load32(r11_2 + 52);
-                            r17_111_8_copyload251 = r17_111_8_copyload251_pre;
-                            r17_101_8_copyload248 = r17_101_8_copyload248_pre;
-                            r17_94_8_copyload245 = r17_94_8_copyload245_pre;
-                            r17_83_8_copyload242 = r17_83_8_copyload242_pre;
-                            r17_72_8_copyload239 = r17_72_8_copyload239_pre;
-                            r17_61_8_copyload236 = r17_61_8_copyload236_pre;
-                            r17_46230_8_copyload233 = r17_46230_8_copyload233_pre;
-                            v42 = pre21;
-                            v43 = pre20;
+                            uint8_t pre21 = r11_2[1];
+                            uint8_t pre22 = r11_2[2];
+                            size_t r17_46228_8_copyload231_pre = load_size(r11_2 + 8);
+                            uint64_t r17_61_8_copyload234_pre = load64(r11_2 + 16);
+                            uint64_t r17_72_8_copyload237_pre = load64(r11_2 + 24);
+                            size_t r17_83_8_copyload240_pre = load_size(r11_2 + 32);
+                            uint64_t r17_94_8_copyload243_pre = load64(r11_2 + 40);
+                            uint32_t r17_101_8_copyload246_pre = load32(r11_2 + 48);
+                            uint32_t r17_111_8_copyload249_pre = load32(r11_2 + 52);
+                            r17_111_8_copyload249 = r17_111_8_copyload249_pre;
+                            r17_101_8_copyload246 = r17_101_8_copyload246_pre;
+                            r17_94_8_copyload243 = r17_94_8_copyload243_pre;
+                            r17_83_8_copyload240 = r17_83_8_copyload240_pre;
+                            r17_72_8_copyload237 = r17_72_8_copyload237_pre;
+                            r17_61_8_copyload234 = r17_61_8_copyload234_pre;
+                            r17_46228_8_copyload231 = r17_46228_8_copyload231_pre;
+                            v42 = pre22;
+                            v43 = pre21;
                             v44 = pre_8;
                         }
                         break;
                     case 4:
-                        r17_111_8_copyload251 = 0;
-                        r17_101_8_copyload248 = 0;
-                        r17_94_8_copyload245 = 0;
-                        r17_83_8_copyload242 = 0;
-                        r17_72_8_copyload239 = r5_8_0_copyload;
-                        r17_61_8_copyload236 = r5_6_0_copyload;
-                        r17_46230_8_copyload233 = r18;
+                        r17_111_8_copyload249 = 0;
+                        r17_101_8_copyload246 = 0;
+                        r17_94_8_copyload243 = 0;
+                        r17_83_8_copyload240 = 0;
+                        r17_72_8_copyload237 = r5_8_0_copyload;
+                        r17_61_8_copyload234 = r5_6_0_copyload;
+                        r17_46228_8_copyload231 = r18;
                         v42 = 0;
                         v43 = 0;
                         v44 = 0;
@@ -8255,13 +8255,13 @@ dfuse_host_plan_Plan_probed_exit:
                     case 2:
                     case 5:
                     case 6:
-                        r17_111_8_copyload251 = 0;
-                        r17_101_8_copyload248 = 11;
-                        r17_94_8_copyload245 = r5_13_0_copyload;
-                        r17_83_8_copyload242 = (size_t)r5_10_0_copyload;
-                        r17_72_8_copyload239 = r5_8_0_copyload;
-                        r17_61_8_copyload236 = r5_6_0_copyload;
-                        r17_46230_8_copyload233 = r18;
+                        r17_111_8_copyload249 = 0;
+                        r17_101_8_copyload246 = 11;
+                        r17_94_8_copyload243 = r5_13_0_copyload;
+                        r17_83_8_copyload240 = (size_t)r5_10_0_copyload;
+                        r17_72_8_copyload237 = r5_8_0_copyload;
+                        r17_61_8_copyload234 = r5_6_0_copyload;
+                        r17_46228_8_copyload231 = r18;
                         v42 = 0;
                         v43 = 0;
                         v44 = 0;
@@ -8271,19 +8271,19 @@ dfuse_host_plan_Plan_probed_exit:
                     r17_0_0_2 = v44;
                     r17_16_0 = v43;
                     r17_31_0 = v42;
-                    r17_46230_0 = r17_46230_8_copyload233;
-                    r17_61_0 = r17_61_8_copyload236;
-                    r17_72_0 = r17_72_8_copyload239;
-                    r17_83_0 = r17_83_8_copyload242;
-                    r17_94_0 = r17_94_8_copyload245;
-                    r17_101_0 = r17_101_8_copyload248;
-                    r17_111_0 = r17_111_8_copyload251;
+                    r17_46228_0 = r17_46228_8_copyload231;
+                    r17_61_0 = r17_61_8_copyload234;
+                    r17_72_0 = r17_72_8_copyload237;
+                    r17_83_0 = r17_83_8_copyload240;
+                    r17_94_0 = r17_94_8_copyload243;
+                    r17_101_0 = r17_101_8_copyload246;
+                    r17_111_0 = r17_111_8_copyload249;
                     break;
                 case 12:
                     r17_0_0_2 = 0;
                     r17_16_0 = 0;
                     r17_31_0 = 0;
-                    r17_46230_0 = r18;
+                    r17_46228_0 = r18;
                     r17_61_0 = r5_6_0_copyload;
                     r17_72_0 = r5_8_0_copyload;
                     r17_83_0 = (size_t)r5_10_0_copyload;
@@ -8340,7 +8340,7 @@ dfuse_host_plan_Plan_probed_exit:
                     r17_0_0_2 = 0;
                     r17_16_0 = 0;
                     r17_31_0 = 0;
-                    r17_46230_0 = r18;
+                    r17_46228_0 = r18;
                     r17_61_0 = r5_6_0_copyload;
                     r17_72_0 = r5_8_0_copyload;
                     r17_83_0 = (size_t)r12_23_0_in;
@@ -8412,7 +8412,7 @@ dfuse_host_closing_on_close_poll_exit:
                     r17_0_0_2 = r12_0_0;
                     r17_16_0 = 0;
                     r17_31_0 = r12_0_0;
-                    r17_46230_0 = (size_t)r12_108_0_in;
+                    r17_46228_0 = (size_t)r12_108_0_in;
                     r17_61_0 = r12_13_0;
                     r17_72_0 = r12_15_0;
                     r17_83_0 = (size_t)r12_17_0_in;
@@ -8425,7 +8425,7 @@ dfuse_host_closing_on_close_poll_exit:
                 *r13_2 = r17_0_0_2;
                 r13_2[1] = r17_16_0;
                 r13_2[2] = r17_31_0;
-                store_size(r13_2 + 8, r17_46230_0);
+                store_size(r13_2 + 8, r17_46228_0);
                 store64(r13_2 + 16, r17_61_0);
                 store64(r13_2 + 24, r17_72_0);
                 store_size(r13_2 + 32, r17_83_0);

@@ -3,10 +3,9 @@
 //! Commands of DfuSe, and the phases after them.
 
 use crate::dfuse::session::image::image_end;
-use crate::dfuse::session::phase::Phase;
+use crate::dfuse::session::phase::{Phase, Standing};
 use crate::dfuse::session::place::Place;
 use crate::dfuse::session::plan::Plan;
-use crate::dfuse::session::settling::stand;
 use crate::dfuse::session::step::Step;
 use crate::dfuse::session::work::Work;
 
@@ -32,7 +31,11 @@ fn writing(place: Place, at: u64) -> Command {
 
 /// Returns the phase that clears the device, and then goes on with `work`.
 pub(crate) fn cleared(work: Work) -> Phase {
-    stand(work, Place::Lost, Step::Abort)
+    Phase::On(Standing {
+        work,
+        place: Place::Lost,
+        step: Step::Abort,
+    })
 }
 
 impl Plan<'_> {
