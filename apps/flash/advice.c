@@ -25,6 +25,12 @@ void advice_is(const char *step)
     snprintf(known.step, sizeof known.step, "%s", step);
 }
 
+void advice_unless(const char *step)
+{
+    if (known.step[0] == '\0')
+        advice_is(step);
+}
+
 void advice_first(const char *seen)
 {
     snprintf(known.seen, sizeof known.seen, "%s", seen);

@@ -10,12 +10,14 @@
 #include <stdint.h>
 
 struct session;
+struct verdict;
 
 /* Keeps the words of the command line, from which a line to type is made. */
 void advice_keep(int count, char **texts);
 
 /* Sets the next step, in place of the one of the tables; advice_first sets words that are printed before whichever step it is. */
 void advice_is(const char *step);
+void advice_unless(const char *step); /* only if none was set */
 void advice_first(const char *seen);
 
 /* Sets the next step to running the program with these words before those of the command line. */
@@ -38,7 +40,7 @@ void advise_raw(libusb_context *usb, const struct words *words);
 
 /* Advise on a session that was refused, and on one that has ended. */
 void advise_refused(const struct session *session, int32_t refusal);
-void advise_ended(const struct session *session, const char *name);
+void advise_ended(const struct session *session, const struct verdict *verdict);
 
 /* Advises on a device that can't be opened, by the error of libusb. */
 void advise_access(int access);

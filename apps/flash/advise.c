@@ -126,12 +126,25 @@ static bool is_too_large(const struct session *session)
            && session->transfer > two_bytes(info->descriptor + AT_TRANSFER);
 }
 
-void advise_ended(const struct session *session, const char *name)
+/* The step of a session whose image was compared, and isn't the file's. Behind its bytes a device may give more of its memory. */
+static void advise_different(const struct session *session)
 {
+    say_odd(session);
+    if (session->difference.exists && session->difference.wanted < 0)
+        advice_is("all bytes of the file are there, and more follow: if the device gives a whole partition, as U-Boot does, use --no-verify");
+}
+
+void advise_ended(const struct session *session, const struct verdict *verdict)
+{
+    const char *name = verdict->name;
     if (strcmp(name, "different") == 0)
-        say_odd(session);
+        advise_different(session);
     else if (strcmp(name, "refused") == 0 && session->is_upload)
         advice_is("go by the code (see CODES in man dfu-flash), and ask the maker whether the device gives its image");
+    else if (strcmp(name, "refused") == 0 && code_step(verdict->code) != NULL)
+        advice_is(code_step(verdict->code));
+    else if (strcmp(name, "gone") == 0 && session->goal == GOAL_VERIFIED && session->is_whole)
+        advice_is("look whether it runs the new image: if so, its application has no DFU, and --no-verify asks for no comparison");
     else if (strcmp(name, "gave-up") == 0 && is_too_large(session))
         advice_is("run it again without --transfer-size: its blocks are larger than those that the device takes");
     else if (strcmp(name, "gave-up") == 0 && !session->wire.device->info.is_upgrade)

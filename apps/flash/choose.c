@@ -1,5 +1,6 @@
 /* SPDX-License-Identifier: MIT OR Apache-2.0 */
 /* Which device is taken. More than one is a refusal: to write to the wrong one is harm. */
+#include "advice.h"
 #include "clock.h"
 #include "device.h"
 #include "one.h"
@@ -32,8 +33,13 @@ struct wanted wanted_of(const struct words *words)
 static void ask_for_one(const struct found *list, int count)
 {
     fprintf(stderr, "dfu-flash: more than one device, interface or setting; choose by --device, --path, --serial, --interface or --alt:\n");
-    for (int at = 0; at < count; at++)
+    bool is_one = true;
+    for (int at = 0; at < count; at++) {
         say_found(stderr, &list[at]);
+        is_one = is_one && strcmp(list[at].path, list[0].path) == 0;
+    }
+    if (is_one)
+        advice_is("choose the setting that the file is for, by --alt or --interface");
 }
 
 /* Returns whether all that was found is one device that can't be opened, so that none of its settings' names could be read. */

@@ -2,8 +2,21 @@
 /* Meanings of the standard's status codes (section 6.1.2). share/man/dfu-flash.1 has the same list; tests/apps/flash compares them. */
 #include "standard.h"
 
-/* Codes that say something of the file that was sent. */
-enum { ERR_TARGET = 1, ERR_FILE = 2, ERR_NOTDONE = 9 };
+/* Codes with a next step of their own. Those of target, file and notdone say something of the file that was sent. */
+enum {
+    ERR_TARGET = 1,
+    ERR_FILE = 2,
+    ERR_WRITE = 3,
+    ERR_ERASE = 4,
+    ERR_CHECK_ERASED = 5,
+    ERR_PROG = 6,
+    ERR_VERIFY = 7,
+    ERR_ADDRESS = 8,
+    ERR_NOTDONE = 9,
+    ERR_USBR = 12,
+    ERR_POR = 13,
+    ERR_UNKNOWN = 14,
+};
 
 /* As the standard has it, and of the commonest also what is the matter as a rule. */
 static const char *const meanings[] = {
@@ -24,6 +37,27 @@ static const char *const meanings[] = {
     "something went wrong, and the device doesn't know what",
     "the device stalled a request that it did not expect",
 };
+
+/* The next step behind a code of a download; NULL if the report's own step serves. */
+static const char *const steps[] = {
+    [ERR_TARGET] = "get the file that its maker gives for this board, and run it again",
+    [ERR_FILE] = "get the file that its maker gives for this board, and run it again",
+    [ERR_WRITE] = "run it again; if it stays so, the board's memory is worn or locked",
+    [ERR_ERASE] = "run it again; if it stays so, the board's memory is worn or locked",
+    [ERR_CHECK_ERASED] = "run it again; if it stays so, the board's memory is worn or locked",
+    [ERR_PROG] = "run it again; if it stays so, the board's memory is worn or locked",
+    [ERR_VERIFY] = "run it again; if it stays so, the board's memory is worn or locked",
+    [ERR_ADDRESS] = "make the image smaller, or get the file for this board, and run it again",
+    [ERR_NOTDONE] = "give the whole image, or get the file for this board, and run it again",
+    [ERR_USBR] = "check cable and power, and run it again",
+    [ERR_POR] = "check cable and power, and run it again",
+    [ERR_UNKNOWN] = "run it again: U-Boot answers so once after a run that was broken off; if it stays so, get the file for this board",
+};
+
+const char *code_step(uint32_t code)
+{
+    return code < sizeof steps / sizeof *steps ? steps[code] : NULL;
+}
 
 const char *code_words(uint32_t code, bool is_upload)
 {

@@ -31,6 +31,7 @@ static struct {
     {'Z', "-Z of dfu-util isn't needed: an upload ends by itself", false},
     {'c', "-c of dfu-util isn't needed: a device is used in the configuration that it is in", false},
     {'E', "-E of dfu-util isn't needed: a device that left is asked for until it is back, 10 seconds or those of --wait", false},
+    {'s', ":leave of dfu-util isn't done behind an upload: the device stays in DFU mode, and its reset starts the application", false},
     {'e', "-e of dfu-util isn't needed with -D: a download brings the device to DFU mode by itself", false},
 };
 /* clang-format on */

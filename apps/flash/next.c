@@ -37,7 +37,7 @@ static const struct {
     {"none", "plug it in with a cable that has data lines, bring it to DFU mode by its button, and run it again; --wait waits for it"},
     {"no-access", "get the right to open it (see ACCESS in man dfu-flash), plug it in again, or end the program that has it; run it again"},
     {"several", "choose one of those that are listed, by --path, --serial, --interface or --alt; --all takes each"},
-    {"file", "see to what standard error names, and run it again"},
+    {"file", "put that right, and run it again"},
 };
 
 #define ANEW "get the file anew"

@@ -40,7 +40,7 @@ static uint8_t no_file[1], no_room[1]; /* the host's library wants pointers also
 static int say_none(const struct words *words, int status)
 {
     if (status == STATUS_SEVERAL && (words->job != JOB_DOWNLOAD || words->dry_run || words->path != NULL || words->serial != NULL))
-        advice_is("choose one of those that are listed, by --path, --serial, --interface or --alt");
+        advice_unless("choose one of those that are listed, by --path, --serial, --interface or --alt");
     return record_none(status, words->json);
 }
 

@@ -157,7 +157,7 @@ bool record_print(const struct session *session, const struct verdict *verdict, 
     const char *step, *code = verdict->code != 0 ? code_name(verdict->code) : "";
     bool is_added;
     end_log(verdict->status, verdict->name);
-    advise_ended(session, verdict->name);
+    advise_ended(session, verdict);
     station_code(code);
     is_added = station_add(record_status(verdict->status), verdict->name, verdict->words, session->wire.device->path,
                            &session->wire.device->info, each_seconds());

@@ -69,6 +69,9 @@ const char *code_name(uint32_t code);
 /* Returns the meaning of a status code, in words, by which a device refused a download, or an upload. */
 const char *code_words(uint32_t code, bool is_upload);
 
+/* The next step behind a code of a download; NULL if there is none of its own. */
+const char *code_step(uint32_t code);
+
 /* The number of two bytes, low byte first. */
 static inline uint16_t two_bytes(const uint8_t *bytes)
 {

@@ -38,10 +38,29 @@ int append_open(const char *name, char *front, size_t room, const char **why)
     return file;
 }
 
+/* Takes back the part of a line that a full disk has left behind the file's `size` bytes, unless another program has added to it since. */
+static void take_back(int file, off_t size, ssize_t count)
+{
+    struct stat now;
+    int error = errno;
+    bool is_ours = count > 0 && fstat(file, &now) == 0 && now.st_size == size + count;
+    if (is_ours && ftruncate(file, size) != 0)
+        is_ours = false; /* the next line ends it */
+    errno = error;
+}
+
+/* The line is on the disk before true is returned, so that a loss of power leaves each board that was reported. */
 bool append_line(int file, const char *line, size_t length)
 {
     struct stat found;
+    ssize_t count;
     if (length > 1 && (fstat(file, &found) != 0 || !end_last(file, found.st_size)))
         return false;
-    return write(file, line, length) == (ssize_t)length;
+    if (fstat(file, &found) != 0)
+        return false;
+    count = write(file, line, length);
+    if (count == (ssize_t)length)
+        return fsync(file) == 0;
+    take_back(file, found.st_size, count);
+    return false;
 }

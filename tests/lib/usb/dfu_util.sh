@@ -92,6 +92,7 @@ row 0 - 'uploaded: ' "USB_DEVICE=dfuse USB_MAPS=$maps USB_PAGES=$maps" -s 0x0800
 expect 'to the end of the segment' test "$(wc -c < segment)" -eq 3072
 row 0 - 'uploaded: ' "USB_DEVICE=dfuse USB_MAPS=$maps USB_PAGES=$maps" --dfuse-address=0x08001000:leave --upload second
 expect 'the next one' test "$(wc -c < second)" -eq 4096
+says ":leave of dfu-util isn't done behind an upload"
 row 0 - 'uploaded: ' "USB_DEVICE=dfuse USB_MAPS=$maps USB_PAGES=$maps" -s 0x08001fff -U last
 expect 'its last byte' test "$(wc -c < last)" -eq 1
 row 0 - 'uploaded: ' "USB_DEVICE=dfuse USB_MAPS=$maps USB_PAGES=$maps" -s 0x08000000:5 -U five

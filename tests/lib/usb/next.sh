@@ -39,7 +39,10 @@ steps 4 '' 'choose one of those that are there, or plug in the one that is meant
 steps 12 USB_DEVICES=2 'choose one of those that are listed, by --path, --serial, --interface or --alt; --all takes each' new.dfu
 chosen='choose one of those that are listed, by --path, --serial, --interface or --alt'
 steps 12 USB_DEVICES=2 "$chosen" --upload never
-steps 12 USB_ALTERNATES=3 "$chosen" --path 1-1 new.dfu
+for path in '' '--path 1-1'; do
+    # shellcheck disable=SC2086
+    steps 12 USB_ALTERNATES=3 'choose the setting that the file is for, by --alt or --interface' $path new.dfu
+done
 steps 12 USB_DEVICES=2 "$chosen" --detach
 steps 5 USB_DENIED=3 \
     'get the right to open it (see ACCESS in man dfu-flash), plug it in again, or end the program that has it; run it again' new.dfu
@@ -48,7 +51,7 @@ steps 5 USB_DENIED=12 \
 steps 5 USB_CLAIMED=6 'end the program that has it, or take the driver away from it, and run it again' new.dfu
 steps 3 '' 'check its name, and which folder you are in, and run it again' nowhere.dfu
 steps 3 '' 'name a file that is in this folder, and run it again' .
-steps 3 '' 'see to what standard error names, and run it again' --report /dev/null new.dfu
+steps 3 '' 'put that right, and run it again' --report /dev/null new.dfu
 steps 3 '' 'name another file, or add --force to replace this one, and run it again' --upload new
 for reset in '' --no-verify; do
     # shellcheck disable=SC2086
@@ -59,7 +62,11 @@ for reset in '' --no-verify; do
     expect 'nor in a record' test "$code-$(grep -c '"next"' out)" = 0-0
 done
 steps 8 USB_ATTRIBUTES=01 'look whether it runs the new image; some boards give no better report (see REPORTS in man dfu-flash)' new.dfu
-steps 6 USB_CAPACITY=13 'go by the code (see CODES in man dfu-flash), and check that the file is for this board' new.dfu
+steps 6 USB_CAPACITY=13 'make the image smaller, or get the file for this board, and run it again' new.dfu
+steps 6 'USB_DEVICE=uboot USB_CAPACITY=20' \
+    'run it again: U-Boot answers so once after a run that was broken off; if it stays so, get the file for this board' new.dfu
+steps 10 'USB_APP=plain' \
+    'look whether it runs the new image: if so, its application has no DFU, and --no-verify asks for no comparison' new.dfu
 # A code of an upload isn't about a file.
 failing='USB_DEVICE=dfuse USB_FAILS=0 USB_CODE=1'
 steps 6 "$failing" 'go by the code (see CODES in man dfu-flash), and ask the maker whether the device gives its image' \
@@ -152,7 +159,7 @@ next "at byte 3 what the device gave ends, and the file has 65: $again"
 fate=
 row 9 - 'different: ' 'USB_DEVICE=uboot USB_STORE=raw' new.dfu
 case $(tail -n 1 err) in
-"next: at byte 26 is "*", and the image in the file has ended: $again") right ;;
+"next: at byte 26 is "*", and the image in the file has ended: all bytes of the file are there, and more follow: "*"use --no-verify") right ;;
 *) wrong "more than the image: $(cat out err)" ;;
 esac
 
