@@ -180,6 +180,8 @@ static void take_begun(struct worker *worker, const char *line)
     char *rest;
     worker->tries = (uint32_t)strtoul(line, &rest, 10);
     worker->has_stamp = worker->has_stamp || strcmp(rest, " 1") == 0;
+    /* A session begins only if the device is another one than before, so that what it says is printed. */
+    worker->is_early = false;
 }
 
 /* A line of standard output that has come whole. */

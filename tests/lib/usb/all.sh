@@ -195,6 +195,15 @@ for pause in 2500 4000; do
     expect "$pause ms: said once, of that one" test "$(grep -c 'without a serial number' err)" -eq 1
     expect "$pause ms: another serial number" cmp saved-other new
 done
+# Another board that comes at once into the place of one that was flashed, and fails, says why and what to do.
+no_boards
+board 1-1 USB_SERIAL=F1 USB_PULLED=200
+board 1-1 USB_SERIAL=F2 USB_PLUGGED=1 USB_PAUSE=500 USB_CAPACITY=13 "USB_SAVE=$work/saved-second"
+all --wait=4 new.dfu
+expect "a changed board fails: $code" test "$code-$(wc -l < out)" = 6-2
+says '1-1: dfu-flash: errADDRESS: '
+says '1-1: next: make the image smaller'
+
 # Where a board isn't seen again, and one comes after more than ten seconds: with the same serial number it is the same one. A signal is
 # the end of a production line, and no failure.
 no_boards
