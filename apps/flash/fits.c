@@ -2,7 +2,6 @@
 /* Which options go together. */
 #include "words.h"
 #include "advice.h"
-#include "dfu_util.h"
 #include "../common/text.h"
 
 #include <stdio.h>
@@ -35,8 +34,6 @@ static bool is_fit_for_dfuse(const struct words *words)
         return words_refuse("--length goes with --upload and --address", "");
     if (is_upload && words->has_address && words->length == 0 && !words->is_to_end)
         return words_refuse("--upload with --address takes --length", "");
-    if (is_upload && words->leaves)
-        dfu_util_pass('s');
     /* -s of an upload says to stay too; what a download has is seen when its file is read. */
     return !words->stays || words->has_address || is_download || words_refuse("--no-leave goes with --address, or with a DfuSe file", "");
 }

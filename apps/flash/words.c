@@ -224,6 +224,8 @@ bool words_read(struct words *words, int count, char **texts)
             return true;
     }
     advice_forget();
+    if (words->leaves && words->job == JOB_UPLOAD)
+        dfu_util_pass('s');
     if (!words->quiet)
         dfu_util_notes();
     return is_whole(words, &plain);
