@@ -131,7 +131,7 @@ static void advise_different(const struct session *session)
 {
     say_odd(session);
     if (session->difference.exists && session->difference.wanted < 0)
-        advice_is("all bytes of the file are there, and more follow: if the device gives a whole partition, as U-Boot does, use --no-verify");
+        advice_is("all bytes of the file are there, and more follow: if the device gives a whole partition, as U-Boot, use --no-verify");
 }
 
 void advise_ended(const struct session *session, const struct verdict *verdict)

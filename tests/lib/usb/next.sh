@@ -159,7 +159,7 @@ next "at byte 3 what the device gave ends, and the file has 65: $again"
 fate=
 row 9 - 'different: ' 'USB_DEVICE=uboot USB_STORE=raw' new.dfu
 case $(tail -n 1 err) in
-"next: at byte 26 is "*", and the image in the file has ended: all bytes of the file are there, and more follow: "*"use --no-verify") right ;;
+"next: at byte 26 is "*", and the image in the file has ended: all bytes of the file are there, "*"use --no-verify") right ;;
 *) wrong "more than the image: $(cat out err)" ;;
 esac
 
